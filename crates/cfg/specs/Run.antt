@@ -1,0 +1,36 @@
+-- "Run graph" of paper 01: its answer and the registers it leaves, on all inputs. Assumes nothing.
+use Prim.Native.Nat.{ℕ}
+use mathlib.Core.Bool.{Bool, true, false, not, _||_}
+use mathlib.Core.List.{List, _++_}
+use lib.ListN.{length, getD, take, drop}
+use lib.Dec.{eqb, ltb}
+use Rattle.word.specs.Word.{choose}
+use Rattle.runs.specs.Runs.{startAt, times, answer, registersAfter}
+use Rattle.runs.specs.declared.RunAnswer.{RunAnswer}
+use Rattle.runs.specs.declared.RunAnswer.the-variants.{Refused}
+use Rattle.cfg.specs.Layout.{maxRegisters, graphWords}
+use Rattle.cfg.specs.Graph.{step}
+use Rattle.cfg.specs.Table.{graphOf, admitted}
+
+-- the refusal's number, or 0: 7 a short table, 6 one that is not admitted, 9 a start that is no block
+unfoldable pub refusal : List ℕ → List ℕ → ℕ → ℕ
+unfolding admitted
+refusal t rs start =
+    choose (ltb (length t) graphWords || ltb (length rs) maxRegisters) 7
+    (choose (not (admitted t)) 6
+    (choose (not (ltb start (getD t 0 0))) 9 0))
+
+unfoldable pub runAnswer : List ℕ → List ℕ → ℕ → ℕ → RunAnswer
+unfolding refusal graphOf step answer
+runAnswer t rs start budget =
+    choose (eqb (refusal t rs start) 0)
+    (answer (step (graphOf t)) budget (startAt start (take maxRegisters rs)))
+    (Refused (refusal t rs start))
+
+-- the words from 16 up stay
+unfoldable pub runRegisters : List ℕ → List ℕ → ℕ → ℕ → List ℕ
+unfolding refusal graphOf step registersAfter
+runRegisters t rs start budget =
+    choose (eqb (refusal t rs start) 0)
+    (registersAfter (step (graphOf t)) budget (startAt start (take maxRegisters rs)) ++ drop maxRegisters rs)
+    rs

@@ -1,0 +1,77 @@
+// The control-flow graph: limits, blocks, and the layout of its table.
+use word::Comparison;
+
+// The head of a graph table: how many blocks and registers the graph has.
+pub struct Graph {
+    pub blocks: u32,
+    pub registers: u32,
+}
+
+impl Graph {
+    // Limits.
+    pub const BLOCKS: usize = 64;
+    pub const REGISTERS: usize = 16;
+    // Words of the head, and of the whole table.
+    pub const HEAD: usize = 2;
+    pub const WORDS: usize = 2562;
+}
+
+// Code, written register, first and second operand; of a set the first operand is the literal.
+pub struct Instruction {
+    pub code: u32,
+    pub d: u32,
+    pub a: u32,
+    pub b: u32,
+}
+
+impl Instruction {
+    pub const WORDS: usize = 4;
+
+    // The words of no instruction.
+    pub fn none() -> Instruction {
+        Instruction {
+            code: 0,
+            d: 0,
+            a: 0,
+            b: 0,
+        }
+    }
+}
+
+// Two registers compared.
+pub struct Condition {
+    pub comparison: Comparison,
+    pub a: u32,
+    pub b: u32,
+}
+
+pub enum Ending {
+    // The target.
+    Goto(u32),
+    // The target where the condition holds, and where it does not.
+    Ite(Condition, u32, u32),
+    Halt,
+}
+
+// The first `count` instructions are the block's.
+pub struct Block {
+    pub count: u32,
+    pub instructions: [Instruction; 8],
+    pub ending: Ending,
+}
+
+impl Block {
+    pub const INSTRUCTIONS: usize = 8;
+    // Words of a block, and where in them its ending begins.
+    pub const WORDS: usize = 40;
+    pub const ENDING: usize = 33;
+
+    // No instruction, and a halt.
+    pub fn empty() -> Block {
+        Block {
+            count: 0,
+            instructions: [Instruction::none(); 8],
+            ending: Ending::Halt,
+        }
+    }
+}

@@ -1,0 +1,4 @@
+pub mod Layout
+pub mod Machine
+pub mod Table
+pub mod Run

@@ -1,0 +1,110 @@
+-- The machine table ("Machine table" of paper 01): the words of a machine, the machine of some words, and which words are admitted. Assumes nothing.
+use Prim.Native.Nat.{ℕ, zero, suc, _+_, _-_, _*_}
+use mathlib.Core.Bool.{Bool, true, false, not, _&&_, _||_}
+use mathlib.Core.List.{List, [], _∷_, _++_, map}
+use lib.ListN.{length, getD, take, drop}
+use lib.Dec.{eqb, leb, ltb}
+use Rattle.word.specs.Word.{arity}
+use Rattle.runs.specs.Lists.{upFrom, every, padded, concatMap}
+use Rattle.fsmd.specs.declared.Wire.{Wire}
+use Rattle.fsmd.specs.Layout.{maxStates, maxBlocks, maxRegisters, maxWires, wireWords, recordWords, startersOffset, blockStatesOffset, wiresOffset, recordsOffset, machineWords, recordOffset, nextStateOffset, nextRegistersOffset, wireOffset, none}
+use Rattle.fsmd.specs.Machine.{State, FSMD}
+
+-- ---- words of a machine
+
+abbrev pub wireWordsOf : Wire → List ℕ
+wireWordsOf w = w .code ∷ w .a ∷ w .b ∷ w .c ∷ []
+
+-- the records of states whose first wire is number n of the whole machine
+unfoldable pub recordsOf : ℕ → List State → List ℕ
+recordsOf n [] = []
+recordsOf n (q ∷ qs) =
+    n ∷ length (q .wires) ∷ q .next ∷ (padded maxRegisters 0 (q .nextRegisters) ++ recordsOf (n + length (q .wires)) qs)
+
+-- counts, starters, block states, records, wires in state order; unused words are 0, but an absent block's state is 255
+unfoldable pub tableOf : FSMD → List ℕ
+unfolding recordsOf concatMap
+tableOf m =
+    length (m .states) ∷ m .registers
+    ∷ (padded maxStates 0 (m .starters)
+    ++ (padded maxBlocks none (m .blockStates)
+    ++ (padded (maxStates * recordWords) 0 (recordsOf 0 (m .states))
+    ++ padded (maxWires * wireWords) 0 (concatMap (λ q. concatMap wireWordsOf (q .wires)) (m .states)))))
+
+-- ---- the machine of a table
+
+-- wire i of the whole machine
+unfoldable pub wireAt : List ℕ → ℕ → Wire
+wireAt t i =
+    let p = wireOffset i in
+    record { code = getD t p 0; a = getD t (p + 1) 0; b = getD t (p + 2) 0; c = getD t (p + 3) 0 }
+
+abbrev pub firstWireAt : List ℕ → ℕ → ℕ
+firstWireAt t k = getD t (recordOffset k) 0
+
+abbrev pub wireCountAt : List ℕ → ℕ → ℕ
+wireCountAt t k = getD t (recordOffset k + 1) 0
+
+unfoldable pub stateAt : List ℕ → ℕ → State
+unfolding wireAt
+stateAt t k =
+    record {
+      wires = map (wireAt t) (upFrom (firstWireAt t k) (wireCountAt t k));
+      next = getD t (recordOffset k + nextStateOffset) 0;
+      nextRegisters = take (getD t 1 0) (drop (recordOffset k + nextRegistersOffset) t);
+    }
+
+unfoldable pub machineOf : List ℕ → FSMD
+unfolding stateAt
+machineOf t =
+    record {
+      registers = getD t 1 0;
+      starters = take (getD t 0 0) (drop startersOffset t);
+      blockStates = take maxBlocks (drop blockStatesOffset t);
+      states = map (stateAt t) (upFrom 0 (getD t 0 0));
+    }
+
+-- ---- refusal 10: which tables are admitted
+
+-- a reference is below R, or one of the first n wires of the state
+abbrev pub validReference : ℕ → ℕ → ℕ → Bool
+validReference r n x = ltb x r || (leb maxRegisters x && ltb x (maxRegisters + n))
+
+-- wire n of its state: a known code, and each operand that the code reads is a register or an earlier wire; a set reads none
+unfoldable pub validWire : ℕ → ℕ → Wire → Bool
+validWire r n w =
+    leb 1 (w .code) && leb (w .code) 19
+    && (eqb (w .code) 1 || validReference r n (w .a))
+    && (ltb (arity (w .code)) 2 || validReference r n (w .b))
+    && (ltb (arity (w .code)) 3 || validReference r n (w .c))
+
+unfoldable pub validWires : ℕ → ℕ → List Wire → Bool
+unfolding validWire
+validWires r n [] = true
+validWires r n (w ∷ ws) = validWire r n w && validWires r (suc n) ws
+
+unfoldable pub validState : ℕ → State → Bool
+unfolding validWires
+validState r q =
+    let n = length (q .wires) in
+    validWires r 0 (q .wires) && validReference r n (q .next) && every (validReference r n) (q .nextRegisters)
+
+-- two states' wires have none in common
+abbrev pub apart : List ℕ → ℕ → ℕ → Bool
+apart t j k =
+    eqb (wireCountAt t j) 0 || eqb (wireCountAt t k) 0
+    || leb (firstWireAt t j + wireCountAt t j) (firstWireAt t k)
+    || leb (firstWireAt t k + wireCountAt t k) (firstWireAt t j)
+
+abbrev pub within : List ℕ → ℕ → Bool
+within t k = leb (firstWireAt t k + wireCountAt t k) maxWires
+
+unfoldable pub admitted : List ℕ → Bool
+unfolding stateAt validState
+admitted t =
+    let n = getD t 0 0 in
+    let r = getD t 1 0 in
+    leb 1 n && leb n maxStates && leb 1 r && leb r maxRegisters
+    && every (within t) (upFrom 0 n)
+    && every (λ k. every (λ j. apart t j k) (upFrom 0 k)) (upFrom 0 n)
+    && every (λ k. validState r (stateAt t k)) (upFrom 0 n)

@@ -1,0 +1,34 @@
+// The synthesised machine, a finite state machine with its datapath: limits, wires, and the layout of its table.
+
+// The head of a machine table: how many states and registers the machine has.
+pub struct Machine {
+    pub states: u32,
+    pub registers: u32,
+}
+
+impl Machine {
+    // Limits.
+    pub const STATES: usize = 64;
+    pub const REGISTERS: usize = 16;
+    pub const WIRES: usize = 3072;
+    // Where the starters, the block states, the states' records and the wires begin, and the words of the whole table.
+    pub const STARTERS: usize = 2;
+    pub const BLOCK_STATES: usize = 66;
+    pub const RECORDS: usize = 130;
+    pub const WIRE_WORDS: usize = 1346;
+    pub const WORDS: usize = 13634;
+    // Words of a record.
+    pub const RECORD: usize = 19;
+}
+
+// A wire: what it does, and its operands. A reference below 16 is a register, and 16 + i is wire i of the state.
+pub struct Wire {
+    pub code: u32,
+    pub a: u32,
+    pub b: u32,
+    pub c: u32,
+}
+
+impl Wire {
+    pub const WORDS: usize = 4;
+}

@@ -1,0 +1,3 @@
+pub mod Placement
+pub mod Wires
+pub mod Synthesis

@@ -1,0 +1,49 @@
+-- "Synthesise" of paper 01: the machine of a graph, the answer and the final machine table, on all inputs. Assumes nothing.
+use Prim.Native.Nat.{ℕ}
+use mathlib.Core.Bool.{Bool, true, false, not, _||_}
+use mathlib.Core.List.{List, _++_, map}
+use lib.ListN.{length, drop}
+use lib.Dec.{ltb}
+use Rattle.word.specs.Word.{choose}
+use Rattle.runs.specs.Lists.{upFrom}
+use Rattle.cfg.specs.Layout.{graphWords}
+use Rattle.cfg.specs.Graph.{CFG}
+use Rattle.cfg.specs.Table.{graphOf, admitted}
+use Rattle.fsmd.specs.Layout.{machineWords}
+use Rattle.fsmd.specs.Machine.{FSMD}
+use Rattle.fsmd.specs.Table.{tableOf}
+use Rattle.grouping.specs.Grouping.{Groups, groups}
+use Rattle.synthesis.specs.Wires.{stateOf}
+use Rattle.synthesis.specs.declared.SynthesisAnswer.{SynthesisAnswer}
+use Rattle.synthesis.specs.declared.SynthesisAnswer.the-variants.{Refused, Made}
+
+-- the machine of a graph whose grouping is s
+unfoldable pub machineFor : CFG → Groups → FSMD
+unfolding stateOf
+machineFor g s =
+    record {
+      registers = g .registers;
+      starters = s .starters;
+      blockStates = s .states;
+      states = map (stateOf g s) (upFrom 0 (length (s .starters)));
+    }
+
+unfoldable pub machine : CFG → FSMD
+unfolding machineFor groups
+machine g = machineFor g (groups g)
+
+-- 7 a short table, the graph's before the machine's; 6 a graph table that is not admitted
+unfoldable pub synthesisAnswer : List ℕ → List ℕ → SynthesisAnswer
+unfolding admitted
+synthesisAnswer t m =
+    choose (ltb (length t) graphWords || ltb (length m) machineWords) (Refused 7)
+    (choose (not (admitted t)) (Refused 6) Made)
+
+abbrev pub made : SynthesisAnswer → List ℕ → List ℕ → List ℕ
+made (Refused n) new old = old
+made Made new old = new
+
+-- the words from 13,634 up stay
+unfoldable pub synthesisWords : List ℕ → List ℕ → List ℕ
+unfolding synthesisAnswer machine graphOf tableOf
+synthesisWords t m = made (synthesisAnswer t m) (tableOf (machine (graphOf t)) ++ drop machineWords m) m

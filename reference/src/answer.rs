@@ -1,0 +1,118 @@
+//! The answer to a case: eight steps, and one line of numbers.
+
+use crate::case::{Case, Patch};
+use crate::listing::listing;
+use crate::operations::{
+    read, run_graph, run_machine, synthesise, write, ReadAnswer, RunAnswer, WriteAnswer,
+};
+
+#[derive(Clone, Debug, PartialEq, Eq)]
+pub struct Answer {
+    pub read: ReadAnswer,
+    pub graph_digest: u64,
+    pub write: WriteAnswer,
+    pub output_digest: u64,
+    pub synthesise: u32,
+    pub machine_digest: u64,
+    pub run_graph: RunAnswer,
+    pub graph_registers_digest: u64,
+    pub run_machine: RunAnswer,
+    pub machine_registers_digest: u64,
+    pub listing_length: usize,
+    pub listing_digest: u64,
+}
+
+/// A number that depends on every number of a sequence and on its length.
+pub fn digest<T: Copy + Into<u64>>(sequence: &[T]) -> u64 {
+    let start = sequence.len() as u64;
+    sequence.iter().fold(start, |hash, &x| (hash * 1_000_003 + x.into()) % 4_294_967_291)
+}
+
+/// The words a buffer holds before anything is written to it.
+fn fresh_words(length: u32) -> Vec<u32> {
+    (0..length).map(|index| 1_515_870_810 - index).collect()
+}
+
+fn fresh_bytes(length: u32) -> Vec<u8> {
+    (0..length).map(|index| ((index * 7 + 3) % 256) as u8).collect()
+}
+
+fn patch(buffer: &mut [u32], patches: &[Patch]) {
+    for &(index, word) in patches {
+        if let Some(place) = buffer.get_mut(index as usize) {
+            *place = word;
+        }
+    }
+}
+
+/// The graph and machine buffers as the two runs find them.
+pub fn buffers_of(case: &Case) -> (Vec<u32>, Vec<u32>) {
+    let mut graph = fresh_words(case.graph_length);
+    read(&case.text, &mut graph);
+    patch(&mut graph, &case.graph_patches);
+    let mut machine = fresh_words(case.machine_length);
+    synthesise(&graph, &mut machine);
+    patch(&mut machine, &case.machine_patches);
+    (graph, machine)
+}
+
+pub fn answer(case: &Case) -> Answer {
+    let mut graph = fresh_words(case.graph_length);
+    let read = read(&case.text, &mut graph);
+    let graph_digest = digest(&graph);
+    patch(&mut graph, &case.graph_patches);
+    let mut output = fresh_bytes(case.output_length);
+    let write = write(&graph, &mut output);
+    let mut machine = fresh_words(case.machine_length);
+    let synthesise = synthesise(&graph, &mut machine);
+    let machine_digest = digest(&machine);
+    patch(&mut machine, &case.machine_patches);
+    let mut graph_registers = case.registers.clone();
+    let mut machine_registers = case.registers.clone();
+    let listing = listing(&case.text);
+    Answer {
+        read,
+        graph_digest,
+        write,
+        output_digest: digest(&output),
+        synthesise,
+        machine_digest,
+        run_graph: run_graph(&graph, &mut graph_registers, case.start_block, case.block_budget),
+        graph_registers_digest: digest(&graph_registers),
+        run_machine: run_machine(
+            &machine,
+            &mut machine_registers,
+            case.start_state,
+            case.cycle_budget,
+        ),
+        machine_registers_digest: digest(&machine_registers),
+        listing_length: listing.len(),
+        listing_digest: digest(listing.as_bytes()),
+    }
+}
+
+fn run_fields(run: &RunAnswer, registers: u64) -> Vec<u64> {
+    let halted = u64::from(run.halted);
+    vec![u64::from(run.number), halted, u64::from(run.count), u64::from(run.next), registers]
+}
+
+impl Answer {
+    /// The line without its line feed.
+    pub fn line(&self) -> String {
+        let mut fields = vec![
+            u64::from(self.read.number),
+            u64::from(self.read.line),
+            self.graph_digest,
+            u64::from(self.write.number),
+            u64::from(self.write.length),
+            self.output_digest,
+            u64::from(self.synthesise),
+            self.machine_digest,
+        ];
+        fields.extend(run_fields(&self.run_graph, self.graph_registers_digest));
+        fields.extend(run_fields(&self.run_machine, self.machine_registers_digest));
+        fields.extend([self.listing_length as u64, self.listing_digest]);
+        let printed: Vec<String> = fields.iter().map(u64::to_string).collect();
+        printed.join(",")
+    }
+}

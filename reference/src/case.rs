@@ -1,0 +1,133 @@
+//! One case of the comparison, and its form in a stream of bytes.
+
+pub const MAX_CASE_TEXT: usize = 20_000;
+pub const MAX_GRAPH_BUFFER: usize = 2_600;
+pub const MAX_OUTPUT_BUFFER: usize = 17_000;
+pub const MAX_MACHINE_BUFFER: usize = 13_700;
+pub const MAX_REGISTER_BUFFER: usize = 20;
+pub const MAX_PATCHES: usize = 64;
+
+/// A place in a buffer and the word put there.
+pub type Patch = (u32, u32);
+
+#[derive(Clone, Debug, PartialEq, Eq)]
+pub struct Case {
+    pub text: Vec<u8>,
+    pub graph_length: u32,
+    pub graph_patches: Vec<Patch>,
+    pub output_length: u32,
+    pub machine_length: u32,
+    pub machine_patches: Vec<Patch>,
+    pub registers: Vec<u32>,
+    pub start_block: u32,
+    pub block_budget: u32,
+    pub start_state: u32,
+    pub cycle_budget: u32,
+}
+
+impl Case {
+    /// A case with exact buffers, no damage and small budgets.
+    pub fn plain(text: &[u8]) -> Case {
+        Case {
+            text: text.to_vec(),
+            graph_length: 2_562,
+            graph_patches: Vec::new(),
+            output_length: 16_384,
+            machine_length: 13_634,
+            machine_patches: Vec::new(),
+            registers: vec![0; 16],
+            start_block: 0,
+            block_budget: 40,
+            start_state: 0,
+            cycle_budget: 20,
+        }
+    }
+
+    pub fn append_to(&self, stream: &mut Vec<u8>) {
+        put(stream, self.text.len() as u32);
+        stream.extend(&self.text);
+        put(stream, self.graph_length);
+        put_patches(stream, &self.graph_patches);
+        put(stream, self.output_length);
+        put(stream, self.machine_length);
+        put_patches(stream, &self.machine_patches);
+        put(stream, self.registers.len() as u32);
+        self.registers.iter().for_each(|&word| put(stream, word));
+        put(stream, self.start_block);
+        put(stream, self.block_budget);
+        put(stream, self.start_state);
+        put(stream, self.cycle_budget);
+    }
+}
+
+fn put(stream: &mut Vec<u8>, word: u32) {
+    stream.extend(word.to_le_bytes());
+}
+
+fn put_patches(stream: &mut Vec<u8>, patches: &[Patch]) {
+    put(stream, patches.len() as u32);
+    for &(index, word) in patches {
+        put(stream, index);
+        put(stream, word);
+    }
+}
+
+/// Takes cases from a stream until it ends; None where a case is damaged.
+pub struct Stream<'a> {
+    rest: &'a [u8],
+}
+
+impl<'a> Stream<'a> {
+    fn bytes(&mut self, length: usize) -> Option<&'a [u8]> {
+        let taken = self.rest.get(..length)?;
+        self.rest = &self.rest[length..];
+        Some(taken)
+    }
+
+    fn word(&mut self) -> Option<u32> {
+        let bytes: [u8; 4] = self.bytes(4)?.try_into().ok()?;
+        Some(u32::from_le_bytes(bytes))
+    }
+
+    /// A word that counts something and has a limit.
+    fn count(&mut self, limit: usize) -> Option<u32> {
+        self.word().filter(|&count| count as usize <= limit)
+    }
+
+    fn patches(&mut self) -> Option<Vec<Patch>> {
+        let count = self.count(MAX_PATCHES)?;
+        (0..count).map(|_| Some((self.word()?, self.word()?))).collect()
+    }
+
+    fn registers(&mut self) -> Option<Vec<u32>> {
+        let count = self.count(MAX_REGISTER_BUFFER)?;
+        (0..count).map(|_| self.word()).collect()
+    }
+
+    fn case(&mut self) -> Option<Case> {
+        let length = self.count(MAX_CASE_TEXT)?;
+        Some(Case {
+            text: self.bytes(length as usize)?.to_vec(),
+            graph_length: self.count(MAX_GRAPH_BUFFER)?,
+            graph_patches: self.patches()?,
+            output_length: self.count(MAX_OUTPUT_BUFFER)?,
+            machine_length: self.count(MAX_MACHINE_BUFFER)?,
+            machine_patches: self.patches()?,
+            registers: self.registers()?,
+            start_block: self.word()?,
+            block_budget: self.word()?,
+            start_state: self.word()?,
+            cycle_budget: self.word()?,
+        })
+    }
+}
+
+/// All cases of a stream, or the index of the first damaged one.
+pub fn read_cases(bytes: &[u8]) -> Result<Vec<Case>, usize> {
+    let mut stream = Stream { rest: bytes };
+    let mut cases = Vec::new();
+    while !stream.rest.is_empty() {
+        cases.push(stream.case().ok_or(cases.len())?);
+    }
+    Ok(cases)
+}

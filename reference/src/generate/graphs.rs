@@ -1,0 +1,157 @@
+//! Valid graphs: a shape filled with instructions and comparisons.
+
+use super::shapes::{self, Shape};
+use super::words;
+use crate::graph::{Binary, Block, Comparison, Ending, Graph, Instruction, MAX_BLOCKS};
+use crate::random::Random;
+
+/// How much a graph may hold.
+#[derive(Clone, Copy)]
+pub struct Size {
+    pub blocks: usize,
+    pub registers: usize,
+    pub instructions: usize,
+}
+
+/// A size that keeps most texts short; a few are as large as allowed.
+pub fn size(random: &mut Random) -> Size {
+    let (blocks, instructions) = match random.below(100) {
+        0..=19 => (random.between(1, 3), 8),
+        20..=69 => (random.between(3, 8), 3),
+        70..=92 => (random.between(8, 18), 3),
+        93..=97 => (random.between(18, 40), 2),
+        98 => (random.between(60, 64), 2),
+        _ => (64, 8),
+    };
+    let registers = match random.below(10) {
+        0 | 1 => 16,
+        2 => 1,
+        _ => random.between(2, 6),
+    };
+    let full = blocks == 64 && instructions == 8;
+    Size { blocks, registers: if full { 16 } else { registers }, instructions }
+}
+
+type Maker = fn(&mut Random, usize) -> Shape;
+
+const MAKERS: [Maker; 8] = [
+    shapes::dense,
+    shapes::chain,
+    shapes::loops,
+    shapes::irreducible,
+    shapes::self_loops,
+    shapes::equal_targets,
+    shapes::joins,
+    shapes::diamonds,
+];
+
+/// A shape of exactly so many blocks.
+pub fn shape(random: &mut Random, n: usize) -> Shape {
+    let unreachable = if n > 2 && random.percent(25) { random.between(1, n / 2) } else { 0 };
+    let make = match random.below(11) {
+        0..=7 => random.pick(&MAKERS),
+        8 => shapes::irreducible,
+        9 => shapes::joins,
+        _ => shapes::dense,
+    };
+    let mut made = make(random, n - unreachable);
+    made = shapes::with_unreachable(random, made, unreachable);
+    if random.percent(55) {
+        made = shapes::renumber(random, &made);
+    }
+    made
+}
+
+fn any_instruction(random: &mut Random, registers: usize) -> Instruction {
+    let d = random.below(registers);
+    let (a, b) = (random.below(registers), random.below(registers));
+    match random.below(11) {
+        0 | 1 => Instruction::Set { d, literal: words::literal(random) },
+        2 => Instruction::Copy { d, a },
+        3 => Instruction::SignExtend { d, a },
+        _ => Instruction::Binary { op: random.pick(&Binary::all()), d, a, b },
+    }
+}
+
+fn any_ending(random: &mut Random, registers: usize, successors: &[usize]) -> Ending {
+    let (a, b) = (random.below(registers), random.below(registers));
+    match *successors {
+        [] => Ending::Halt,
+        [t] => Ending::Goto(t),
+        [t, f, ..] => {
+            Ending::Ite { comparison: random.pick(&Comparison::all()), a, b, t, f }
+        }
+    }
+}
+
+/// Fills a shape with anything allowed.
+fn fill(random: &mut Random, shape: &Shape, size: Size) -> Graph {
+    let few = random.percent(40);
+    let mut block = |successors: &Vec<usize>| {
+        let most = if few { size.instructions.min(1) } else { size.instructions };
+        let count = random.between(0, most);
+        let instructions = (0..count).map(|_| any_instruction(random, size.registers)).collect();
+        Block { instructions, ending: any_ending(random, size.registers, successors) }
+    };
+    let blocks = shape.iter().map(&mut block).collect();
+    Graph { registers: size.registers, blocks }
+}
+
+/// Makes the loops of a graph count down, so that most runs of it halt.
+/// The last two registers hold 1 and 0 and nothing else is written there.
+fn tame(random: &mut Random, graph: &mut Graph) {
+    let (one, zero) = (graph.registers - 1, graph.registers - 2);
+    for (n, block) in graph.blocks.iter_mut().enumerate() {
+        block.instructions.retain(|instruction| instruction.target() < zero);
+        block.instructions.truncate(5);
+        let counter = random.below(zero);
+        if let Ending::Ite { t, f, .. } = block.ending {
+            let (op, comparison) = (Binary::Sub, Comparison::Lt);
+            block.instructions.push(Instruction::Binary { op, d: counter, a: counter, b: one });
+            block.ending = if t <= n {
+                Ending::Ite { comparison, a: zero, b: counter, t, f }
+            } else {
+                Ending::Ite { comparison: Comparison::Ge, a: zero, b: counter, t, f }
+            };
+        }
+    }
+    let first = &mut graph.blocks[0].instructions;
+    first.insert(0, Instruction::Set { d: one, literal: 1 });
+    first.insert(1, Instruction::Set { d: zero, literal: 0 });
+}
+
+/// Fills every block with as many instructions as are allowed.
+fn pack(random: &mut Random, graph: &mut Graph) {
+    let registers = graph.registers;
+    for block in &mut graph.blocks {
+        while block.instructions.len() < 8 {
+            block.instructions.push(any_instruction(random, registers));
+        }
+    }
+}
+
+pub fn graph_of(random: &mut Random, size: Size) -> Graph {
+    let made = shape(random, size.blocks.clamp(1, MAX_BLOCKS));
+    let mut graph = fill(random, &made, size);
+    if size.registers > 2 && random.percent(35) {
+        tame(random, &mut graph);
+    } else if size.instructions == 8 && random.percent(40) {
+        pack(random, &mut graph);
+    }
+    graph
+}
+
+pub fn graph(random: &mut Random) -> Graph {
+    let size = size(random);
+    graph_of(random, size)
+}
+
+/// A graph whose text is short.
+pub fn small_graph(random: &mut Random) -> Graph {
+    let size = Size {
+        blocks: random.between(1, 8),
+        registers: random.pick(&[1, 2, 3, 4, 5, 15, 16]),
+        instructions: 3,
+    };
+    graph_of(random, size)
+}

@@ -1,0 +1,53 @@
+//! Words and literals that lie where arithmetic changes its course.
+
+use crate::random::Random;
+
+const EDGES: [u32; 22] = [
+    0,
+    1,
+    2,
+    3,
+    15,
+    16,
+    31,
+    32,
+    33,
+    255,
+    32_767,
+    32_768,
+    65_535,
+    65_536,
+    98_304,
+    2_147_483_647,
+    2_147_483_648,
+    2_147_483_649,
+    4_294_934_528,
+    4_294_967_096,
+    4_294_967_294,
+    4_294_967_295,
+];
+
+/// A word for a register or a literal: small, at an edge, or any.
+pub fn word(random: &mut Random) -> u32 {
+    match random.below(10) {
+        0..=3 => random.below(12) as u32,
+        4..=7 => random.pick(&EDGES),
+        8 => random.word() % 100_000,
+        _ => random.word(),
+    }
+}
+
+/// A literal, both ends included more often than chance would.
+pub fn literal(random: &mut Random) -> i32 {
+    match random.below(12) {
+        0 => i32::MIN,
+        1 => i32::MAX,
+        2 => -1,
+        _ => word(random) as i32,
+    }
+}
+
+/// A register buffer of the given length.
+pub fn registers(random: &mut Random, length: usize) -> Vec<u32> {
+    (0..length).map(|_| word(random)).collect()
+}

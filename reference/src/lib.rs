@@ -1,0 +1,18 @@
+//! The second program: graph text, synthesis, two interpreters and a listing.
+
+pub mod answer;
+pub mod case;
+pub mod generate;
+pub mod graph;
+pub mod graph_table;
+pub mod grouping;
+pub mod listing;
+pub mod machine;
+pub mod machine_table;
+pub mod operations;
+pub mod parse;
+pub mod print;
+pub mod random;
+pub mod run;
+pub mod stats;
+pub mod synthesis;

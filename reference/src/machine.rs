@@ -1,0 +1,71 @@
+//! The state machine as types: states, wires, references.
+
+use crate::graph::{sign_extend, Binary, Comparison};
+
+pub const MAX_STATES: usize = 64;
+pub const MAX_WIRES: usize = 3_072;
+
+/// Where a word comes from within a cycle.
+#[derive(Clone, Copy, Debug, PartialEq, Eq)]
+pub enum Source {
+    Register(usize),
+    Wire(usize),
+}
+
+#[derive(Clone, Copy, Debug, PartialEq, Eq)]
+pub enum Wire {
+    Set(u32),
+    Copy(Source),
+    SignExtend(Source),
+    Binary(Binary, Source, Source),
+    Compare(Comparison, Source, Source),
+    AndNot(Source, Source),
+    /// The second where the first is nonzero, else the third.
+    Choose(Source, Source, Source),
+}
+
+#[derive(Clone, Debug, PartialEq, Eq)]
+pub struct State {
+    pub first: usize,
+    pub wires: Vec<Wire>,
+    pub next_state: Source,
+    pub next_registers: Vec<Source>,
+}
+
+#[derive(Clone, Debug, PartialEq, Eq)]
+pub struct Machine {
+    pub registers: usize,
+    pub states: Vec<State>,
+}
+
+impl Machine {
+    pub fn wire_count(&self) -> usize {
+        self.states.iter().map(|state| state.wires.len()).sum()
+    }
+}
+
+impl Source {
+    pub fn read(self, registers: &[u32], wires: &[u32]) -> u32 {
+        match self {
+            Source::Register(index) => registers[index],
+            Source::Wire(index) => wires[index],
+        }
+    }
+}
+
+impl Wire {
+    /// The wire's word, from the cycle's first registers and earlier wires.
+    pub fn value(self, registers: &[u32], wires: &[u32]) -> u32 {
+        let read = |source: Source| source.read(registers, wires);
+        match self {
+            Wire::Set(literal) => literal,
+            Wire::Copy(a) => read(a),
+            Wire::SignExtend(a) => sign_extend(read(a)),
+            Wire::Binary(op, a, b) => op.apply(read(a), read(b)),
+            Wire::Compare(comparison, a, b) => u32::from(comparison.holds(read(a), read(b))),
+            Wire::AndNot(a, b) => read(a) & !read(b),
+            Wire::Choose(a, b, _) if read(a) != 0 => read(b),
+            Wire::Choose(_, _, c) => read(c),
+        }
+    }
+}

@@ -49,6 +49,7 @@ valueOf at k a b = evalOf k (choose (eqb k 1) a (at a)) (at b) 0
 
 -- an instruction writes one register and no other
 unfoldable pub execute : Instruction → List ℕ → List ℕ
+unfolding evalOf
 execute i rs = set rs (i .d) (valueOf (λ r. getD rs r 0) (i .code) (i .a) (i .b))
 
 -- in order, each seeing the one before
@@ -79,6 +80,7 @@ step g c = onward (c .place) c (λ n. runBlock (blockOf g n) (c .registers))
 
 -- codes 1 to 11; registers below R where the code reads one, and 0 where it does not
 unfoldable pub validInstruction : ℕ → Instruction → Bool
+unfolding arity
 validInstruction r i =
     leb 1 (i .code) && leb (i .code) 11 && ltb (i .d) r
     && (eqb (i .code) 1 || ltb (i .a) r)

@@ -10,9 +10,11 @@ pub struct Graph {
 impl Graph {
     // Limits.
     pub const BLOCKS: usize = 64;
+
     pub const REGISTERS: usize = 16;
     // Words of the head, and of the whole table.
     pub const HEAD: usize = 2;
+
     pub const WORDS: usize = 2562;
 }
 
@@ -64,6 +66,7 @@ impl Block {
     pub const INSTRUCTIONS: usize = 8;
     // Words of a block, and where in them its ending begins.
     pub const WORDS: usize = 40;
+
     pub const ENDING: usize = 33;
 
     // No instruction, and a halt.

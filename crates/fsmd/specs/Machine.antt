@@ -30,6 +30,7 @@ stateOf m k = getD (m .states) k emptyState
 
 -- a wire's word, where `at` reads a reference; a set's a is its literal
 unfoldable pub wireValue : (ℕ → ℕ) → Wire → ℕ
+unfolding evalOf
 wireValue at w = evalOf (w .code) (choose (eqb (w .code) 1) (w .a) (at (w .a))) (at (w .b)) (at (w .c))
 
 -- what references read: the sixteen registers at the start of the cycle, then the wires so far, in order

@@ -72,6 +72,7 @@ validReference r n x = ltb x r || (leb maxRegisters x && ltb x (maxRegisters + n
 
 -- wire n of its state: a known code, and each operand that the code reads is a register or an earlier wire; a set reads none
 unfoldable pub validWire : ℕ → ℕ → Wire → Bool
+unfolding arity
 validWire r n w =
     leb 1 (w .code) && leb (w .code) 19
     && (eqb (w .code) 1 || validReference r n (w .a))

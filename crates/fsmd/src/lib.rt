@@ -9,13 +9,19 @@ pub struct Machine {
 impl Machine {
     // Limits.
     pub const STATES: usize = 64;
+
     pub const REGISTERS: usize = 16;
+
     pub const WIRES: usize = 3072;
     // Where the starters, the block states, the states' records and the wires begin, and the words of the whole table.
     pub const STARTERS: usize = 2;
+
     pub const BLOCK_STATES: usize = 66;
+
     pub const RECORDS: usize = 130;
+
     pub const WIRE_WORDS: usize = 1346;
+
     pub const WORDS: usize = 13634;
     // Words of a record.
     pub const RECORD: usize = 19;

@@ -105,8 +105,9 @@ regroup g zero starters = record { starters = starters; states = populate g star
 regroup g (suc rounds) starters =
     let states = populate g starters in
     elim (detect g starters states) [
-      visited seen ↦ record { starters = starters; states = states }
-    | illegalTo y ↦ regroup g rounds (starters ++ (y ∷ [])) ]
+      | visited seen ↦ record { starters = starters; states = states }
+      | illegalTo y ↦ regroup g rounds (starters ++ (y ∷ []))
+    ]
 
 -- as many rounds as blocks suffice, which is proved
 unfoldable pub groups : CFG → Groups

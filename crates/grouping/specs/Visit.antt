@@ -23,8 +23,9 @@ unfoldable pub visit : {S : Type 0} → Visitor S → (ℕ → List ℕ) → ℕ
 visit v next zero path x s = s
 visit v next (suc fuel) path x s =
     elim (v .stop path x s) [
-      true ↦ v .turn path x s
-    | false ↦ v .finish x (each (visit v next fuel (x ∷ path)) (next x) (v .enter x s)) ]
+      | true ↦ v .turn path x s
+      | false ↦ v .finish x (each (visit v next fuel (x ∷ path)) (next x) (v .enter x s))
+    ]
 
 -- the whole visit from a root: no path is longer than the blocks are many
 unfoldable pub visitFrom : {S : Type 0} → Visitor S → CFG → ℕ → S → S

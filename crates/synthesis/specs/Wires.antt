@@ -88,6 +88,7 @@ start r ws = record { arrival = fresh ws; values = upFrom 0 r; wires = ws ++ (se
 
 -- an instruction's wire: the same code over references, where `at` gives a register's; operands that the code does not read are 0
 unfoldable pub instructionWire : (ℕ → ℕ) → Instruction → Wire
+unfolding arity
 instructionWire at i =
     wire (i .code) (choose (eqb (i .code) 1) (i .a) (at (i .a))) (choose (ltb (arity (i .code)) 2) 0 (at (i .b))) 0
 

@@ -1,7 +1,6 @@
 //! Damaged texts: each kind aims at one refusal of reading.
 
 use super::graphs;
-use super::words;
 use crate::graph::Graph;
 use crate::print::print;
 use crate::random::Random;
@@ -121,6 +120,9 @@ fn extra_field(random: &mut Random, _: &Graph, lines: &mut Lines) {
 fn missing_field(random: &mut Random, _: &Graph, lines: &mut Lines) {
     let at = random.below(lines.len());
     lines[at].pop();
+    if lines[at].is_empty() {
+        lines[at].push(String::new());
+    }
 }
 
 fn odd_byte(random: &mut Random, _: &Graph, lines: &mut Lines) {
@@ -352,13 +354,4 @@ pub fn damaged(random: &mut Random) -> Vec<u8> {
         damage_bytes(random, &mut text);
     }
     text
-}
-
-/// An otherwise valid text in which one literal is any word.
-pub fn with_literal(random: &mut Random, literal: Option<i32>) -> Vec<u8> {
-    let graph = graphs::small_graph(random);
-    let mut lines = lines_of(&graph);
-    let value = literal.unwrap_or_else(|| words::literal(random)).to_string();
-    put_instruction(random, &graph, &mut lines, vec!["set".into(), "0".into(), value]);
-    bytes_of(&lines)
 }

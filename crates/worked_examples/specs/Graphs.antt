@@ -1,0 +1,57 @@
+-- The graphs of the worked examples. Where paper 01 leaves a comparison or a register open, any will do. Assumes nothing.
+use Prim.Native.Nat.{ℕ}
+use mathlib.Core.List.{List, [], _∷_}
+use lib.ListN.{length}
+use Rattle.word.specs.declared.Comparison.{Comparison}
+use Rattle.word.specs.declared.Comparison.the-variants.{Eq, Ne, Lt, Ge, Ltu, Geu}
+use Rattle.runs.specs.Lists.{padded}
+use Rattle.cfg.specs.declared.Instruction.{Instruction}
+use Rattle.cfg.specs.declared.Ending.{Ending}
+use Rattle.cfg.specs.declared.Ending.the-variants.{Goto, Ite, Halt}
+use Rattle.cfg.specs.declared.Block.{Block}
+use Rattle.cfg.specs.Layout.{maxInstructions}
+use Rattle.cfg.specs.Graph.{CFG, noInstruction}
+
+abbrev block : List Instruction → Ending → Block
+block is e = record { count = length is; instructions = padded maxInstructions noInstruction is; ending = e }
+
+abbrev graph : ℕ → List Block → CFG
+graph r bs = record { registers = r; blocks = bs }
+
+abbrev sub : ℕ → ℕ → ℕ → Instruction
+sub d a b = record { code = 4; d = d; a = a; b = b }
+
+abbrev ite : Comparison → ℕ → ℕ → Ending
+ite c t f = Ite (record { comparison = c; a = 0; b = 1 }) t f
+
+-- the greatest common divisor
+unfoldable pub P7 : CFG
+P7 =
+    graph 2 (
+    block [] (Goto 1)
+    ∷ block [] (ite Ne 2 5)
+    ∷ block [] (ite Ltu 3 4)
+    ∷ block (sub 1 1 0 ∷ []) (Goto 1)
+    ∷ block (sub 0 0 1 ∷ []) (Goto 1)
+    ∷ block [] Halt
+    ∷ [])
+
+unfoldable pub P9 : CFG
+P9 =
+    graph 2 (
+    block [] (ite Eq 1 2) ∷ block [] (ite Eq 1 3) ∷ block [] (ite Eq 3 4) ∷ block [] (Goto 4) ∷ block [] Halt ∷ [])
+
+unfoldable pub P10 : CFG
+P10 = graph 2 (block [] (ite Eq 1 2) ∷ block [] (ite Eq 2 3) ∷ block [] (Goto 1) ∷ block [] Halt ∷ [])
+
+unfoldable pub P11 : CFG
+P11 = graph 1 (block [] (Goto 0) ∷ [])
+
+unfoldable pub P12 : CFG
+P12 = graph 1 (block [] (Goto 1) ∷ block [] Halt ∷ block [] (Goto 1) ∷ [])
+
+-- the seven blocks of figure 5 of the published procedure
+unfoldable pub Figure5 : CFG
+Figure5 =
+    graph 2 (
+    block [] (Goto 1) ∷ block [] (ite Eq 2 5) ∷ block [] (Goto 3) ∷ block [] (Goto 4) ∷ block [] (ite Eq 3 5) ∷ block [] (Goto 6) ∷ block [] (Goto 1) ∷ [])

@@ -1,0 +1,392 @@
+//! Patches on machine tables: refused ones, and ones that must be run.
+
+use super::words;
+use crate::case::{Patch, MAX_PATCHES};
+use crate::machine_table::{
+    MACHINE_WORDS, RECORDS_AT, RECORD_WORDS, STARTERS_AT, WIRES_AT, WIRE_WORDS,
+};
+use crate::random::Random;
+
+const MAX: u32 = u32::MAX;
+const ALL_WIRES: usize = 3_072;
+
+/// A table that synthesis made, and where its parts stand.
+pub struct Table<'a> {
+    pub words: &'a [u32],
+}
+
+impl Table<'_> {
+    fn states(&self) -> usize {
+        self.words[0] as usize
+    }
+
+    fn registers(&self) -> usize {
+        self.words[1] as usize
+    }
+
+    fn first(&self, state: usize) -> usize {
+        self.words[record(state)] as usize
+    }
+
+    fn count(&self, state: usize) -> usize {
+        self.words[record(state) + 1] as usize
+    }
+
+    fn end(&self) -> usize {
+        let last = self.states() - 1;
+        self.first(last) + self.count(last)
+    }
+
+    fn state(&self, random: &mut Random) -> usize {
+        random.below(self.states())
+    }
+
+    /// A state, a wire of it counted within it, and the wire's first word.
+    fn wire(&self, random: &mut Random) -> (usize, usize, usize) {
+        let state = self.state(random);
+        let wire = random.below(self.count(state));
+        (state, wire, wire_at(self.first(state) + wire))
+    }
+
+    /// A wire of the state whose code is `set`, counted from the first wire.
+    fn set_wire(&self, random: &mut Random, state: usize) -> usize {
+        let all = self.first(state)..self.first(state) + self.count(state);
+        let sets: Vec<usize> = all.filter(|&wire| self.words[wire_at(wire)] == 1).collect();
+        random.pick(&sets)
+    }
+}
+
+fn record(state: usize) -> usize {
+    RECORDS_AT + state * RECORD_WORDS
+}
+
+fn wire_at(wire: usize) -> usize {
+    WIRES_AT + wire * WIRE_WORDS
+}
+
+/// How many words after its code a code uses, literal included.
+fn operands(code: u32) -> usize {
+    match code {
+        1 | 2 | 11 => 1,
+        19 => 3,
+        _ => 2,
+    }
+}
+
+fn patch(at: usize, word: usize) -> Patch {
+    (at as u32, word as u32)
+}
+
+/// All references of a record to registers, so that it needs no wires.
+fn register_record(random: &mut Random, state: usize, registers: usize) -> Vec<Patch> {
+    let slots = record(state) + 2..record(state) + 3 + registers;
+    slots.map(|at| patch(at, random.below(registers))).collect()
+}
+
+type Damage = fn(&mut Random, &Table) -> Vec<Patch>;
+
+fn state_count(random: &mut Random, _: &Table) -> Vec<Patch> {
+    vec![(0, random.pick(&[0, 65, 66, 255, 256, 2_147_483_648, MAX]))]
+}
+
+fn register_count(random: &mut Random, _: &Table) -> Vec<Patch> {
+    vec![(1, random.pick(&[0, 17, 18, 255, 65_537, MAX]))]
+}
+
+/// Sums above 3,072, those included that 32 bits would wrap.
+fn wire_range(random: &mut Random, table: &Table) -> Vec<Patch> {
+    let state = table.state(random);
+    let (first, count) = (table.first(state) as u32, table.count(state) as u32);
+    let choices = [
+        (first, 3_073 - first),
+        (3_073 - count, count),
+        (MAX, 1),
+        (MAX - count + 1, count),
+        (MAX - count + 2, count),
+        (first, MAX),
+        (first, MAX - first + 1),
+        (2_147_483_648, 2_147_483_648),
+        (3_073, 0),
+        (MAX, 0),
+        (0, 3_073),
+        (3_072, 1),
+    ];
+    let (first, count) = random.pick(&choices);
+    vec![patch(record(state), first as usize), patch(record(state) + 1, count as usize)]
+}
+
+/// A state of one wire that is also another's; nothing else is wrong.
+fn sharing(random: &mut Random, table: &Table) -> Vec<Patch> {
+    let other = table.state(random);
+    let mut state = table.state(random);
+    let mut patches = Vec::new();
+    if state == other {
+        state = table.states();
+        if state == 64 {
+            return wire_range(random, table);
+        }
+        patches.push(patch(0, state + 1));
+    }
+    patches.push(patch(record(state), table.set_wire(random, other)));
+    patches.push(patch(record(state) + 1, 1));
+    patches.extend(register_record(random, state, table.registers()));
+    patches
+}
+
+/// A range moved by one, over its neighbour where it has one.
+fn sliding(random: &mut Random, table: &Table) -> Vec<Patch> {
+    let state = table.state(random);
+    let first = table.first(state);
+    let moved = random.pick(&[first.saturating_sub(1), first + 1, 0]);
+    match random.below(3) {
+        0 => vec![patch(record(state), moved)],
+        1 => vec![patch(record(state) + 1, table.count(state) + 1)],
+        _ => vec![patch(record(state) + 1, table.count(state) - 1)],
+    }
+}
+
+fn unknown_code(random: &mut Random, table: &Table) -> Vec<Patch> {
+    let (_, _, at) = table.wire(random);
+    vec![(at as u32, random.pick(&[0, 20, 21, 255, 257, 2_147_483_649, MAX]))]
+}
+
+/// An operand that is no register, this wire itself, or a later one.
+fn bad_operand(random: &mut Random, table: &Table) -> Vec<Patch> {
+    let mut chosen = table.wire(random);
+    for _ in 0..8 {
+        if table.words[chosen.2] == 1 {
+            chosen = table.wire(random);
+        }
+    }
+    let (state, wire, at) = chosen;
+    let code = table.words[at];
+    let (r, count) = (table.registers(), table.count(state));
+    let later = [r, 15, 16 + wire, 17 + wire, 15 + count, 16 + count, 65_536, MAX as usize];
+    let slot = at + random.between(1, operands(code));
+    vec![patch(slot, random.pick(&later))]
+}
+
+fn bad_next(random: &mut Random, table: &Table) -> Vec<Patch> {
+    let state = table.state(random);
+    let slot = record(state) + 2 + random.between(0, table.registers());
+    let (r, count) = (table.registers(), table.count(state));
+    vec![patch(slot, random.pick(&[r, 15, 16 + count, 17 + count, 3_088, MAX as usize]))]
+}
+
+/// Fewer registers: references to the lost ones are refused, if there are any.
+fn fewer_registers(random: &mut Random, table: &Table) -> Vec<Patch> {
+    vec![patch(1, random.between(1, table.registers()))]
+}
+
+/// Another known code reads the words as they stand.
+fn another_code(random: &mut Random, table: &Table) -> Vec<Patch> {
+    let (_, _, at) = table.wire(random);
+    vec![patch(at, random.between(1, 19))]
+}
+
+const REFUSED: [Damage; 12] = [
+    state_count, register_count, wire_range, wire_range, sharing, sharing, sliding, unknown_code,
+    bad_operand, bad_operand, bad_next, fewer_registers,
+];
+
+fn starters_and_blocks(random: &mut Random, _: &Table) -> Vec<Patch> {
+    (0..3).map(|_| patch(random.between(STARTERS_AT, RECORDS_AT - 1), random.word() as usize)).collect()
+}
+
+fn records_from_n(random: &mut Random, table: &Table) -> Vec<Patch> {
+    let (from, to) = (record(table.states()), WIRES_AT - 1);
+    let mut choose = |_| patch(random.between(from, to), random.word() as usize);
+    if from > to {
+        return Vec::new();
+    }
+    let mut patches: Vec<Patch> = (0..2).map(&mut choose).collect();
+    patches.push(patch(from, MAX as usize));
+    patches.push(patch(from + 1, 9));
+    patches
+}
+
+fn next_from_r(random: &mut Random, table: &Table) -> Vec<Patch> {
+    let r = table.registers();
+    if r == 16 {
+        return Vec::new();
+    }
+    let mut choose = |_| patch(record(table.state(random)) + 3 + random.between(r, 15), MAX as usize);
+    (0..3).map(&mut choose).collect()
+}
+
+fn wires_of_no_state(random: &mut Random, table: &Table) -> Vec<Patch> {
+    let free = wire_at(table.end());
+    let mut patches = vec![patch(free, 77), patch(MACHINE_WORDS - 1, 5)];
+    patches.push(patch(random.between(free, MACHINE_WORDS - 1), random.word() as usize));
+    patches
+}
+
+fn unused_operands(random: &mut Random, table: &Table) -> Vec<Patch> {
+    let mut patches = Vec::new();
+    for _ in 0..6 {
+        let (_, _, at) = table.wire(random);
+        let used = operands(table.words[at]);
+        patches.extend((used + 1..4).map(|slot| patch(at + slot, random.word() as usize)));
+    }
+    patches
+}
+
+/// Another literal of some `set`: a next state not below N halts.
+fn another_literal(random: &mut Random, table: &Table) -> Vec<Patch> {
+    let state = table.state(random);
+    let n = table.states();
+    let choices = [n, n - 1, 0, 254, 255, 256, 65_536, MAX as usize, random.below(n)];
+    let literal = random.pick(&choices);
+    vec![patch(wire_at(table.set_wire(random, state)) + 1, literal)]
+}
+
+fn another_next(random: &mut Random, table: &Table) -> Vec<Patch> {
+    let state = table.state(random);
+    let r = table.registers();
+    let slot = record(state) + 2 + random.between(0, r);
+    let wire = 16 + random.below(table.count(state));
+    let last = 15 + table.count(state);
+    vec![patch(slot, random.pick(&[random.below(r), r - 1, 16, wire, last])), ]
+}
+
+fn another_operand(random: &mut Random, table: &Table) -> Vec<Patch> {
+    let (_, wire, at) = table.wire(random);
+    let slot = at + random.between(1, operands(table.words[at]));
+    let earlier = if wire > 0 { 16 + random.below(wire) } else { 0 };
+    vec![patch(slot, random.pick(&[random.below(table.registers()), earlier, 15 + wire]))]
+}
+
+/// More or fewer states; a record of zeros has no wires and is fine.
+fn another_n(random: &mut Random, table: &Table) -> Vec<Patch> {
+    let n = table.states();
+    let more = (n + 1).min(64);
+    vec![patch(0, random.pick(&[more, more, 64, (n - 1).max(1), 1, random.between(n, 64)]))]
+}
+
+fn more_registers(random: &mut Random, table: &Table) -> Vec<Patch> {
+    vec![patch(1, random.pick(&[16, random.between(table.registers(), 16)]))]
+}
+
+/// A state moved so that first wire plus count is exactly 3,072.
+fn moved_to_the_end(random: &mut Random, table: &Table) -> Vec<Patch> {
+    let state = table.state(random);
+    let (first, count) = (table.first(state), table.count(state));
+    let to = ALL_WIRES - count;
+    let old = &table.words[wire_at(first)..wire_at(first + count)];
+    let wires = old.iter().enumerate().filter(|(_, &word)| word != 0);
+    let mut patches = vec![patch(record(state), to)];
+    patches.extend(wires.map(|(i, &word)| patch(wire_at(to) + i, word as usize)));
+    if patches.len() > MAX_PATCHES || to < table.end() {
+        patches = vec![patch(record(state), ALL_WIRES), patch(record(state) + 1, 0)];
+        patches.extend(register_record(random, state, table.registers()));
+    }
+    patches
+}
+
+/// A state without wires inside, or at an end of, another's range.
+fn empty_inside(random: &mut Random, table: &Table) -> Vec<Patch> {
+    let (state, other) = (table.state(random), table.state(random));
+    let (first, count) = (table.first(other), table.count(other));
+    let at = random.pick(&[first, first + 1, first + count - 1, first + count, ALL_WIRES]);
+    let mut patches = vec![patch(record(state), at), patch(record(state) + 1, 0)];
+    patches.extend(register_record(random, state, table.registers()));
+    patches
+}
+
+/// One more state on wires that no state has, right after the last or later.
+fn added_state(random: &mut Random, table: &Table) -> Vec<Patch> {
+    let state = table.states();
+    if state == 64 || table.end() + 8 > ALL_WIRES {
+        return Vec::new();
+    }
+    let first = random.pick(&[table.end(), table.end(), table.end() + 3, ALL_WIRES - 3]);
+    let mut patches = vec![patch(0, state + 1), patch(record(state), first)];
+    patches.push(patch(record(state) + 1, 3));
+    patches.extend(register_record(random, state, table.registers()));
+    patches.push(patch(record(state) + 2, random.pick(&[16, 17, 18])));
+    patches.extend(free_wires(random, wire_at(first), 3, table.registers()));
+    patches
+}
+
+/// Wires of any code whose references are right, written word by word.
+fn free_wires(random: &mut Random, at: usize, count: usize, registers: usize) -> Vec<Patch> {
+    let mut patches = Vec::new();
+    for wire in 0..count {
+        let code = random.pick(&[1, 1, random.between(1, 19), random.between(1, 19), 18, 19]);
+        patches.push(patch(at + 4 * wire, code));
+        for slot in 1..=operands(code as u32) {
+            let reference = random.below(registers + wire);
+            let reference = if reference < registers { reference } else { reference - registers + 16 };
+            let literal = random.pick(&[0, 1, 2, words::word(random) as usize]);
+            patches.push(patch(at + 4 * wire + slot, if code == 1 { literal } else { reference }));
+        }
+    }
+    patches
+}
+
+/// The first wires of a state replaced by any others, the rest given up.
+fn rewritten_state(random: &mut Random, table: &Table) -> Vec<Patch> {
+    let state = table.state(random);
+    let r = table.registers();
+    let count = table.count(state).min(random.between(2, 9));
+    let mut patches = vec![patch(record(state) + 1, count)];
+    patches.extend(free_wires(random, wire_at(table.first(state)), count, r));
+    for slot in 2..3 + r {
+        let reference = random.below(r + count);
+        let reference = if reference < r { reference } else { reference - r + 16 };
+        patches.push(patch(record(state) + slot, reference));
+    }
+    patches.truncate(MAX_PATCHES);
+    patches
+}
+
+fn past_the_table(random: &mut Random, _: &Table) -> Vec<Patch> {
+    (0..3).map(|_| patch(random.between(MACHINE_WORDS, 13_720), random.word() as usize)).collect()
+}
+
+const KEPT: [Damage; 21] = [
+    starters_and_blocks, records_from_n, next_from_r, wires_of_no_state, unused_operands,
+    another_literal, another_literal, another_next, another_operand, another_n, more_registers,
+    moved_to_the_end, moved_to_the_end, empty_inside, empty_inside, added_state, added_state,
+    rewritten_state, rewritten_state, rewritten_state, past_the_table,
+];
+
+/// Patches for a table that synthesis made.
+pub fn patches(random: &mut Random, words: &[u32]) -> Vec<Patch> {
+    let table = Table { words };
+    let refused = random.percent(45);
+    let mut patches = match refused {
+        true => random.pick(&REFUSED)(random, &table),
+        false => random.pick(&KEPT)(random, &table),
+    };
+    if patches.is_empty() || random.percent(12) {
+        patches.extend(random.pick(&KEPT)(random, &table));
+    }
+    if random.percent(6) {
+        patches.extend(another_code(random, &table));
+    }
+    patches.truncate(MAX_PATCHES);
+    patches
+}
+
+/// A small machine written by patches alone into a buffer that synthesis
+/// left as it was: every word not written must go unread.
+pub fn bare_machine(random: &mut Random) -> Vec<Patch> {
+    let (states, r) = (random.between(1, 3), random.between(1, 4));
+    let mut patches = vec![patch(0, states), patch(1, r)];
+    let mut first = random.below(20);
+    for state in 0..states {
+        let count = random.between(0, 3);
+        patches.push(patch(record(state), first));
+        patches.push(patch(record(state) + 1, count));
+        for slot in 2..3 + r {
+            let reference = random.below(r + count);
+            let reference = if reference < r { reference } else { reference - r + 16 };
+            patches.push(patch(record(state) + slot, reference));
+        }
+        patches.extend(free_wires(random, wire_at(first), count, r));
+        first += count + random.below(3);
+    }
+    patches.truncate(MAX_PATCHES);
+    patches
+}

@@ -1,5 +1,5 @@
 -- Signed readings: the machine's is the definition's, and what `signed`, `unsigned`, `sar` and `sx` work out. Assumes nothing.
-use Prim.Native.Nat.{ℕ, zero, suc, _+_, _-_, _*_, _%_, _^_, _≤_, _<_}
+use Prim.Native.Nat.{ℕ, zero, suc, _-_, _*_, _%_, _^_, _≤_, _<_}
 use native.Mathlib.Nat.{zero-add}
 use native.Mathlib.Omega.{arith}
 use mathlib.Core.Path.{_≡_, refl, sym, ap, _∙_, subst}
@@ -9,7 +9,7 @@ use lib.Signed.{mag, leZ, nonNeg, shrZ, mag-shr}
 use lib.Dec.{T, ltb, leb·zero}
 use borrow.Author.Tests.{lt-ltb, le-ltb, ltb-true, ltb-false}
 use mir.Syntax.{w32}
-use mir.Val.{toZ, ofZ, sel, Fits, SFits}
+use mir.Val.{toZ, sel, Fits, SFits}
 use mir.ValLaws.{sfits-le}
 use mir.Facts.{sfits-toZ, toZ-ofZ, toZ-pos}
 use Rattle.word.specs.Word.{choose, signedOf, wordOf, sxOf}

@@ -1,4 +1,4 @@
-use borrow.Author.Needs.{needs}
+-- `word::Comparison::decode` meets its contract: one arm a code, in the order of `comparisons`. Assumes nothing.
 use mathlib.Core.Path.{sym}
 use Rattle.word.specs.Word.{comparisonAt}
 use Rattle.word.proofs.Laws.{comparison-none}

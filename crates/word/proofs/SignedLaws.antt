@@ -9,7 +9,7 @@ use lib.Signed.{mag, leZ, nonNeg, shrZ, mag-shr}
 use lib.Dec.{T, ltb, leb·zero}
 use borrow.Author.Tests.{lt-ltb, le-ltb, ltb-true, ltb-false}
 use mir.Syntax.{w32}
-use mir.Val.{toZ, sel, Fits, SFits}
+use mir.Val.{toZ, ofZ, sel, Fits, SFits}
 use mir.ValLaws.{sfits-le}
 use mir.Facts.{sfits-toZ, toZ-ofZ, toZ-pos}
 use Rattle.word.specs.Word.{choose, signedOf, wordOf, sxOf}
@@ -54,6 +54,10 @@ word-neg (negsuc n) t = (less-negsuc n, omega arith)
 
 pub shr-fits : (x m : ℕ) → x < 2 ^ 32 → SFits w32 (shrZ (signedOf x) m)
 shr-fits x m h = sfits-le {y = shrZ (signedOf x) m} {z = signedOf x} (mag-shr (signedOf x) m) (signed-fits x h)
+
+-- a word read as signed and shifted down, with both numbers kept as bits in between
+pub shifted : (x m : ℕ) → x < 2 ^ 32 → toZ w32 (ofZ w32 (shrZ (toZ w32 (ofZ w32 (signedOf x))) m)) ≡ shrZ (signedOf x) m
+shifted x m h = rw (toZ-ofZ (signed-fits x h), toZ-ofZ (shr-fits x m h))
 
 -- up by 16 and back down, with the sign: the low 16 bits read as signed
 pub sx-is : (a : ℕ) → wordOf (shrZ (signedOf ((a * 2 ^ 16) % 2 ^ 32)) (2 ^ 16)) ≡ sxOf a

@@ -18,6 +18,9 @@ headWords = 2
 abbrev pub instructionWords : ℕ
 instructionWords = 4
 
+abbrev pub endingWords : ℕ
+endingWords = 6
+
 abbrev pub blockWords : ℕ
 blockWords = 40
 

@@ -1,6 +1,8 @@
 // The control-flow graph: limits, blocks, and the layout of its table.
 use word::Comparison;
 
+pub mod decode; // decode.rt: a table's words as blocks
+
 // The head of a graph table: how many blocks and registers the graph has.
 pub struct Graph {
     pub blocks: u32,
@@ -64,8 +66,10 @@ pub struct Block {
 
 impl Block {
     pub const INSTRUCTIONS: usize = 8;
-    // Words of a block, and where in them its ending begins.
+    // Words of a block, and where in them its first instruction and its ending begin.
     pub const WORDS: usize = 40;
+
+    pub const CODE: usize = 1;
 
     pub const ENDING: usize = 33;
 

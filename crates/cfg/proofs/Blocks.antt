@@ -1,0 +1,68 @@
+-- What a table's words stand for: comparisons, endings, blocks. Assumes nothing.
+use Prim.Native.Nat.{ℕ, zero, suc, _+_, _-_, _<_}
+use native.Mathlib.Omega.{arith}
+use mathlib.Core.Path.{_≡_, refl}
+use mathlib.Core.List.{List, [], _∷_}
+use lib.ListN.{length, getD}
+use borrow.Author.Tests.{eq-eqb, ne-eqb}
+use Rattle.word.specs.declared.Comparison.the-variants.{Eq, Ne, Lt, Ge, Ltu, Geu}
+use Rattle.cfg.specs.declared.Ending.the-variants.{Goto, Ite, Halt}
+use Rattle.cfg.specs.Layout.{maxInstructions, endingOffset, blockOffset}
+use Rattle.cfg.specs.Graph.{noInstruction}
+use Rattle.cfg.specs.Table.{comparisonAt, instructionAt, endingAt, blockAt}
+use Rattle.runs.proofs.ListLaws.{getD-map-upFrom}
+
+-- ---- comparisons
+
+abbrev pub NoComparison : ℕ → Type 0
+NoComparison k = (((((Unit {0}) × (k ≡ 13 → ⊥)) × (k ≡ 14 → ⊥)) × (k ≡ 15 → ⊥)) × (k ≡ 16 → ⊥)) × (k ≡ 17 → ⊥)
+
+-- a code past the first comparison's that is none
+pub no-comparison : (k : ℕ) → NoComparison k → comparisonAt k ≡ Eq
+no-comparison k h = go (k - 12) refl
+  where
+    go : (m : ℕ) → k - 12 ≡ m → getD (Eq ∷ Ne ∷ Lt ∷ Ge ∷ Ltu ∷ Geu ∷ []) m Eq ≡ Eq
+    go zero e = refl
+    go (suc zero) e = absurd (h .0 .0 .0 .0 .1 (omega arith))
+    go (suc (suc zero)) e = absurd (h .0 .0 .0 .1 (omega arith))
+    go (suc (suc (suc zero))) e = absurd (h .0 .0 .1 (omega arith))
+    go (suc (suc (suc (suc zero)))) e = absurd (h .0 .1 (omega arith))
+    go (suc (suc (suc (suc (suc zero))))) e = absurd (h .1 (omega arith))
+    go (suc (suc (suc (suc (suc (suc m)))))) e = refl
+
+-- ---- endings by their kind
+
+module _ (t : List ℕ) (o : ℕ) where
+  pub ending-goto : getD t o 0 ≡ 1 → endingAt t o ≡ Goto (getD t (o + 4) 0)
+  unfolding endingAt
+  ending-goto h = rw (eq-eqb (getD t o 0) 1 h)
+
+  pub ending-ite : getD t o 0 ≡ 2 → endingAt t o
+      ≡ Ite (record { comparison = comparisonAt (getD t (o + 1) 0); a = getD t (o + 2) 0; b = getD t (o + 3) 0 })
+      (getD t (o + 4) 0)
+      (getD t (o + 5) 0)
+  unfolding endingAt
+  ending-ite h = rw (ne-eqb (getD t o 0) 1 (λ e. omega arith), eq-eqb (getD t o 0) 2 h)
+
+  pub ending-halt : (getD t o 0 ≡ 1 → ⊥) → (getD t o 0 ≡ 2 → ⊥) → endingAt t o ≡ Halt
+  unfolding endingAt
+  ending-halt h k = rw (ne-eqb (getD t o 0) 1 h, ne-eqb (getD t o 0) 2 k)
+
+-- ---- the parts of a decoded block
+
+module _ (t : List ℕ) (n : ℕ) where
+  pub count-at : blockAt t n .count ≡ getD t (blockOffset n) 0
+  unfolding blockAt
+  count-at = refl
+
+  pub ending-of : blockAt t n .ending ≡ endingAt t (blockOffset n + endingOffset)
+  unfolding blockAt
+  ending-of = refl
+
+  pub instructions-length : length (blockAt t n .instructions) ≡ maxInstructions
+  unfolding blockAt
+  instructions-length = refl
+
+  pub instruction-of : (i : ℕ) → i < maxInstructions → getD (blockAt t n .instructions) i noInstruction ≡ instructionAt t (blockOffset n) i
+  unfolding blockAt
+  instruction-of i h = getD-map-upFrom (instructionAt t (blockOffset n)) maxInstructions i noInstruction h

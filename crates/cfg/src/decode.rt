@@ -1,0 +1,99 @@
+// A graph table's words as a head, instructions, endings and blocks.
+use crate::Block;
+use crate::Condition;
+use crate::Ending;
+use crate::Graph;
+use crate::Instruction;
+use word::Comparison;
+ghost use mathlib.Core.Path.{_≡_};
+ghost use Prim.Native.Nat.{_+_, _≤_, _<_};
+ghost use lib.ListN.{length, getD};
+ghost use Rattle.cfg.specs.Layout.{maxBlocks, maxInstructions, headWords, blockWords, endingWords, graphWords};
+ghost use Rattle.cfg.specs.Table.{comparisonAt, instructionAt, endingAt, blockAt};
+
+// B and R.
+pub fn head_of(table: &[u32]) -> Graph
+    requires { ⌜ headWords ≤ length (now table) ⌝ }
+    ensures { λ r. ⌜ (r .blocks ≡ getD (now (table .entry)) 0 0) × (r .registers ≡ getD (now (table .entry)) 1 0) ⌝ }
+{
+    Graph {
+        blocks: table[0],
+        registers: table[1],
+    }
+}
+
+// The comparison of a code; a code that is none gives the first.
+pub fn comparison_of(code: u32) -> Comparison
+    ensures { λ r. ⌜ r ≡ comparisonAt code ⌝ }
+{
+    match code {
+        13 => Comparison::Ne,
+        14 => Comparison::Lt,
+        15 => Comparison::Ge,
+        16 => Comparison::Ltu,
+        17 => Comparison::Geu,
+        _ => Comparison::Eq,
+    }
+}
+
+// Instruction i of the block whose words begin at `start`.
+pub fn instruction_at(table: &[u32], start: usize, i: usize) -> Instruction
+    requires { ⌜ (i < maxInstructions) × (start + blockWords ≤ length (now table)) ⌝ }
+    ensures { λ r. ⌜ r ≡ instructionAt (now (table .entry)) start i ⌝ }
+{
+    let at = start + Block::CODE + Instruction::WORDS * i;
+    Instruction {
+        code: table[at],
+        d: table[at + 1],
+        a: table[at + 2],
+        b: table[at + 3],
+    }
+}
+
+// The ending whose words begin at `at`.
+pub fn ending_at(table: &[u32], at: usize) -> Ending
+    requires { ⌜ at + endingWords ≤ length (now table) ⌝ }
+    ensures { λ r. ⌜ r ≡ endingAt (now (table .entry)) at ⌝ }
+{
+    let kind = table[at];
+    match kind {
+        1 => Ending::Goto(table[at + 4]),
+        2 => {
+            let c = comparison_of(table[at + 1]);
+            Ending::Ite(
+                Condition {
+                    comparison: c,
+                    a: table[at + 2],
+                    b: table[at + 3],
+                },
+                table[at + 4],
+                table[at + 5],
+            )
+        }
+        _ => Ending::Halt,
+    }
+}
+
+// Block n.
+pub fn block_at(table: &[u32], n: usize) -> Block
+    requires { ⌜ (n < maxBlocks) × (graphWords ≤ length (now table)) ⌝ }
+    ensures { λ r. ⌜ r ≡ blockAt (now (table .entry)) n ⌝ }
+{
+    let start = Graph::HEAD + Block::WORDS * n;
+    let count = table[start];
+    let i0 = instruction_at(table, start, 0);
+    let i1 = instruction_at(table, start, 1);
+    let i2 = instruction_at(table, start, 2);
+    let i3 = instruction_at(table, start, 3);
+    let i4 = instruction_at(table, start, 4);
+    let i5 = instruction_at(table, start, 5);
+    let i6 = instruction_at(table, start, 6);
+    let i7 = instruction_at(table, start, 7);
+    let instructions = [i0, i1, i2, i3, i4, i5, i6, i7];
+    let ending = ending_at(table, start + Block::ENDING);
+    Block {
+        count,
+        instructions,
+        ending,
+    }
+}

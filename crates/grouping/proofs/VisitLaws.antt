@@ -10,11 +10,16 @@ use Rattle.runs.proofs.Tests.{true-or-false}
 use Rattle.runs.proofs.Sets.{In, Distinct, distinct-below}
 use Rattle.cfg.specs.Graph.{CFG, successors}
 use Rattle.grouping.specs.Visit.{Visitor, visit, each, visitFrom}
+use Rattle.grouping.proofs.Reach.{Reached, along}
 
 -- x was come to along the path: by an edge from its head, or as the root
 abbrev pub Came : (ℕ → List ℕ) → ℕ → List ℕ → ℕ → Type 0
 Came next root [] x = x ≡ root
 Came next root (p ∷ ps) x = In x (next p)
+
+pub came-reached : (g : CFG) {root : ℕ} → Reached g root → (path : List ℕ) (x : ℕ) → ((y : ℕ) → In y path → Reached g y) → Came (successors g) root path x → Reached g x
+came-reached g r [] x h c = subst (Reached g) (sym c) r
+came-reached g r (p ∷ path) x h c = along (h p (inl refl)) c
 
 -- what a visit of x leaves: the invariant, x dealt with, and no step back
 pub record Outcome {S : Type 0} (I : S → Type 0) (D : S → Type 0) (Le : S → S → Type 0) (s s′ : S) : Type 0 where

@@ -1,3 +1,5 @@
 pub mod Reach
 pub mod VisitLaws
 pub mod LoopLaws
+pub mod PopulationLaws
+pub mod DetectionLaws

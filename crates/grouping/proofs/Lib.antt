@@ -3,3 +3,4 @@ pub mod VisitLaws
 pub mod LoopLaws
 pub mod PopulationLaws
 pub mod DetectionLaws
+pub mod GroupingLaws

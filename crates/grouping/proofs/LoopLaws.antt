@@ -29,6 +29,10 @@ ranked-more g s t (u ∷ rest) h r = (λ v i. go v (r .0 v i), r .1, ranked-more
     go v (inl i) = inl (h v i)
     go v (inr i) = inr i
 
+pub ranked-distinct : (g : CFG) (starters l : List ℕ) → Ranked g starters l → Distinct l
+ranked-distinct g starters [] r = tt
+ranked-distinct g starters (u ∷ rest) r = (r .1, ranked-distinct g starters rest (r .2))
+
 record Inv (g : CFG) (path : List ℕ) (s : Loops) : Type 0 where
   ranked : Ranked g (s .starters) (s .finished)
   apart : (x : ℕ) → In x path → In x (s .finished) → ⊥

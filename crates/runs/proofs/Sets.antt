@@ -145,6 +145,11 @@ getD-in [] k d h = absurd (omega arith)
 getD-in (x ∷ l) zero d h = inl refl
 getD-in (x ∷ l) (suc k) d h = inr (getD-in l k d (omega arith))
 
+pub getD-any : (l : List ℕ) (k d e : ℕ) → k < length l → getD l k d ≡ getD l k e
+getD-any [] k d e h = absurd (omega arith)
+getD-any (x ∷ l) zero d e h = refl
+getD-any (x ∷ l) (suc k) d e h = getD-any l k d e (omega arith)
+
 pub in-getD : (x : ℕ) (l : List ℕ) (d : ℕ) → In x l → (k : ℕ) × (k < length l) × (getD l k d ≡ x)
 in-getD x [] d i = absurd i
 in-getD x (y ∷ l) d (inl p) = (0, omega arith, sym p)

@@ -10,7 +10,7 @@ use Rattle.runs.proofs.Sets.{In, Distinct, found, Found, there, missing, in-lef
 use Rattle.cfg.specs.Graph.{CFG, successors}
 use Rattle.fsmd.specs.Layout.{none}
 use Rattle.grouping.specs.Visit.{Visitor, visit}
-use Rattle.grouping.specs.Grouping.{looping, loops, populate, Detection, visited, illegalTo, detecting, detect, Groups, regroup, groups}
+use Rattle.grouping.specs.Grouping.{Loops, looping, loops, populate, Detection, visited, illegalTo, detecting, detect, Groups, regroup, groups}
 use Rattle.grouping.proofs.Reach.{Closed, Reached, entry, along, reached-below}
 use Rattle.grouping.proofs.LoopLaws.{Looped, looped, loops-fuel, ranked-more, ranked-distinct, rank, rank-most, rank-falls, Walk, no-cycle}
 use Rattle.grouping.proofs.PopulationLaws.{stateIn, populateWith, populate-fuel, Taken, Populated, populated}
@@ -46,6 +46,27 @@ pub record Grouped (g : CFG) (s : Groups) : Type 0 where
   pub ended : (seen : List ℕ) × (detect g (s .starters) (s .states) ≡ visited seen)
 
 -- ---- the repetition
+
+-- the same with any fuel of the visits and any number of rounds
+abbrev pub onward : Detection → Groups → (ℕ → Groups) → Groups
+onward (visited seen) s f = s
+onward (illegalTo y) s f = f y
+
+module _ (fuel : ℕ) (g : CFG) where
+  abbrev pub populationWith : List ℕ → List ℕ
+  populationWith starters = populateWith fuel g starters 0 starters (replicate (length (g .blocks)) none)
+
+  abbrev pub detectionWith : List ℕ → List ℕ → Detection
+  detectionWith starters states = visit (detecting starters states) (successors g) fuel [] 0 (visited [])
+
+  abbrev pub regroupWith : ℕ → List ℕ → Groups
+  regroupWith zero starters = record { starters = starters; states = populationWith starters }
+  regroupWith (suc rounds) starters =
+      onward (detectionWith starters (populationWith starters)) (record { starters = starters; states = populationWith starters })
+      (λ y. regroupWith rounds (starters ++ (y ∷ [])))
+
+  abbrev pub groupsWith : ℕ → Groups
+  groupsWith rounds = regroupWith rounds (visit looping (successors g) fuel [] 0 (record { finished = []; starters = 0 ∷ [] }) .starters)
 
 -- after any round: the starters so far, and the order in which loop detection finished the blocks
 module _ (g : CFG) (a : Closed g) (finished : List ℕ) where
@@ -129,10 +150,63 @@ module _ (g : CFG) (a : Closed g) (finished : List ℕ) where
           let b = detect-illegal g a starters (populate g starters) y h in
           rw (h, regroup) (ih (starters ++ (y ∷ [])) (more starters y l (b .0) (b .1)) (rw length-append (omega arith)))
 
--- THE GROUPING of a graph
+  -- more fuel and more rounds change nothing
+  regroup-alike : (fuel : ℕ) → length (g .blocks) < fuel → (m n : ℕ) (starters : List ℕ) → Looped g starters finished
+      → length (g .blocks) < m + length starters → length (g .blocks) < n + length starters → regroupWith fuel g m starters ≡ regroup g n starters
+  unfolding regroup
+  regroup-alike fuel h zero n starters l e f = absurd (let r = starters-few starters l in omega arith)
+  regroup-alike fuel h (suc m) zero starters l e f = absurd (let r = starters-few starters l in omega arith)
+  regroup-alike fuel h (suc m) (suc n) starters l e f = go (detect g starters (populate g starters)) refl (regroup-alike fuel h m n)
+    where
+      same-population : populationWith fuel g starters ≡ populate g starters
+      same-population = populate-fuel g a starters (l .distinct) (l .known) fuel h
+
+      same-detection : detectionWith fuel g starters (populate g starters) ≡ detect g starters (populate g starters)
+      same-detection = detect-fuel g a starters (populate g starters) fuel h
+
+      go : (d : Detection) → detect g starters (populate g starters) ≡ d
+          → ((t : List ℕ) → Looped g t finished → length (g .blocks) < m + length t → length (g .blocks) < n + length t → regroupWith fuel g m t ≡ regroup g n t)
+          → regroupWith fuel g (suc m) starters ≡ regroup g (suc n) starters
+      go (visited seen) k ih = rw (same-population, same-detection, k, regroup) refl
+      go (illegalTo y) k ih =
+          let b = detect-illegal g a starters (populate g starters) y k in
+          rw (same-population, same-detection, k, regroup)
+          (ih (starters ++ (y ∷ [])) (more starters y l (b .0) (b .1)) (rw length-append (omega arith)) (rw length-append (omega arith)))
+
+-- ---- the grouping of a graph
+
 pub grouped : (g : CFG) → Closed g → Grouped g (groups g)
 unfolding groups
 grouped g a = regroup-ends g a (loops g .finished) (length (g .blocks)) (loops g .starters) l (let z = ap length (l .headed .1) in omega arith)
   where
     l : Looped g (loops g .starters) (loops g .finished)
     l = looped g a
+
+-- any fuel above B and any number of rounds from B up give the same: the definitions mean the unbounded procedure
+pub groups-fuel : (g : CFG) → Closed g → (fuel rounds : ℕ) → length (g .blocks) < fuel → length (g .blocks) ≤ rounds → groupsWith fuel g rounds ≡ groups g
+unfolding groups
+groups-fuel g a fuel rounds h k =
+    ap (λ (s : Loops). regroupWith fuel g rounds (s .starters)) (loops-fuel g a fuel h)
+    ∙ regroup-alike g a (loops g .finished) fuel h rounds (length (g .blocks)) (loops g .starters) l (omega (arith, some)) (omega (arith, some))
+  where
+    l : Looped g (loops g .starters) (loops g .finished)
+    l = looped g a
+
+    some : 0 < length (loops g .starters)
+    some = let z = ap length (l .headed .1) in omega arith
+
+-- the same of the rounds alone
+pub regroup-rounds : (g : CFG) → Closed g → (rounds : ℕ) → length (g .blocks) ≤ rounds → regroup g rounds (loops g .starters) ≡ groups g
+unfolding groups
+regroup-rounds g a rounds k =
+    sym (regroup-alike g a (loops g .finished) fuel (omega arith) rounds rounds (loops g .starters) l (omega (arith, some)) (omega (arith, some)))
+    ∙ regroup-alike g a (loops g .finished) fuel (omega arith) rounds (length (g .blocks)) (loops g .starters) l (omega (arith, some)) (omega (arith, some))
+  where
+    fuel : ℕ
+    fuel = suc (length (g .blocks))
+
+    l : Looped g (loops g .starters) (loops g .finished)
+    l = looped g a
+
+    some : 0 < length (loops g .starters)
+    some = let z = ap length (l .headed .1) in omega arith

@@ -1,2 +1,5 @@
+pub mod Tests
+pub mod Sets
 pub mod ListLaws
+pub mod MembershipLaws
 pub mod RunLaws

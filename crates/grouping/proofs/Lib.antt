@@ -1,0 +1,6 @@
+pub mod Reach
+pub mod VisitLaws
+pub mod LoopLaws
+pub mod PopulationLaws
+pub mod DetectionLaws
+pub mod GroupingLaws

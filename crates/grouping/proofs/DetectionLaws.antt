@@ -7,8 +7,9 @@ use mathlib.Core.List.{List, [], _∷_}
 use native.Mathlib.Omega.{arith}
 use lib.ListN.{length, getD}
 use lib.Dec.{eqb}
+use borrow.Author.Tests.{not-true, not-false, eqb-true}
 use Rattle.runs.specs.Lists.{mem}
-use Rattle.runs.proofs.Tests.{true-or-false, or-false, and-true, and-false, not-true, not-false, eqb-true, Compared, same, other, compared}
+use Rattle.runs.proofs.Tests.{true-or-false, or-false, and-true, and-false, Compared, same, other, compared}
 use Rattle.runs.proofs.Sets.{In, Distinct, Subset, mem→In, mem→Out}
 use Rattle.cfg.specs.Graph.{CFG, successors}
 use Rattle.grouping.specs.Visit.{Visitor, visit}

@@ -8,8 +8,9 @@ use native.Mathlib.Omega.{arith}
 use lib.ListN.{length, getD, set, replicate, length-set, length-replicate, length-append}
 use lib.Seq.{getD-set-same, getD-set-other, getD-append-seam}
 use lib.Dec.{eqb}
+use borrow.Author.Tests.{not-true, not-false, eqb-true, eqb-false}
 use Rattle.runs.specs.Lists.{mem}
-use Rattle.runs.proofs.Tests.{or-false, or-true, and-true, and-false, not-true, not-false, eqb-true, eqb-false, Compared, same, other, compared}
+use Rattle.runs.proofs.Tests.{or-false, or-true, and-true, and-false, Compared, same, other, compared}
 use Rattle.runs.proofs.Sets.{In, Distinct, mem→In, mem→Out, in-append, in-right, distinct-below, getD-in, distinct-at}
 use Rattle.cfg.specs.Graph.{CFG, successors}
 use Rattle.fsmd.specs.Layout.{none}

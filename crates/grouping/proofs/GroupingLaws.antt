@@ -6,14 +6,14 @@ use mathlib.Core.List.{List, [], _∷_, _++_}
 use native.Mathlib.Omega.{arith}
 use lib.ListN.{length, getD, replicate, length-append}
 use Rattle.runs.proofs.Tests.{Compared, same, other, compared}
-use Rattle.runs.proofs.Sets.{In, Distinct, found, Found, there, missing, in-left, in-append, distinct-snoc, distinct-below, getD-in, getD-any}
+use Rattle.runs.proofs.Sets.{In, Distinct, in-left, in-append, distinct-snoc, distinct-below, getD-in, getD-any}
 use Rattle.cfg.specs.Graph.{CFG, successors}
 use Rattle.fsmd.specs.Layout.{none}
-use Rattle.grouping.specs.Visit.{Visitor, visit}
+use Rattle.grouping.specs.Visit.{visit}
 use Rattle.grouping.specs.Grouping.{Loops, looping, loops, populate, Detection, visited, illegalTo, detecting, detect, Groups, regroup, groups}
-use Rattle.grouping.proofs.Reach.{Closed, Reached, entry, along, reached-below}
+use Rattle.grouping.proofs.Reach.{Closed, Reached, reached-below}
 use Rattle.grouping.proofs.LoopLaws.{Looped, looped, loops-fuel, ranked-more, ranked-distinct, rank, rank-most, rank-falls, Walk, no-cycle}
-use Rattle.grouping.proofs.PopulationLaws.{stateIn, populateWith, populate-fuel, Taken, Populated, populated}
+use Rattle.grouping.proofs.PopulationLaws.{stateIn, populateWith, populate-fuel, Populated, populated}
 use Rattle.grouping.proofs.DetectionLaws.{Legal, detect-visited, detect-illegal, detect-fuel}
 
 -- ---- what a finished grouping is

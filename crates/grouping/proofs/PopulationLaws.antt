@@ -1,6 +1,6 @@
 -- Population: every reached block gets a state, and what a state has. Assumes nothing.
-use Prim.Native.Nat.{ℕ, zero, suc, _+_, _≤_, _<_}
-use mathlib.Core.Bool.{Bool, true, false, not, _||_, _&&_}
+use Prim.Native.Nat.{ℕ, zero, suc, _≤_, _<_}
+use mathlib.Core.Bool.{true, false, not, _&&_}
 use mathlib.Core.Logic.{_⊎_, inl, inr, _≢_}
 use mathlib.Core.Path.{_≡_, refl, sym, _∙_, ap, subst}
 use mathlib.Core.List.{List, [], _∷_, _++_, append-assoc, append-nil}
@@ -14,7 +14,7 @@ use Rattle.runs.proofs.Tests.{or-false, or-true, and-true, and-false, Compared,
 use Rattle.runs.proofs.Sets.{In, Distinct, mem→In, mem→Out, in-append, in-right, distinct-below, getD-in, distinct-at}
 use Rattle.cfg.specs.Graph.{CFG, successors}
 use Rattle.fsmd.specs.Layout.{none}
-use Rattle.grouping.specs.Visit.{Visitor, visit, visitFrom}
+use Rattle.grouping.specs.Visit.{visit, visitFrom}
 use Rattle.grouping.specs.Grouping.{populating, populateFrom, populate}
 use Rattle.grouping.proofs.Reach.{Closed, Reached, entry, along, reached-below}
 use Rattle.grouping.proofs.VisitLaws.{Came, came-reached, Outcome, Law, whole-visit, whole-fuel}

@@ -1,8 +1,8 @@
 -- Graphs whose edges lead to blocks, and the blocks that are reached. Assumes nothing.
 use Prim.Native.Nat.{ℕ, _≤_, _<_}
-use mathlib.Core.Bool.{Bool, true, false}
-use mathlib.Core.Logic.{_⊎_, inl, inr}
-use mathlib.Core.Path.{_≡_, refl, ap}
+use mathlib.Core.Bool.{true}
+use mathlib.Core.Logic.{inl, inr}
+use mathlib.Core.Path.{_≡_}
 use mathlib.Core.List.{List}
 use native.Mathlib.Omega.{arith}
 use native.Mathlib.Decide.{decLt}
@@ -10,11 +10,9 @@ use lib.ListN.{length, List·getD-eq-default}
 use Rattle.runs.proofs.Sets.{In}
 use Rattle.cfg.specs.declared.Ending.{Ending}
 use Rattle.cfg.specs.declared.Ending.the-variants.{Goto, Ite, Halt}
-use Rattle.cfg.specs.declared.Block.{Block}
-use Rattle.cfg.specs.Layout.{maxBlocks}
 use Rattle.cfg.specs.Graph.{CFG, emptyBlock, blockOf, targets, successors}
 use Rattle.cfg.specs.Table.{graphOf, admitted}
-use Rattle.cfg.proofs.Admitted.{ValidEnding, ValidIte, ValidBlock, ValidGraph, valid-graph, admitted-halves}
+use Rattle.cfg.proofs.Admitted.{ValidEnding, ValidGraph, valid-graph, admitted-halves}
 
 -- what the grouping asks of a graph
 pub record Closed (g : CFG) : Type 0 where

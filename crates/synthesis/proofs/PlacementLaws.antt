@@ -1,6 +1,6 @@
 -- The order of placement: every block of a state once, the starter first, each before its successors inside the state. Assumes nothing.
-use Prim.Native.Nat.{ℕ, zero, suc, _+_, _≤_, _<_}
-use mathlib.Core.Bool.{Bool, true, false, not, _||_, _&&_, false≢true}
+use Prim.Native.Nat.{ℕ, zero, suc, _+_, _<_}
+use mathlib.Core.Bool.{true, false, not, _||_, _&&_, false≢true}
 use mathlib.Core.Logic.{_⊎_, inl, inr, _≢_}
 use mathlib.Core.Path.{_≡_, refl, sym, _∙_, ap, subst}
 use mathlib.Core.List.{List, [], _∷_, _++_, nil≢cons, head-eq-of-cons-eq, tail-eq-of-cons-eq}
@@ -9,10 +9,10 @@ use native.Mathlib.Omega.{arith}
 use lib.ListN.{length, getD}
 use lib.Dec.{eqb}
 use borrow.Author.Tests.{eqb-true, eq-eqb, not-true}
-use Rattle.runs.specs.Lists.{upFrom, mem, only, every, first}
+use Rattle.runs.specs.Lists.{upFrom, mem, every, first}
 use Rattle.runs.proofs.Tests.{or-true, or-right, and-true}
-use Rattle.runs.proofs.Sets.{In, Distinct, Subset, found, Found, there, missing, mem→In, mem→Out, Out→mem, In→mem, pigeonhole, getD-in, in-getD, getD-any, in-right}
-use Rattle.runs.proofs.MembershipLaws.{only-in, in-only, distinct-only, upFrom-in, distinct-upFrom, every-in, in-every, first-some, first-none}
+use Rattle.runs.proofs.Sets.{In, Distinct, Subset, found, Found, there, missing, mem→In, mem→Out, Out→mem, In→mem, pigeonhole, in-getD, getD-any, in-right}
+use Rattle.runs.proofs.MembershipLaws.{only-in, in-only, upFrom-in, every-in, in-every, first-some, first-none}
 use Rattle.cfg.specs.Graph.{CFG, successors}
 use Rattle.fsmd.specs.Layout.{none as nowhere}
 use Rattle.grouping.specs.Grouping.{Groups, groups}

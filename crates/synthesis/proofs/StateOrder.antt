@@ -1,13 +1,13 @@
 -- What a run through a state uses of the grouping and the placement, as tests. Assumes nothing.
 use Prim.Native.Nat.{ℕ, _≤_, _<_}
-use mathlib.Core.Bool.{Bool, true, false}
+use mathlib.Core.Bool.{true, false}
 use mathlib.Core.Logic.{_⊎_, inl, inr, ⊎-map}
 use mathlib.Core.Path.{_≡_, refl, sym, _∙_, ap}
 use mathlib.Core.List.{List, [], _∷_}
 use native.Mathlib.Omega.{arith}
 use lib.ListN.{length, getD}
 use Rattle.runs.specs.Lists.{mem}
-use Rattle.runs.proofs.Sets.{In, Distinct, mem→In, In→mem, Out→mem, in-getD, getD-in}
+use Rattle.runs.proofs.Sets.{In, mem→In, In→mem, Out→mem, in-getD, getD-in}
 use Rattle.cfg.specs.Graph.{CFG, successors}
 use Rattle.fsmd.specs.Layout.{none}
 use Rattle.grouping.specs.Grouping.{Groups, groups}

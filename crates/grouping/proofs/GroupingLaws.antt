@@ -47,10 +47,10 @@ pub record Grouped (g : CFG) (s : Groups) : Type 0 where
 
 -- ---- the repetition
 
--- the same with any fuel of the visits and any number of rounds
-abbrev pub onward : Detection → Groups → (ℕ → Groups) → Groups
-onward (visited seen) s f = s
-onward (illegalTo y) s f = f y
+-- the whole procedure with any fuel of the visits and any number of rounds
+abbrev pub afterDetection : Detection → Groups → (ℕ → Groups) → Groups
+afterDetection (visited seen) s f = s
+afterDetection (illegalTo y) s f = f y
 
 module _ (fuel : ℕ) (g : CFG) where
   abbrev pub populationWith : List ℕ → List ℕ
@@ -62,13 +62,13 @@ module _ (fuel : ℕ) (g : CFG) where
   abbrev pub regroupWith : ℕ → List ℕ → Groups
   regroupWith zero starters = record { starters = starters; states = populationWith starters }
   regroupWith (suc rounds) starters =
-      onward (detectionWith starters (populationWith starters)) (record { starters = starters; states = populationWith starters })
+      afterDetection (detectionWith starters (populationWith starters)) (record { starters = starters; states = populationWith starters })
       (λ y. regroupWith rounds (starters ++ (y ∷ [])))
 
   abbrev pub groupsWith : ℕ → Groups
   groupsWith rounds = regroupWith rounds (visit looping (successors g) fuel [] 0 (record { finished = []; starters = 0 ∷ [] }) .starters)
 
--- after any round: the starters so far, and the order in which loop detection finished the blocks
+-- `finished` has the blocks in the order in which loop detection finished them
 module _ (g : CFG) (a : Closed g) (finished : List ℕ) where
   -- one more starter
   more : (starters : List ℕ) (y : ℕ) → Looped g starters finished → Reached g y → (In y starters → ⊥) → Looped g (starters ++ (y ∷ [])) finished

@@ -291,7 +291,7 @@ rank-falls g starters (w ∷ l) r u v (inr i) j f = go (ranked-closed g starters
         let b = rank-there w l u (λ q. r .1 (subst (λ z. In z l) q i)) in
         omega arith
 
--- edges step after another, none of them to a starter
+-- one edge or several, one after another, none of them to a starter
 pub data Walk (g : CFG) (starters : List ℕ) : ℕ → ℕ → Type 0 where
   step : {u v : ℕ} → In v (successors g u) → (In v starters → ⊥) → Walk g starters u v
   on : {u v w : ℕ} → Walk g starters u v → In w (successors g v) → (In w starters → ⊥) → Walk g starters u w

@@ -1,5 +1,5 @@
 -- The order of placement: every block of a state once, the starter first, each before its successors inside the state. Assumes nothing.
-use Prim.Native.Nat.{ℕ, zero, suc, _+_, _<_}
+use Prim.Native.Nat.{ℕ, zero, suc, _+_, _≤_, _<_}
 use mathlib.Core.Bool.{true, false, not, _||_, _&&_, false≢true}
 use mathlib.Core.Logic.{_⊎_, inl, inr, _≢_}
 use mathlib.Core.Path.{_≡_, refl, sym, _∙_, ap, subst}
@@ -200,23 +200,38 @@ module _ (g : CFG) (a : Closed g) (s : Groups) (G : Grouped g s) (k : ℕ) (k-in
       go (missing e j) (missing c f) ih =
           absurd (stuck x i j (inr λ u m t. ih u m (let r = G .rank-down u x (member-reached u m) t f in omega arith)))
 
+  -- as many placed as there are: all are placed
+  full : (placed : List ℕ) → length placed ≡ length (members g s k) → Distinct placed → Subset placed (members g s k) → Subset (members g s k) placed
+  full placed e d m x i = go (found x placed)
+    where
+      both : (y : ℕ) → (y ≡ x) ⊎ In y placed → In y (members g s k)
+      both y (inl p) = rw p i
+      both y (inr j) = m y j
+
+      go : Found x placed → In x placed
+      go (there h j) = j
+      go (missing h j) = absurd (let p = pigeonhole (x ∷ placed) (members g s k) (j, d) both in omega arith)
+
+  one-inside : (placed : List ℕ) (x : ℕ) → In x (members g s k) → Subset placed (members g s k) → (y : ℕ) → (y ≡ x) ⊎ In y placed → In y (members g s k)
+  one-inside placed x i m y (inl p) = rw p i
+  one-inside placed x i m y (inr j) = m y j
+
+  -- what is chosen is a block of the state, not placed yet, and due
+  chosen : (placed : List ℕ) (x : ℕ) → choice g s (members g s k) placed ≡ some x → In x (members g s k) × (In x placed → ⊥) × Due g s (members g s k) placed x
+  chosen placed x h =
+      let f = first-some (λ x. not (mem x placed) && ready g s (members g s k) placed x) (members g s k) x h in
+      let t = and-true (not (mem x placed)) (ready g s (members g s k) placed x) (f .1) in
+      (f .0, mem→Out x placed (not-true (mem x placed) (t .0)), ready-due g s (members g s k) placed x (t .1))
+
   place-outcome : (n : ℕ) (placed : List ℕ) → n + length placed ≡ length (members g s k) → Distinct placed → Subset placed (members g s k)
       → Outcome g s (members g s k) placed (place g s (members g s k) n placed)
   unfolding place
   place-outcome zero placed e d m = record {
     fresh = λ z i. absurd i;
     distinct = tt;
-    complete = λ x i. inl (full x i (found x placed));
+    complete = λ x i. inl (full placed (omega arith) d m x i);
     sorted = tt;
   }
-    where
-      both : (x : ℕ) → In x (members g s k) → (y : ℕ) → (y ≡ x) ⊎ In y placed → In y (members g s k)
-      both x i y (inl p) = rw p i
-      both x i y (inr j) = m y j
-
-      full : (x : ℕ) → In x (members g s k) → Found x placed → In x placed
-      full x i (there h j) = j
-      full x i (missing h j) = absurd (let p = pigeonhole (x ∷ placed) (members g s k) (j, d) (both x i) in omega arith)
   place-outcome (suc n) placed e d m = go (choice g s (members g s k) placed) refl (place-outcome n)
     where
       stuck : choice g s (members g s k) placed ≡ none → (x : ℕ) → In x (members g s k) → (In x placed → ⊥) → Due g s (members g s k) placed x → ⊥
@@ -243,10 +258,6 @@ module _ (g : CFG) (a : Closed g) (s : Groups) (G : Grouped g s) (k : ℕ) (k-in
           turn z (inl (inr c)) = inl c
           turn z (inr c) = inr (inr c)
 
-      inside : (x : ℕ) → In x (members g s k) → (y : ℕ) → (y ≡ x) ⊎ In y placed → In y (members g s k)
-      inside x i y (inl p) = rw p i
-      inside x i y (inr j) = m y j
-
       go : (o : Option ℕ) → choice g s (members g s k) placed ≡ o
           → ((q : List ℕ) → n + length q ≡ length (members g s k) → Distinct q → Subset q (members g s k) → Outcome g s (members g s k) q (place g s (members g s k) n q))
           → Outcome g s (members g s k) placed (place g s (members g s k) (suc n) placed)
@@ -257,12 +268,33 @@ module _ (g : CFG) (a : Closed g) (s : Groups) (G : Grouped g s) (k : ℕ) (k-in
         sorted = tt;
       })
       go (some x) h ih =
-          let f = first-some (λ x. not (mem x placed) && ready g s (members g s k) placed x) (members g s k) x h in
-          let t = and-true (not (mem x placed)) (ready g s (members g s k) placed x) (f .1) in
-          let u = mem→Out x placed (not-true (mem x placed) (t .0)) in
+          let c = chosen placed x h in
           rw (place-some g s (members g s k) n placed x h)
-          (one-more x (f .0) u (ready-due g s (members g s k) placed x (t .1)) (place g s (members g s k) n (x ∷ placed))
-          (ih (x ∷ placed) (omega arith) (u, d) (inside x (f .0))))
+          (one-more x (c .0) (c .1) (c .2) (place g s (members g s k) n (x ∷ placed))
+          (ih (x ∷ placed) (omega arith) (c .1, d) (one-inside placed x (c .0) m)))
+
+  -- more turns place no more
+  place-alike : (n m : ℕ) (placed : List ℕ) → n ≤ m → n + length placed ≡ length (members g s k) → Distinct placed → Subset placed (members g s k)
+      → place g s (members g s k) m placed ≡ place g s (members g s k) n placed
+  unfolding place
+  place-alike zero zero placed l e d i = refl
+  place-alike zero (suc m) placed l e d i = go (choice g s (members g s k) placed) refl
+    where
+      go : (o : Option ℕ) → choice g s (members g s k) placed ≡ o → place g s (members g s k) (suc m) placed ≡ []
+      go none h = place-none g s (members g s k) m placed h
+      go (some x) h = let c = chosen placed x h in absurd (c .1 (full placed (omega arith) d i x (c .0)))
+  place-alike (suc n) zero placed l e d i = absurd (omega arith)
+  place-alike (suc n) (suc m) placed l e d i = go (choice g s (members g s k) placed) refl (place-alike n m)
+    where
+      go : (o : Option ℕ) → choice g s (members g s k) placed ≡ o
+          → ((q : List ℕ) → n ≤ m → n + length q ≡ length (members g s k) → Distinct q → Subset q (members g s k) → place g s (members g s k) m q ≡ place g s (members g s k) n q)
+          → place g s (members g s k) (suc m) placed ≡ place g s (members g s k) (suc n) placed
+      go none h ih = place-none g s (members g s k) m placed h ∙ sym (place-none g s (members g s k) n placed h)
+      go (some x) h ih =
+          let c = chosen placed x h in
+          place-some g s (members g s k) m placed x h
+          ∙ ap (λ (q : List ℕ). x ∷ q) (ih (x ∷ placed) (omega arith) (omega arith) (c .1, d) (one-inside placed x (c .0) i))
+          ∙ sym (place-some g s (members g s k) n placed x h)
 
   order-outcome : Outcome g s (members g s k) [] (order g s k)
   unfolding order
@@ -348,3 +380,9 @@ module _ (g : CFG) (a : Closed g) (s : Groups) (G : Grouped g s) (k : ℕ) (k-in
 -- every state of a graph's grouping
 pub placed-states : (g : CFG) → Closed g → (k : ℕ) → k < length (groups g .starters) → Placed g (groups g) k
 placed-states g a k h = placed g a (groups g) (grouped g a) k h
+
+-- any number of turns from the state's blocks up gives the same
+pub order-turns : (g : CFG) → Closed g → (k : ℕ) → k < length (groups g .starters) → (n : ℕ) → length (members g (groups g) k) ≤ n
+    → place g (groups g) (members g (groups g) k) n [] ≡ order g (groups g) k
+unfolding order
+order-turns g a k h n l = place-alike g a (groups g) (grouped g a) k h (length (members g (groups g) k)) n [] l (omega arith) tt (λ x i. absurd i)

@@ -84,6 +84,20 @@ module _ (g : CFG) (s : Groups) (blocks : List ℕ) (n : ℕ) (placed : List ℕ
   unfolding place
   place-some x e = ap (λ (o : Option ℕ). placeNext o (λ x. place g s blocks n (x ∷ placed))) e
 
+-- no more is placed than there are turns
+place-length : (g : CFG) (s : Groups) (blocks : List ℕ) (n : ℕ) (placed : List ℕ) → length (place g s blocks n placed) ≤ n
+unfolding place
+place-length g s blocks zero placed = omega arith
+place-length g s blocks (suc n) placed = go (choice g s blocks placed) (place-length g s blocks n)
+  where
+    go : (o : Option ℕ) → ((q : List ℕ) → length (place g s blocks n q) ≤ n) → length (placeNext o (λ x. place g s blocks n (x ∷ placed))) ≤ suc n
+    go none ih = omega arith
+    go (some x) ih = let h = ih (x ∷ placed) in omega arith
+
+pub order-length : (g : CFG) (s : Groups) (k : ℕ) → length (order g s k) ≤ length (members g s k)
+unfolding order
+order-length g s k = place-length g s (members g s k) (length (members g s k)) []
+
 -- ---- each block is due where it stands
 
 abbrev Sorted : CFG → Groups → List ℕ → List ℕ → List ℕ → Type 0

@@ -13,8 +13,8 @@ use Rattle.fsmd.specs.Layout.{none}
 use Rattle.grouping.specs.Grouping.{Groups, groups}
 use Rattle.grouping.proofs.Reach.{Closed}
 use Rattle.grouping.proofs.GroupingLaws.{Grouped, grouped}
-use Rattle.synthesis.specs.Placement.{order}
-use Rattle.synthesis.proofs.PlacementLaws.{Forward, Placed, placed-states}
+use Rattle.synthesis.specs.Placement.{members, order}
+use Rattle.synthesis.proofs.PlacementLaws.{Forward, Placed, placed-states, order-length}
 
 -- each of vs is a starter or among xs
 abbrev pub Ahead : List ℕ → List ℕ → List ℕ → Type 0
@@ -34,13 +34,15 @@ pub record StateOrder (g : CFG) (s : Groups) (k y : ℕ) : Type 0 where
   pub ahead : Ahead (s .starters) others (successors g y)
   pub ordered : Ordered g (s .starters) others
 
--- of the whole machine: few states, block 0 starts state 0, and each starter's state is one and in order
+-- of the whole grouping: few states, block 0 in state 0, and each starter's state is one, its own and in order
 pub record Arranged (g : CFG) (s : Groups) : Type 0 where
-  pub few-states : length (s .starters) ≤ 64
+  pub few : length (s .starters) ≤ none
   pub entry : mem 0 (s .starters) ≡ true
   pub entry-state : getD (s .states) 0 none ≡ 0
   pub home : (y : ℕ) → mem y (s .starters) ≡ true → getD (s .states) y none < length (s .starters)
-  pub arranged : (y : ℕ) → mem y (s .starters) ≡ true → StateOrder g s (getD (s .states) y none) y
+  pub own : (y : ℕ) → mem y (s .starters) ≡ true → getD (s .starters) (getD (s .states) y none) none ≡ y
+  pub placed : (y : ℕ) → mem y (s .starters) ≡ true → StateOrder g s (getD (s .states) y none) y
+  pub sized : (k : ℕ) → length (order g s k) ≤ length (members g s k)
 
 ahead-made : (starters xs vs : List ℕ) → ((v : ℕ) → In v vs → In v starters ⊎ In v xs) → Ahead starters xs vs
 ahead-made starters xs [] h = tt
@@ -69,11 +71,13 @@ module _ (g : CFG) (a : Closed g) where
 
   pub groups-arranged : Arranged g (groups g)
   groups-arranged = record {
-    few-states = let n = G .few-states in let b = a .few-blocks in omega arith;
+    few = let n = G .few-states in let b = a .few-blocks in omega arith;
     entry = In→mem 0 (groups g .starters) zero-in;
     entry-state = sym (ap (λ (z : ℕ). getD (groups g .states) z none) (G .entry-first none)) ∙ G .starter-home 0 none (G .some-state);
-    home = λ y m. own y m .0;
-    arranged = λ y m. own y m .1;
+    home = λ y m. of-starter y m .0;
+    own = λ y m. of-starter y m .1;
+    placed = λ y m. of-starter y m .2;
+    sized = order-length g (groups g);
   }
     where
       G : Grouped g (groups g)
@@ -82,10 +86,12 @@ module _ (g : CFG) (a : Closed g) where
       zero-in : In 0 (groups g .starters)
       zero-in = rw (G .entry-first none) at (getD-in (groups g .starters) 0 none (G .some-state))
 
-      own : (y : ℕ) → mem y (groups g .starters) ≡ true
-          → (getD (groups g .states) y none < length (groups g .starters)) × StateOrder g (groups g) (getD (groups g .states) y none) y
-      own y m =
+      of-starter : (y : ℕ) → mem y (groups g .starters) ≡ true
+          → (getD (groups g .states) y none < length (groups g .starters))
+          × (getD (groups g .starters) (getD (groups g .states) y none) none ≡ y)
+          × StateOrder g (groups g) (getD (groups g .states) y none) y
+      of-starter y m =
           let r = in-getD y (groups g .starters) none (mem→In y (groups g .starters) m) in
           let e : getD (groups g .states) y none ≡ r .0 = rw (r .2) at (G .starter-home (r .0) none (r .1)) in
           let o : StateOrder g (groups g) (r .0) y = rw (r .2) at (state-order (r .0) (r .1)) in
-          (rw e (r .1), rw e o)
+          (rw e (r .1), rw e (r .2), rw e o)

@@ -1,0 +1,2 @@
+pub mod PlacementLaws
+pub mod StateOrder

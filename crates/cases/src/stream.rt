@@ -1,0 +1,193 @@
+// A case's parts, taken from a stream of bytes. Every number is a word of four bytes, the least significant first.
+ghost use mathlib.Core.Path.{_≡_};
+ghost use Prim.Native.Nat.{_≤_};
+ghost use lib.ListN.{length};
+ghost use Rattle.cases.specs.Limits.{Within};
+
+// A place in the stream, and whether all so far was there and within its limit.
+pub struct Cursor {
+    pub at: usize,
+    pub good: bool,
+}
+
+// A number, and the place behind it.
+pub struct Number {
+    pub value: u32,
+    pub next: Cursor,
+}
+
+// So many items from a place on.
+pub struct Region {
+    pub at: usize,
+    pub count: u32,
+}
+
+pub struct Taken {
+    pub region: Region,
+    pub next: Cursor,
+}
+
+// The text's bytes, sizes of buffers, pairs of index and word, register words, and the place behind the case.
+pub struct Case {
+    pub text: Region,
+    pub graph: u32,
+    pub graph_patches: Region,
+    pub output: u32,
+    pub machine: u32,
+    pub machine_patches: Region,
+    pub registers: Region,
+    pub start_block: u32,
+    pub block_budget: u32,
+    pub start_state: u32,
+    pub cycle_budget: u32,
+    pub next: Cursor,
+}
+
+impl Case {
+    // Limits of the counts.
+    pub const TEXT: u32 = 20000;
+
+    pub const GRAPH: u32 = 2600;
+
+    pub const OUTPUT: u32 = 17000;
+
+    pub const MACHINE: u32 = 13700;
+
+    pub const REGISTERS: u32 = 20;
+
+    pub const PATCHES: u32 = 64;
+    // The bytes of a case, at most.
+    pub const BYTES: usize = 21148;
+}
+
+fn wide(b: u8) -> u32
+    ensures { λ r. ⌜ r ≤ 255 ⌝ }
+{
+    b as u32
+}
+
+// The first four bytes as a word.
+fn first_word(s: &[u8]) -> u32
+    requires { ⌜ 4 ≤ length (now s) ⌝ }
+{
+    wide(s[0]) + 256 * (wide(s[1]) + 256 * (wide(s[2]) + 256 * wide(s[3])))
+}
+
+// Nothing is there: 0, and no good from here on.
+fn missing(c: Cursor) -> Number
+    ensures { λ r. ⌜ r .value ≡ 0 ⌝ }
+{
+    Number {
+        value: 0,
+        next: Cursor {
+            at: c.at,
+            good: false,
+        },
+    }
+}
+
+pub fn word(s: &[u8], c: Cursor) -> Number {
+    let at = c.at;
+    if s.len() < at {
+        return missing(c);
+    }
+    if s.len() - at < 4 {
+        return missing(c);
+    }
+    Number {
+        value: first_word(&s[at..]),
+        next: Cursor {
+            at: at + 4,
+            good: c.good,
+        },
+    }
+}
+
+// A word that counts something; above its limit it is no good, and 0 stands for it.
+fn count(s: &[u8], c: Cursor, limit: u32) -> Number
+    ensures { λ r. ⌜ r .value ≤ limit ⌝ }
+{
+    let w = word(s, c);
+    if limit < w.value {
+        return missing(c);
+    }
+    w
+}
+
+// n bytes further on.
+fn skip(s: &[u8], c: Cursor, n: usize) -> Cursor {
+    let at = c.at;
+    if s.len() < at {
+        return c;
+    }
+    if s.len() - at < n {
+        return Cursor { at, good: false };
+    }
+    Cursor {
+        at: at + n,
+        good: c.good,
+    }
+}
+
+// A count within its limit, then that many items of so many bytes.
+fn take(s: &[u8], c: Cursor, limit: u32, size: usize) -> Taken
+    requires { ⌜ (limit ≤ 65536) × (size ≤ 8) ⌝ }
+    ensures { λ r. ⌜ r .region .count ≤ limit ⌝ }
+{
+    let n = count(s, c, limit);
+    let from = n.next;
+    Taken {
+        region: Region {
+            at: from.at,
+            count: n.value,
+        },
+        next: skip(s, from, size * (n.value as usize)),
+    }
+}
+
+// n bytes from a place on, or none where they are not all there.
+pub fn part(s: &[u8], at: usize, n: usize) -> &[u8] {
+    if s.len() < at {
+        return &s[..0];
+    }
+    if s.len() - at < n {
+        return &s[..0];
+    }
+    &s[at..at + n]
+}
+
+// The case at a place; `next` says whether it is whole.
+pub fn case_at(s: &[u8], at: usize) -> Case
+    ensures { λ r. ⌜ Within r ⌝ }
+{
+    let text = take(s, Cursor { at, good: true }, Case::TEXT, 1);
+    let graph = count(s, text.next, Case::GRAPH);
+    let graph_patches = take(s, graph.next, Case::PATCHES, 8);
+    let output = count(s, graph_patches.next, Case::OUTPUT);
+    let machine = count(s, output.next, Case::MACHINE);
+    let machine_patches = take(s, machine.next, Case::PATCHES, 8);
+    let registers = take(s, machine_patches.next, Case::REGISTERS, 4);
+    let start_block = word(s, registers.next);
+    let block_budget = word(s, start_block.next);
+    let start_state = word(s, block_budget.next);
+    let cycle_budget = word(s, start_state.next);
+    let text_region = text.region;
+    let graph_region = graph_patches.region;
+    let machine_region = machine_patches.region;
+    let register_region = registers.region;
+    let next = cycle_budget.next;
+    Case {
+        text: text_region,
+        graph: graph.value,
+        graph_patches: graph_region,
+        output: output.value,
+        machine: machine.value,
+        machine_patches: machine_region,
+        registers: register_region,
+        start_block: start_block.value,
+        block_budget: block_budget.value,
+        start_state: start_state.value,
+        cycle_budget: cycle_budget.value,
+        next,
+    }
+}

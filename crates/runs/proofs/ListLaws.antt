@@ -7,7 +7,8 @@ use mathlib.Core.Path.{_≡_, refl, sym, ap, _∙_}
 use mathlib.Core.Bool.{Bool, true, false, _&&_, and-assoc}
 use mathlib.Core.List.{List, [], _∷_, _++_, map}
 use lib.Dec.{eqb}
-use lib.ListN.{length, getD, take, drop, replicate}
+use lib.ListN.{length, getD, take, drop, set, replicate}
+use lib.Seq.{drop-cons, set-at, take-suc, append-snoc, length-take-le}
 use borrow.Author.Tests.{eqb-true, eq-eqb}
 use Rattle.runs.specs.Lists.{upFrom, same, every, padded}
 
@@ -164,3 +165,8 @@ drop-map-upFrom f k (suc m) (suc c) h =
     let e : k + suc c ≡ suc k + c = omega arith in
     let d : suc m - suc c ≡ m - c = omega arith in
     rw (e, d) (drop-map-upFrom f (suc k) m c (omega arith))
+
+-- one more element copied to the front
+pub copied-more : (d s : List ℕ) (j : ℕ) → j < length d → j < length s → set (take j s ++ drop j d) j (getD s j 0) ≡ take (j + 1) s ++ drop (j + 1) d
+copied-more d s j h k =
+    rw (add-one, drop-cons d j 0 h, set-at (take j s) (getD d j 0) (drop (suc j) d) (getD s j 0) j (length-take-le j s (omega arith)), take-suc s j 0 k, append-snoc (take j s) (getD s j 0) (drop (suc j) d))

@@ -1,0 +1,4 @@
+pub mod Tests
+pub mod Windows
+pub mod Environment
+pub mod Machines

@@ -1,0 +1,3 @@
+pub mod ListLaws
+pub mod RunLaws
+pub mod Every

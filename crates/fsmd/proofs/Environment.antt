@@ -9,6 +9,7 @@ use lib.ListN.{length, getD, take, drop, set, length-map, length-take}
 use lib.Seq.{drop-cons, append-snoc, set-at, take-suc, take-suc-set, length-take-le}
 use lib.Dec.{eqb}
 use Rattle.word.specs.Word.{choose, evalOf}
+use Rattle.word.proofs.Copying.{set-next, take-next}
 use Rattle.runs.specs.Lists.{upFrom}
 use Rattle.runs.specs.Runs.{Place, Configuration}
 use Rattle.fsmd.specs.declared.Wire.{Wire}
@@ -19,21 +20,6 @@ use Rattle.fsmd.proofs.Windows.{wiresFrom, wires-next, wires-end}
 use Rattle.fsmd.proofs.Machines.{states-length}
 
 -- ---- one more word
-
--- after the words p a list goes on as d does: one word more is set
-pub set-next : (p d : List ℕ) (i v : ℕ) → length p ≡ i → i < length d → set (p ++ drop i d) i v ≡ (p ++ (v ∷ [])) ++ drop (i + 1) d
-set-next p d i v e h =
-    rw (add-one i)
-    (ap (λ (l : List ℕ). set (p ++ l) i v) (drop-cons d i 0 h) ∙ set-at p (getD d i 0) (drop (suc i) d) v i e ∙ sym (append-assoc p (v ∷ []) (drop (suc i) d)))
-
-take-next : (s : List ℕ) (i : ℕ) → i < length s → take (i + 1) s ≡ take i s ++ (getD s i 0 ∷ [])
-take-next s i h = rw (add-one i) (take-suc s i 0 h)
-
--- the words of s are copied over those of d
-pub copy-next : (s d : List ℕ) (i : ℕ) → i < length s → i < length d → set (take i s ++ drop i d) i (getD s i 0) ≡ take (i + 1) s ++ drop (i + 1) d
-copy-next s d i h k =
-    set-next (take i s) d i (getD s i 0) (length-take-le i s (omega arith)) k
-    ∙ ap (λ (l : List ℕ). l ++ drop (i + 1) d) (sym (take-next s i h))
 
 -- the words of s, each read by f, are set over those of d
 pub map-next : (f : ℕ → ℕ) (s d : List ℕ) (i v : ℕ) → i < length s → i < length d → v ≡ f (getD s i 0)

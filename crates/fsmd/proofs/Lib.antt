@@ -2,3 +2,4 @@ pub mod Tests
 pub mod Windows
 pub mod Environment
 pub mod Machines
+pub mod Steps

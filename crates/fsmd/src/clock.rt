@@ -59,18 +59,6 @@ fn value(words: &[u32], n: usize, w: Wire) -> u32
     )
 }
 
-// The registers at the start of the cycle.
-fn load(words: &mut [u32], registers: Registers)
-    requires { ⌜ maxRegisters ≤ length (now words) ⌝ }
-    ensures { λ _. ⌜ take maxRegisters (now (words .exit)) ≡ registers .words ⌝ }
-{
-    let mut i = 0;
-    while i < Machine::REGISTERS {
-        words[i] = registers.words[i];
-        i += 1;
-    }
-}
-
 // The wires in order, after the sixteen registers.
 fn work(words: &mut [u32], table: &[u32], first: usize, count: usize)
     requires { ⌜ machineWords ≤ length (now table) ⌝ }
@@ -119,7 +107,7 @@ pub fn cycle(table: &[u32], k: usize, registers: Registers, words: &mut [u32]) -
     let at = record(k);
     let count = wire_count(table, k);
     let n = Machine::REGISTERS + count;
-    load(words, registers);
+    word::buffer::store(words, registers);
     work(words, table, first_wire(table, k), count);
     let state = read(words, n, table[at + Machine::NEXT_STATE]);
     let next = taken(

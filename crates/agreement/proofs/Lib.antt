@@ -1,0 +1,3 @@
+pub mod WireValues
+pub mod Environments
+pub mod Readings

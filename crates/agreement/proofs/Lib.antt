@@ -1,3 +1,4 @@
 pub mod WireValues
 pub mod Environments
 pub mod Readings
+pub mod TakenEdges

@@ -14,8 +14,8 @@ use Rattle.cfg.specs.Graph.{valueOf, execute, holds}
 use Rattle.fsmd.specs.declared.Wire.{Wire}
 use Rattle.fsmd.specs.Machine.{wireValue, worked}
 use Rattle.synthesis.specs.Wires.{wire, set-wire, and-wire, or-wire, and-not-wire, select-wire, selects, Edge, Point, fresh, join, instructionWire, assign}
-use Rattle.synthesis.proofs.GraphFacts.{InstructionFits}
-use Rattle.synthesis.proofs.References.{length-upFrom}
+use Rattle.runs.proofs.ListLaws.{length-upFrom}
+use Rattle.cfg.proofs.Admitted.{ValidInstruction}
 use Rattle.agreement.proofs.WireValues.{set-value, and-value, or-value, and-not-value, select-value, comparison-value, instruction-value}
 use Rattle.agreement.proofs.Environments.{at, Below, worked-append, worked-nil, worked-cons, worked-selects, snoc-length, length-worked, Grows, worked-grows}
 use Rattle.agreement.proofs.Environments.{below-mono, below-at, below-set, below-upFrom, map-append, map-set, getD-map, map-behind, map-registers}
@@ -90,7 +90,7 @@ module _ {R : ℕ} {high : List ℕ} where
       ∙ ap (λ (q : List ℕ). getD q r 0) (l .words)
 
   -- the wire of an instruction
-  pub reads-execute : (E : List ℕ) (i : Instruction) {t : ℕ} {vs : List ℕ} {v : ℕ} {q : List ℕ} → InstructionFits R i → Reads R high E t vs v q
+  pub reads-execute : (E : List ℕ) (i : Instruction) {t : ℕ} {vs : List ℕ} {v : ℕ} {q : List ℕ} → ValidInstruction R i → Reads R high E t vs v q
       → Reads R high (worked E (instructionWire (λ r. getD vs r 0) i ∷ [])) t (set vs (i .d) (length E)) v (execute i q)
   unfolding execute
   reads-execute E i {t} {vs} {v} {q} f l =
@@ -103,7 +103,7 @@ module _ {R : ℕ} {high : List ℕ} where
         reads = m .reads;
         count = length-set vs (i .d) (length E) ∙ l .count;
         lows = below-set (length (E ++ (x ∷ []))) vs (i .d) (length E) (m .lows) (simp length-append (omega arith));
-        words = set-behind E x vs high q (i .d) (l .lows) (let c = l .count in let d = f .into in omega arith) (l .words);
+        words = set-behind E x vs high q (i .d) (l .lows) (let c = l .count in let d = f .written in omega arith) (l .words);
       })
 
   three-behind : (E : List ℕ) (x y z : ℕ) {t : ℕ} {vs : List ℕ} {v : ℕ} {q : List ℕ} → Reads R high E t vs v q
@@ -169,7 +169,7 @@ module _ (rs : List ℕ) (size : length rs ≡ 16) where
   fresh-is ws = omega (arith, length-worked rs ws)
 
 module _ (rs : List ℕ) (size : length rs ≡ 16) (R : ℕ) where
-  pub assign-reads : (i : Instruction) (p : Point) {v : ℕ} {q : List ℕ} → InstructionFits R i → PointReads rs R p v q → PointReads rs R (assign i p) v (execute i q)
+  pub assign-reads : (i : Instruction) (p : Point) {v : ℕ} {q : List ℕ} → ValidInstruction R i → PointReads rs R p v q → PointReads rs R (assign i p) v (execute i q)
   unfolding assign
   assign-reads i p f l = rw (worked-append rs (p .wires), fresh-is rs size (p .wires)) (reads-execute (worked rs (p .wires)) i f l)
 

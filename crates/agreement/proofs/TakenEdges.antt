@@ -19,7 +19,7 @@ use Rattle.fsmd.specs.Machine.{worked}
 use Rattle.grouping.specs.Grouping.{Groups}
 use Rattle.synthesis.specs.Wires.{wire, set-wire, and-wire, or-wire, and-not-wire, select-wire, selects, Edge, Point, Build, fresh, join, joins, arrive}
 use Rattle.synthesis.specs.Wires.{instructionWire, assign, assigns, edge, close, towards, after, exit, exits, closeState, nextStateOf}
-use Rattle.synthesis.proofs.GraphFacts.{CodeFits, EndingFits, BlockFits}
+use Rattle.synthesis.proofs.GraphFacts.{ValidCode, Compares, BlockFits}
 use Rattle.agreement.proofs.WireValues.{set-value}
 use Rattle.agreement.proofs.Environments.{at, worked-append, worked-nil, worked-cons, Grows, grows-refl, grows-trans, wires-grow}
 use Rattle.agreement.proofs.Readings.{Reads, reads-grow, reads-put, reads-ite, reads-exit, PointReads, fresh-is, assign-reads, join-reads, start-reads}
@@ -151,7 +151,7 @@ module _ (rs : List ℕ) (size : length rs ≡ 16) (R : ℕ) where
   assigns-grow (i ∷ is) p =
       grows-trans (worked rs (p .wires)) (worked rs (assign i p .wires)) (worked rs (assigns is (assign i p) .wires)) (assign-grow i p) (assigns-grow is (assign i p))
 
-  assigns-reads : (is : List Instruction) (p : Point) {v : ℕ} {q : List ℕ} → CodeFits R is → PointReads rs R p v q → PointReads rs R (assigns is p) v (executeAll is q)
+  assigns-reads : (is : List Instruction) (p : Point) {v : ℕ} {q : List ℕ} → ValidCode R is → PointReads rs R p v q → PointReads rs R (assigns is p) v (executeAll is q)
   unfolding assigns executeAll
   assigns-reads [] p f l = l
   assigns-reads (i ∷ is) p f l = assigns-reads is (assign i p) (f .1) (assign-reads rs size R i p (f .0) l)
@@ -173,7 +173,7 @@ module _ (rs : List ℕ) (size : length rs ≡ 16) (R : ℕ) where
   unfolding close
   ite-reads c t f p s ha hb l = rw (worked-append rs (p .wires), fresh-is rs size (p .wires)) (reads-ite (worked rs (p .wires)) c s ha hb l)
 
-  close-none : (e : Ending) (p : Point) {q : List ℕ} → EndingFits R e → PointReads rs R p 0 q → NoneTaken R (drop R rs) (worked rs (close e p .wires)) (close e p .edges)
+  close-none : (e : Ending) (p : Point) {q : List ℕ} → Compares R e → PointReads rs R p 0 q → NoneTaken R (drop R rs) (worked rs (close e p .wires)) (close e p .edges)
   unfolding close
   close-none (Goto t) p {q} f l = ((q, l), tt)
   close-none (Ite c t f) p {q} h l = let m = ite-reads c t f p false (h .0) (h .1) l in ((q, m .0), ((q, m .1), tt))
@@ -185,7 +185,7 @@ module _ (rs : List ℕ) (size : length rs ≡ 16) (R : ℕ) where
   ite-one E true t f t₁ t₂ p q l m = inl ((refl, l), ((q, m), tt))
   ite-one E false t f t₁ t₂ p q l m = inr ((q, l), inl ((refl, m), tt))
 
-  close-one : (e : Ending) (p : Point) (q : List ℕ) → EndingFits R e → PointReads rs R p 1 q
+  close-one : (e : Ending) (p : Point) (q : List ℕ) → Compares R e → PointReads rs R p 1 q
       → OneTaken R (drop R rs) (worked rs (close e p .wires)) (record { place = leave e q; registers = q }) (close e p .edges)
   unfolding close leave
   close-one (Goto t) p q f l = inl ((refl, l), tt)

@@ -7,7 +7,7 @@ use mathlib.Core.List.{List, [], _∷_}
 use lib.ListN.{getD, take}
 use lib.Dec.{eqb, leb, ltb}
 use lib.Bits.{bitAnd, bitOr}
-use borrow.Author.Tests.{leb-true, le-ltb}
+use borrow.Author.Tests.{leb-true, le-ltb, eqb-false}
 use Rattle.word.specs.declared.Comparison.{Comparison}
 use Rattle.word.specs.declared.Comparison.the-variants.{Eq, Ne, Lt, Ge, Ltu, Geu}
 use Rattle.word.specs.Word.{choose, truth, compareOf, codeOf, evalOf, andNotOf, arities, arity}
@@ -18,7 +18,7 @@ use Rattle.cfg.specs.declared.Instruction.{Instruction}
 use Rattle.cfg.specs.Graph.{valueOf}
 use Rattle.fsmd.specs.Machine.{wireValue}
 use Rattle.synthesis.specs.Wires.{wire, set-wire, and-wire, or-wire, and-not-wire, select-wire, instructionWire}
-use Rattle.synthesis.proofs.GraphFacts.{InstructionFits}
+use Rattle.cfg.proofs.Admitted.{ValidInstruction}
 
 -- ---- the wires that synthesis adds by itself, where `at` reads a reference
 
@@ -81,14 +81,14 @@ set-or-read true at refs a x h = refl
 set-or-read false at refs a x h = h refl
 
 -- it reads what the instruction reads, where the references of registers below R read the registers q
-pub instruction-value : (at refs : ℕ → ℕ) (R : ℕ) (q : List ℕ) (i : Instruction) → InstructionFits R i
+pub instruction-value : (at refs : ℕ → ℕ) (R : ℕ) (q : List ℕ) (i : Instruction) → ValidInstruction R i
     → ((r : ℕ) → r < R → at (refs r) ≡ getD q r 0)
     → wireValue at (instructionWire refs i) ≡ valueOf (λ r. getD q r 0) (i .code) (i .a) (i .b)
 unfolding wireValue instructionWire
 instruction-value at refs R q i f h =
     let k = i .code in
     let t = eqb k 1 in
-    let n = arity-low k (f .known) in
+    let n = arity-low k (f .codeHigh) in
     eval-uses
     (choose t (choose t (i .a) (refs (i .a))) (at (choose t (i .a) (refs (i .a)))))
     (at (choose (ltb (arity k) 2) 0 (refs (i .b))))
@@ -97,6 +97,6 @@ instruction-value at refs R q i f h =
     (getD q (i .b) 0)
     0
     k
-    (λ d. set-or-read t at refs (i .a) (getD q (i .a) 0) (λ e. h (i .a) (f .first e)))
+    (λ d. set-or-read t at refs (i .a) (getD q (i .a) 0) (λ e. h (i .a) (f .first (eqb-false k 1 e))))
     (λ d. rw (le-ltb (arity k) 2 (omega arith)) (h (i .b) (f .second (omega arith))))
     (λ d. absurd (omega arith))

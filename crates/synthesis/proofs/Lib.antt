@@ -1,2 +1,2 @@
 pub mod GraphFacts
-pub mod References
+pub mod Selections

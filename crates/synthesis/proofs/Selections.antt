@@ -1,15 +1,10 @@
--- Lists of references: counting up, and the selections of a join. Assumes nothing.
-use Prim.Native.Nat.{ℕ, zero, suc, _+_, _≤_}
+-- How many selections a join makes. Assumes nothing.
+use Prim.Native.Nat.{ℕ, suc, _≤_}
 use native.Mathlib.Omega.{arith}
 use mathlib.Core.Path.{_≡_, refl, ap}
 use mathlib.Core.List.{List, [], _∷_}
 use lib.ListN.{length}
-use Rattle.runs.specs.Lists.{upFrom}
 use Rattle.synthesis.specs.Wires.{selects}
-
-pub length-upFrom : (n k : ℕ) → length (upFrom n k) ≡ k
-length-upFrom n zero = refl
-length-upFrom n (suc k) = ap suc (length-upFrom (suc n) k)
 
 pub length-selects : (t : ℕ) (vs ss : List ℕ) → length vs ≡ length ss → length (selects t vs ss) ≡ length vs
 length-selects t [] ss h = refl

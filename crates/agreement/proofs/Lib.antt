@@ -2,3 +2,4 @@ pub mod WireValues
 pub mod Environments
 pub mod Readings
 pub mod TakenEdges
+pub mod OneCycle

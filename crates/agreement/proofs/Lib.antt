@@ -3,3 +3,5 @@ pub mod Environments
 pub mod Readings
 pub mod TakenEdges
 pub mod OneCycle
+pub mod Arrivals
+pub mod WholeRun

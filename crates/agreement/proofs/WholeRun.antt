@@ -1,0 +1,191 @@
+-- Whole runs: after k cycles the machine stands where the graph stands at arrival k, or both have halted. Assumes nothing.
+use Prim.Native.Nat.{ℕ, zero, suc, _+_, _≤_, _<_}
+use native.Mathlib.Omega.{arith}
+use mathlib.Core.Path.{_≡_, refl, sym, ap, _∙_}
+use mathlib.Core.Logic.{_⊎_, inl, inr}
+use mathlib.Core.Bool.{Bool, true, false}
+use mathlib.Core.List.{List, _++_, map}
+use lib.ListN.{length, getD, drop, length-append, length-map, length-drop}
+use lib.Dec.{ltb}
+use borrow.Author.Tests.{lt-ltb, le-ltb}
+use Rattle.word.specs.Word.{choose}
+use Rattle.runs.specs.Lists.{upFrom, mem}
+use Rattle.runs.specs.Runs.{Place, standing, halted, Configuration, startAt, times}
+use Rattle.runs.proofs.ListLaws.{length-upFrom, getD-map-upFrom}
+use Rattle.runs.proofs.RunLaws.{never-both, times-zero, times-add, times-last}
+use Rattle.cfg.specs.Graph.{CFG, step}
+use Rattle.fsmd.specs.Layout.{none}
+use Rattle.fsmd.specs.Machine.{State, FSMD, emptyState, stateOf as stateAt, worked, toState, clock, cycle}
+use Rattle.grouping.specs.Grouping.{Groups}
+use Rattle.synthesis.specs.Placement.{order, members}
+use Rattle.synthesis.specs.Wires.{leaves, nextStateOf, stateOf}
+use Rattle.synthesis.specs.Synthesis.{machineFor}
+use Rattle.synthesis.proofs.GraphFacts.{GraphFits}
+use Rattle.agreement.specs.Agreement.{haltedWith, graphAfter, atStarter, moves, arrivals, Arrival, HaltBefore, EndOfCycle, machineAfter, stateIn, AgreeAfter}
+use Rattle.agreement.proofs.Readings.{Reads}
+use Rattle.agreement.proofs.OneCycle.{Placed, StateReads, CycleAgrees, cycle-agrees}
+use Rattle.agreement.proofs.Arrivals.{moves-zero, moves-add, trace-comes, trace-moves, arrival-once, arrival-or-halt, halted-once, standing-before, halting-step}
+
+-- what grouping and placement give
+pub record Arranged (g : CFG) (s : Groups) : Type 0 where
+  pub few : length (s .starters) ≤ none
+  pub entry : mem 0 (s .starters) ≡ true
+  pub entry-state : stateIn s 0 ≡ 0
+  pub home : (b : ℕ) → mem b (s .starters) ≡ true → stateIn s b < length (s .starters)
+  pub own : (b : ℕ) → mem b (s .starters) ≡ true → getD (s .starters) (stateIn s b) none ≡ b
+  pub placed : (b : ℕ) → mem b (s .starters) ≡ true → Placed g s (stateIn s b) b
+  pub sized : (k : ℕ) → length (order g s k) ≤ length (members g s k)
+
+-- ---- one cycle of the machine
+
+clock-reads : (m : FSMD) (q : State) (rs : List ℕ) (v : ℕ) (qs : List ℕ)
+    → Reads (m .registers) (drop (m .registers) rs) (worked rs (q .wires)) (q .next) (q .nextRegisters) v qs
+    → clock m q rs ≡ record { place = toState (length (m .states)) v; registers = qs }
+unfolding clock
+clock-reads m q rs v qs l = λ i. record { place = toState (length (m .states)) (l .reads i); registers = l .words i }
+
+cycle-clock : (m : FSMD) (k : ℕ) (rs : List ℕ) → cycle m (startAt k rs) ≡ clock m (stateAt m k) rs
+unfolding cycle
+cycle-clock m k rs = refl
+
+pub cycle-halted : (m : FSMD) (c : Configuration) → c .place ≡ halted → cycle m c ≡ c
+unfolding cycle
+cycle-halted m c h = rw h
+
+module _ (g : CFG) (s : Groups) where
+  pub states-count : length (machineFor g s .states) ≡ length (s .starters)
+  unfolding machineFor
+  states-count = length-map (upFrom 0 (length (s .starters))) (stateOf g s) ∙ length-upFrom 0 (length (s .starters))
+
+  pub state-at : (k : ℕ) → k < length (s .starters) → stateAt (machineFor g s) k ≡ stateOf g s k
+  unfolding machineFor
+  state-at k h = getD-map-upFrom (stateOf g s) (length (s .starters)) k emptyState h
+
+  registers-are : machineFor g s .registers ≡ g .registers
+  unfolding machineFor
+  registers-are = refl
+
+  cycle-reads : (k : ℕ) (rs : List ℕ) (v : ℕ) (qs : List ℕ) → k < length (s .starters) → StateReads g (stateOf g s k) rs v qs
+      → cycle (machineFor g s) (startAt k rs) ≡ record { place = toState (length (s .starters)) v; registers = qs }
+  cycle-reads k rs v qs h l =
+      cycle-clock (machineFor g s) k rs
+      ∙ ap (λ (q : State). clock (machineFor g s) q rs) (state-at k h)
+      ∙ clock-reads (machineFor g s) (stateOf g s k) rs v qs (rw registers-are l)
+      ∙ ap (λ (n : ℕ). record { place = toState n v; registers = qs }) states-count
+
+reads-length : {R : ℕ} {high E : List ℕ} {t : ℕ} {vs : List ℕ} {v : ℕ} {q : List ℕ} → Reads R high E t vs v q → length q ≡ R + length high
+reads-length {R} {high} {E} {t} {vs} l = sym (ap length (l .words)) ∙ simp (length-append, length-map) (let c = l .count in omega arith)
+
+-- ---- whole runs
+
+module _ (g : CFG) (s : Groups) (rs : List ℕ) where
+  -- the graph makes arrival k, and the machine stands after k cycles in its starter's state with the same registers
+  record Arrived (k : ℕ) : Type 0 where
+    steps : ℕ
+    block : ℕ
+    registers : List ℕ
+    arrival : Arrival g (s .starters) rs k steps block registers
+    size : length registers ≡ 16
+    machine : machineAfter (machineFor g s) rs k ≡ startAt (stateIn s block) registers
+
+  -- the graph halts before arrival k, and the machine has halted after k cycles with the same registers
+  record Stopped (k : ℕ) : Type 0 where
+    steps : ℕ
+    registers : List ℕ
+    graph : graphAfter g rs steps ≡ haltedWith registers
+    counted : arrivals g (s .starters) rs steps < k
+    machine : machineAfter (machineFor g s) rs k ≡ haltedWith registers
+
+module _ (g : CFG) (s : Groups) (f : GraphFits g) (a : Arranged g s) where
+  to-starter : (b : ℕ) → mem b (s .starters) ≡ true → toState (length (s .starters)) (nextStateOf s (standing b)) ≡ standing (stateIn s b)
+  to-starter b h = rw (lt-ltb (stateIn s b) (length (s .starters)) (a .home b h))
+
+  to-halt : toState (length (s .starters)) (nextStateOf s halted) ≡ halted
+  to-halt = rw (le-ltb none (length (s .starters)) (a .few))
+
+module _ (g : CFG) (s : Groups) (f : GraphFits g) (a : Arranged g s) (rs : List ℕ) where
+  -- the next cycle from an arrival
+  module _ (k : ℕ) (r : Arrived g s rs k) where
+    agrees : CycleAgrees g s (r .registers) (stateIn s (r .block)) (r .block)
+    agrees = cycle-agrees g s (r .registers) (r .size) f (stateIn s (r .block)) (r .block) (a .placed (r .block) (r .arrival .starter))
+
+    -- the graph after the cycle's steps
+    reached-at : graphAfter g rs (r .steps + agrees .steps) ≡ agrees .reached
+    reached-at =
+        times-add (step g) (r .steps) (agrees .steps) (startAt 0 rs)
+        ∙ ap (times (step g) (agrees .steps)) (r .arrival .stands)
+        ∙ trace-comes g (s .starters) (r .block) (r .registers) (agrees .trace)
+
+    counted-at : arrivals g (s .starters) rs (r .steps + agrees .steps) ≡ k + moves g (s .starters) (startAt (r .block) (r .registers)) (agrees .steps)
+    counted-at =
+        moves-add g (s .starters) (startAt 0 rs) (r .steps) (agrees .steps)
+        ∙ rw (r .arrival .counted, r .arrival .stands)
+
+    cycled : (p : Place) → agrees .reached .place ≡ p
+        → machineAfter (machineFor g s) rs (suc k) ≡ record { place = toState (length (s .starters)) (nextStateOf s p); registers = agrees .reached .registers }
+    cycled p e =
+        times-last (cycle (machineFor g s)) k (startAt 0 rs)
+        ∙ ap (cycle (machineFor g s)) (r .machine)
+        ∙ cycle-reads g s (stateIn s (r .block)) (r .registers) (nextStateOf s (agrees .reached .place)) (agrees .reached .registers)
+        (a .home (r .block) (r .arrival .starter)) (agrees .state)
+        ∙ ap (λ (p : Place). record { place = toState (length (s .starters)) (nextStateOf s p); registers = agrees .reached .registers }) e
+
+    -- the graph arrives at a starter
+    arrives : (b : ℕ) → agrees .reached .place ≡ standing b → Arrived g s rs (suc k)
+    arrives b e =
+        let m : mem b (s .starters) ≡ true = rw e at (agrees .leaving) in
+        let q = agrees .reached .registers in
+        record {
+          steps = r .steps + agrees .steps;
+          block = b;
+          registers = q;
+          arrival = record {
+            stands = reached-at ∙ (λ i. record { place = e i; registers = q });
+            starter = m;
+            counted = counted-at ∙ rw (trace-moves g (s .starters) (r .block) (r .registers) (agrees .trace), e, m) (omega arith);
+          };
+          size = reads-length (agrees .state) ∙ (let z = r .size in let n = f .fewRegisters in simp length-drop (omega arith));
+          machine = cycled (standing b) e ∙ (λ i. record { place = to-starter g s f a b m i; registers = q });
+        }
+
+    -- it halts
+    stops : agrees .reached .place ≡ halted → Stopped g s rs (suc k)
+    stops e =
+        let q = agrees .reached .registers in
+        record {
+          steps = r .steps + agrees .steps;
+          registers = q;
+          graph = reached-at ∙ (λ i. record { place = e i; registers = q });
+          counted = rw (counted-at, trace-moves g (s .starters) (r .block) (r .registers) (agrees .trace), e) (omega arith);
+          machine = cycled halted e ∙ (λ i. record { place = to-halt g s f a i; registers = q });
+        }
+
+  -- a halted machine idles
+  stays-stopped : (k : ℕ) → Stopped g s rs k → Stopped g s rs (suc k)
+  stays-stopped k r = record {
+    steps = r .steps;
+    registers = r .registers;
+    graph = r .graph;
+    counted = let c = r .counted in omega arith;
+    machine = times-last (cycle (machineFor g s)) k (startAt 0 rs) ∙ ap (cycle (machineFor g s)) (r .machine) ∙ cycle-halted (machineFor g s) (haltedWith (r .registers)) refl;
+  }
+
+  next-cycle : (k : ℕ) → Arrived g s rs k ⊎ Stopped g s rs k → Arrived g s rs (suc k) ⊎ Stopped g s rs (suc k)
+  next-cycle k (inl r) = go (agrees k r .reached .place) refl
+    where
+      go : (p : Place) → agrees k r .reached .place ≡ p → Arrived g s rs (suc k) ⊎ Stopped g s rs (suc k)
+      go (standing b) e = inl (arrives k r b e)
+      go halted e = inr (stops k r e)
+  next-cycle k (inr r) = inr (stays-stopped k r)
+
+  after-cycles : length rs ≡ 16 → (k : ℕ) → Arrived g s rs k ⊎ Stopped g s rs k
+  after-cycles size zero =
+      inl (record {
+        steps = 0;
+        block = 0;
+        registers = rs;
+        arrival = record { stands = times-zero (step g) (startAt 0 rs); starter = a .entry; counted = moves-zero g (s .starters) (startAt 0 rs) };
+        size = size;
+        machine = times-zero (cycle (machineFor g s)) (startAt 0 rs) ∙ ap (λ (k : ℕ). startAt k rs) (sym (a .entry-state));
+      })
+  after-cycles size (suc k) = next-cycle k (after-cycles size k)

@@ -25,7 +25,7 @@ step-standing : (g : CFG) (c : Configuration) (x : ℕ) → c .place ≡ standin
 unfolding step
 step-standing g c x h = rw h
 
-place-of : {c d : Configuration} → c ≡ d → c .place ≡ d .place
+pub place-of : {c d : Configuration} → c ≡ d → c .place ≡ d .place
 place-of e = ap (λ (c : Configuration). c .place) e
 
 -- ---- moves to starters

@@ -1,6 +1,7 @@
 -- Whole runs: after k cycles the machine stands where the graph stands at arrival k, or both have halted. Assumes nothing.
 use Prim.Native.Nat.{ℕ, zero, suc, _+_, _≤_, _<_}
 use native.Mathlib.Omega.{arith}
+use native.Mathlib.Decide.{decLt}
 use mathlib.Core.Path.{_≡_, refl, sym, ap, _∙_}
 use mathlib.Core.Logic.{_⊎_, inl, inr}
 use mathlib.Core.Bool.{Bool, true, false}
@@ -24,7 +25,7 @@ use Rattle.synthesis.proofs.GraphFacts.{GraphFits}
 use Rattle.agreement.specs.Agreement.{haltedWith, graphAfter, atStarter, moves, arrivals, Arrival, HaltBefore, EndOfCycle, machineAfter, stateIn, AgreeAfter}
 use Rattle.agreement.proofs.Readings.{Reads}
 use Rattle.agreement.proofs.OneCycle.{Placed, StateReads, CycleAgrees, cycle-agrees}
-use Rattle.agreement.proofs.Arrivals.{moves-zero, moves-add, trace-comes, trace-moves, arrival-once, arrival-or-halt, halted-once, standing-before, halting-step}
+use Rattle.agreement.proofs.Arrivals.{place-of, moves-zero, moves-add, trace-comes, trace-moves, arrival-once, arrival-or-halt, halted-once, standing-before, halting-step}
 
 -- what grouping and placement give
 pub record Arranged (g : CFG) (s : Groups) : Type 0 where
@@ -189,3 +190,119 @@ module _ (g : CFG) (s : Groups) (f : GraphFits g) (a : Arranged g s) (rs : List 
         machine = times-zero (cycle (machineFor g s)) (startAt 0 rs) ∙ ap (λ (k : ℕ). startAt k rs) (sym (a .entry-state));
       })
   after-cycles size (suc k) = next-cycle k (after-cycles size k)
+
+-- ---- the statement on the machine of a grouping
+
+registers-of : {c d : Configuration} → c ≡ d → c .registers ≡ d .registers
+registers-of e = ap (λ (c : Configuration). c .registers) e
+
+standing-of : {b c : ℕ} → standing b ≡ standing c → b ≡ c
+standing-of e = cc
+
+module _ (g : CFG) (s : Groups) (f : GraphFits g) (a : Arranged g s) (rs : List ℕ) (size : length rs ≡ 16) (k : ℕ) where
+  end-of-cycle : (n : ℕ) × EndOfCycle g (s .starters) rs k n
+  end-of-cycle = go (after-cycles g s f a rs size k)
+    where
+      go : Arrived g s rs k ⊎ Stopped g s rs k → (n : ℕ) × EndOfCycle g (s .starters) rs k n
+      go (inl r) = (r .steps, inl (r .block, r .registers, r .arrival))
+      go (inr r) = let h = halting-step g (s .starters) rs k (r .steps) (r .registers) (r .graph) (r .counted) in (h .0, inr (r .registers, h .2))
+
+  never-together : (n b : ℕ) (q : List ℕ) → Arrival g (s .starters) rs k n b q → (n′ : ℕ) (q′ : List ℕ) → HaltBefore g (s .starters) rs k n′ q′ → ⊥
+  never-together n b q r n′ q′ h = arrival-or-halt g (s .starters) rs k n n′ b q q′ r (h .stopped) (h .counted)
+
+  halted-graph : (q : List ℕ) → machineAfter (machineFor g s) rs k ≡ haltedWith q → (n : ℕ) × HaltBefore g (s .starters) rs k n q
+  halted-graph q e = go (after-cycles g s f a rs size k)
+    where
+      go : Arrived g s rs k ⊎ Stopped g s rs k → (n : ℕ) × HaltBefore g (s .starters) rs k n q
+      go (inl r) = absurd (never-both (machineAfter (machineFor g s) rs k .place) (stateIn s (r .block)) (place-of (r .machine)) (place-of e))
+      go (inr r) =
+          let p : r .registers ≡ q = registers-of (sym (r .machine) ∙ e) in
+          let h = halting-step g (s .starters) rs k (r .steps) q (r .graph ∙ ap haltedWith p) (r .counted) in
+          (h .0, h .2)
+
+  halted-machine : (n : ℕ) (q : List ℕ) → HaltBefore g (s .starters) rs k n q → machineAfter (machineFor g s) rs k ≡ haltedWith q
+  halted-machine n q h = go (after-cycles g s f a rs size k)
+    where
+      go : Arrived g s rs k ⊎ Stopped g s rs k → machineAfter (machineFor g s) rs k ≡ haltedWith q
+      go (inl r) = absurd (never-together (r .steps) (r .block) (r .registers) (r .arrival) n q h)
+      go (inr r) = r .machine ∙ ap haltedWith (halted-once g (s .starters) rs (r .steps) n (r .registers) q (r .graph) (h .stopped))
+
+  standing-graph : (b : ℕ) (q : List ℕ) → mem b (s .starters) ≡ true → machineAfter (machineFor g s) rs k ≡ startAt (stateIn s b) q
+      → (n : ℕ) × Arrival g (s .starters) rs k n b q
+  standing-graph b q m e = go (after-cycles g s f a rs size k)
+    where
+      go : Arrived g s rs k ⊎ Stopped g s rs k → (n : ℕ) × Arrival g (s .starters) rs k n b q
+      go (inl r) =
+          let z : stateIn s (r .block) ≡ stateIn s b = standing-of (place-of (sym (r .machine) ∙ e)) in
+          let c : r .block ≡ b =
+          sym (a .own (r .block) (r .arrival .starter)) ∙ ap (λ (k : ℕ). getD (s .starters) k none) z ∙ a .own b m in
+          (r .steps, rw (c, registers-of (sym (r .machine) ∙ e)) at (r .arrival))
+      go (inr r) = absurd (never-both (machineAfter (machineFor g s) rs k .place) (stateIn s b) (place-of e) (place-of (r .machine)))
+
+  standing-machine : (n b : ℕ) (q : List ℕ) → Arrival g (s .starters) rs k n b q → machineAfter (machineFor g s) rs k ≡ startAt (stateIn s b) q
+  standing-machine n b q h = go (after-cycles g s f a rs size k)
+    where
+      go : Arrived g s rs k ⊎ Stopped g s rs k → machineAfter (machineFor g s) rs k ≡ startAt (stateIn s b) q
+      go (inl r) =
+          let t : r .steps ≡ n = arrival-once g (s .starters) rs k (r .steps) n (r .block) b (r .registers) q (r .arrival) h in
+          let c : startAt (r .block) (r .registers) ≡ startAt b q = sym (r .arrival .stands) ∙ rw t (h .stands) in
+          let d : r .block ≡ b = standing-of (place-of c) in
+          r .machine ∙ rw (d, registers-of c)
+      go (inr r) = absurd (arrival-or-halt g (s .starters) rs k n (r .steps) b q (r .registers) h (r .graph) (r .counted))
+
+  -- the steps of the next cycle, from an arrival
+  module _ (r : Arrived g s rs k) where
+    abbrev cycled-to : CycleAgrees g s (r .registers) (stateIn s (r .block)) (r .block)
+    cycled-to = agrees g s f a rs k r
+
+    next-steps : (n′ : ℕ) → EndOfCycle g (s .starters) rs (suc k) n′ → (p : Place) → cycled-to .reached .place ≡ p
+        → (r .steps + 1 ≤ n′) × (n′ ≤ r .steps + cycled-to .steps)
+    unfolding agrees arrives stops
+    next-steps n′ (inl e) (standing c) h =
+        let t = arrives g s f a rs k r c h .arrival in
+        let i : r .steps + cycled-to .steps ≡ n′ =
+        arrival-once g (s .starters) rs (suc k) (r .steps + cycled-to .steps) n′ c (e .0) (cycled-to .reached .registers) (e .1) t (e .2) in
+        let o = cycled-to .some in
+        (omega arith, omega arith)
+    next-steps n′ (inl e) halted h =
+        let t = stops g s f a rs k r h in
+        absurd (arrival-or-halt g (s .starters) rs (suc k) n′ (t .steps) (e .0) (e .1) (t .registers) (e .2) (t .graph) (t .counted))
+    next-steps n′ (inr e) (standing c) h =
+        let t = arrives g s f a rs k r c h .arrival in
+        absurd (arrival-or-halt g (s .starters) rs (suc k) (r .steps + cycled-to .steps) n′ c (cycled-to .reached .registers) (e .0) t (e .1 .stopped) (e .1 .counted))
+    next-steps n′ (inr e) halted h = (after (decLt (r .steps) n′), before (decLt (r .steps + cycled-to .steps) n′))
+      where
+        after : Dec (r .steps < n′) → r .steps + 1 ≤ n′
+        after (yes d) = omega arith
+        after (no d) =
+            absurd (standing-before g (s .starters) rs (r .steps) (r .block) (place-of (r .arrival .stands)) n′ (omega arith) (place-of (e .1 .stopped)))
+
+        before : Dec (r .steps + cycled-to .steps < n′) → n′ ≤ r .steps + cycled-to .steps
+        before (yes d) = absurd (e .1 .running (r .steps + cycled-to .steps) d (place-of (stops g s f a rs k r h .graph)))
+        before (no d) = omega arith
+
+  next-blocks : (n b : ℕ) (q : List ℕ) → Arrival g (s .starters) rs k n b q → (n′ : ℕ) → EndOfCycle g (s .starters) rs (suc k) n′
+      → (n + 1 ≤ n′) × (n′ ≤ n + length (members g s (stateIn s b)))
+  next-blocks n b q h n′ e = go (after-cycles g s f a rs size k)
+    where
+      go : Arrived g s rs k ⊎ Stopped g s rs k → (n + 1 ≤ n′) × (n′ ≤ n + length (members g s (stateIn s b)))
+      go (inl r) =
+          let t : r .steps ≡ n = arrival-once g (s .starters) rs k (r .steps) n (r .block) b (r .registers) q (r .arrival) h in
+          let c : startAt (r .block) (r .registers) ≡ startAt b q = sym (r .arrival .stands) ∙ rw t (h .stands) in
+          let d : r .block ≡ b = standing-of (place-of c) in
+          let z = next-steps r n′ e (cycled-to r .reached .place) refl in
+          let u = z .0 in
+          let v = z .1 in
+          let w = cycled-to r .few in
+          let y = a .sized (stateIn s (r .block)) in
+          rw (← d) (omega arith, omega arith)
+      go (inr r) = absurd (arrival-or-halt g (s .starters) rs k n (r .steps) b q (r .registers) h (r .graph) (r .counted))
+
+  pub agree-after : AgreeAfter g s (machineFor g s) rs k
+  agree-after = record {
+    either = end-of-cycle;
+    apart = never-together;
+    halts = λ q. (halted-graph q, λ h. halted-machine (h .0) q (h .1));
+    stands = λ b q m. (standing-graph b q m, λ h. standing-machine (h .0) b q (h .1));
+    blocks = next-blocks;
+  }

@@ -5,3 +5,4 @@ pub mod TakenEdges
 pub mod OneCycle
 pub mod Arrivals
 pub mod WholeRun
+pub mod RunAnswers

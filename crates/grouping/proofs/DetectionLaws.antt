@@ -1,17 +1,18 @@
 -- Detection: what it means that it finds no illegal edge, and what it finds otherwise. Assumes nothing.
-use Prim.Native.Nat.{ℕ, zero, suc, _≤_, _<_}
-use mathlib.Core.Bool.{Bool, true, false, not, _||_, _&&_, false≢true, true≢false}
+use Prim.Native.Nat.{ℕ, _<_}
+use mathlib.Core.Bool.{true, false, not, false≢true, true≢false}
 use mathlib.Core.Logic.{_⊎_, inl, inr, _≢_}
 use mathlib.Core.Path.{_≡_, refl, sym, subst}
 use mathlib.Core.List.{List, [], _∷_}
 use native.Mathlib.Omega.{arith}
-use lib.ListN.{length, getD}
+use lib.ListN.{length}
 use lib.Dec.{eqb}
+use borrow.Author.Tests.{not-true, not-false, eqb-true}
 use Rattle.runs.specs.Lists.{mem}
-use Rattle.runs.proofs.Tests.{true-or-false, or-false, and-true, and-false, not-true, not-false, eqb-true, Compared, same, other, compared}
+use Rattle.runs.proofs.Tests.{true-or-false, or-false, and-true, and-false, Compared, same, other, compared}
 use Rattle.runs.proofs.Sets.{In, Distinct, Subset, mem→In, mem→Out}
 use Rattle.cfg.specs.Graph.{CFG, successors}
-use Rattle.grouping.specs.Visit.{Visitor, visit}
+use Rattle.grouping.specs.Visit.{visit}
 use Rattle.grouping.specs.Grouping.{illegal, Detection, visited, illegalTo, detectTurn, detecting, detect}
 use Rattle.grouping.proofs.Reach.{Closed, Reached, entry, along}
 use Rattle.grouping.proofs.VisitLaws.{Came, came-reached, Outcome, Law, whole-visit, whole-fuel}

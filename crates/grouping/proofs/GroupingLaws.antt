@@ -6,14 +6,14 @@ use mathlib.Core.List.{List, [], _∷_, _++_}
 use native.Mathlib.Omega.{arith}
 use lib.ListN.{length, getD, replicate, length-append}
 use Rattle.runs.proofs.Tests.{Compared, same, other, compared}
-use Rattle.runs.proofs.Sets.{In, Distinct, found, Found, there, missing, in-left, in-append, distinct-snoc, distinct-below, getD-in, getD-any}
+use Rattle.runs.proofs.Sets.{In, Distinct, in-left, in-append, distinct-snoc, distinct-below, getD-in, getD-any}
 use Rattle.cfg.specs.Graph.{CFG, successors}
 use Rattle.fsmd.specs.Layout.{none}
-use Rattle.grouping.specs.Visit.{Visitor, visit}
+use Rattle.grouping.specs.Visit.{visit}
 use Rattle.grouping.specs.Grouping.{Loops, looping, loops, populate, Detection, visited, illegalTo, detecting, detect, Groups, regroup, groups}
-use Rattle.grouping.proofs.Reach.{Closed, Reached, entry, along, reached-below}
+use Rattle.grouping.proofs.Reach.{Closed, Reached, reached-below}
 use Rattle.grouping.proofs.LoopLaws.{Looped, looped, loops-fuel, ranked-more, ranked-distinct, rank, rank-most, rank-falls, Walk, no-cycle}
-use Rattle.grouping.proofs.PopulationLaws.{stateIn, populateWith, populate-fuel, Taken, Populated, populated}
+use Rattle.grouping.proofs.PopulationLaws.{stateIn, populateWith, populate-fuel, Populated, populated}
 use Rattle.grouping.proofs.DetectionLaws.{Legal, detect-visited, detect-illegal, detect-fuel}
 
 -- ---- what a finished grouping is
@@ -47,10 +47,10 @@ pub record Grouped (g : CFG) (s : Groups) : Type 0 where
 
 -- ---- the repetition
 
--- the same with any fuel of the visits and any number of rounds
-abbrev pub onward : Detection → Groups → (ℕ → Groups) → Groups
-onward (visited seen) s f = s
-onward (illegalTo y) s f = f y
+-- the whole procedure with any fuel of the visits and any number of rounds
+abbrev pub afterDetection : Detection → Groups → (ℕ → Groups) → Groups
+afterDetection (visited seen) s f = s
+afterDetection (illegalTo y) s f = f y
 
 module _ (fuel : ℕ) (g : CFG) where
   abbrev pub populationWith : List ℕ → List ℕ
@@ -62,13 +62,13 @@ module _ (fuel : ℕ) (g : CFG) where
   abbrev pub regroupWith : ℕ → List ℕ → Groups
   regroupWith zero starters = record { starters = starters; states = populationWith starters }
   regroupWith (suc rounds) starters =
-      onward (detectionWith starters (populationWith starters)) (record { starters = starters; states = populationWith starters })
+      afterDetection (detectionWith starters (populationWith starters)) (record { starters = starters; states = populationWith starters })
       (λ y. regroupWith rounds (starters ++ (y ∷ [])))
 
   abbrev pub groupsWith : ℕ → Groups
   groupsWith rounds = regroupWith rounds (visit looping (successors g) fuel [] 0 (record { finished = []; starters = 0 ∷ [] }) .starters)
 
--- after any round: the starters so far, and the order in which loop detection finished the blocks
+-- `finished` has the blocks in the order in which loop detection finished them
 module _ (g : CFG) (a : Closed g) (finished : List ℕ) where
   -- one more starter
   more : (starters : List ℕ) (y : ℕ) → Looped g starters finished → Reached g y → (In y starters → ⊥) → Looped g (starters ++ (y ∷ [])) finished

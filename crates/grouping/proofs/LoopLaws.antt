@@ -1,8 +1,8 @@
 -- Loop detection: no cycle avoids the starters. Assumes nothing.
-use Prim.Native.Nat.{ℕ, zero, suc, _≤_, _<_}
-use mathlib.Core.Bool.{Bool, true, false, _||_, false≢true}
+use Prim.Native.Nat.{ℕ, suc, _≤_, _<_}
+use mathlib.Core.Bool.{true, false, false≢true}
 use mathlib.Core.Logic.{_⊎_, inl, inr, _≢_}
-use mathlib.Core.Path.{_≡_, refl, sym, _∙_, ap, subst}
+use mathlib.Core.Path.{_≡_, refl, sym, ap, subst}
 use mathlib.Core.List.{List, [], _∷_, _++_}
 use native.Mathlib.Omega.{arith}
 use lib.ListN.{length}
@@ -11,7 +11,7 @@ use Rattle.runs.specs.Lists.{mem}
 use Rattle.runs.proofs.Tests.{or-false, Compared, same, other, compared}
 use Rattle.runs.proofs.Sets.{In, Distinct, Subset, found, Found, there, missing, in-left, in-right, in-append, distinct-snoc, mem→Out}
 use Rattle.cfg.specs.Graph.{CFG, successors}
-use Rattle.grouping.specs.Visit.{Visitor, visit}
+use Rattle.grouping.specs.Visit.{visit}
 use Rattle.grouping.specs.Grouping.{Loops, startedAt, finishedAt, looping, loops}
 use Rattle.grouping.proofs.Reach.{Closed, Reached, entry, along, reached-below}
 use Rattle.grouping.proofs.VisitLaws.{Came, came-reached, Outcome, Law, whole-visit, whole-fuel}
@@ -291,7 +291,7 @@ rank-falls g starters (w ∷ l) r u v (inr i) j f = go (ranked-closed g starters
         let b = rank-there w l u (λ q. r .1 (subst (λ z. In z l) q i)) in
         omega arith
 
--- edges step after another, none of them to a starter
+-- one edge or several, one after another, none of them to a starter
 pub data Walk (g : CFG) (starters : List ℕ) : ℕ → ℕ → Type 0 where
   step : {u v : ℕ} → In v (successors g u) → (In v starters → ⊥) → Walk g starters u v
   on : {u v w : ℕ} → Walk g starters u v → In w (successors g v) → (In w starters → ⊥) → Walk g starters u w

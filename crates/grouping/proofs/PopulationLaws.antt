@@ -1,6 +1,6 @@
 -- Population: every reached block gets a state, and what a state has. Assumes nothing.
-use Prim.Native.Nat.{ℕ, zero, suc, _+_, _≤_, _<_}
-use mathlib.Core.Bool.{Bool, true, false, not, _||_, _&&_}
+use Prim.Native.Nat.{ℕ, zero, suc, _≤_, _<_}
+use mathlib.Core.Bool.{true, false, not, _&&_}
 use mathlib.Core.Logic.{_⊎_, inl, inr, _≢_}
 use mathlib.Core.Path.{_≡_, refl, sym, _∙_, ap, subst}
 use mathlib.Core.List.{List, [], _∷_, _++_, append-assoc, append-nil}
@@ -8,21 +8,22 @@ use native.Mathlib.Omega.{arith}
 use lib.ListN.{length, getD, set, replicate, length-set, length-replicate, length-append}
 use lib.Seq.{getD-set-same, getD-set-other, getD-append-seam}
 use lib.Dec.{eqb}
+use borrow.Author.Tests.{not-true, not-false, eqb-true, eqb-false}
 use Rattle.runs.specs.Lists.{mem}
-use Rattle.runs.proofs.Tests.{or-false, or-true, and-true, and-false, not-true, not-false, eqb-true, eqb-false, Compared, same, other, compared}
+use Rattle.runs.proofs.Tests.{or-false, or-true, and-true, and-false, Compared, same, other, compared}
 use Rattle.runs.proofs.Sets.{In, Distinct, mem→In, mem→Out, in-append, in-right, distinct-below, getD-in, distinct-at}
 use Rattle.cfg.specs.Graph.{CFG, successors}
 use Rattle.fsmd.specs.Layout.{none}
-use Rattle.grouping.specs.Visit.{Visitor, visit, visitFrom}
+use Rattle.grouping.specs.Visit.{visit, visitFrom}
 use Rattle.grouping.specs.Grouping.{populating, populateFrom, populate}
 use Rattle.grouping.proofs.Reach.{Closed, Reached, entry, along, reached-below}
 use Rattle.grouping.proofs.VisitLaws.{Came, came-reached, Outcome, Law, whole-visit, whole-fuel}
 
--- the state of a block
+-- the state of a block, where it has one
 abbrev pub stateIn : List ℕ → ℕ → ℕ
 stateIn states x = getD states x none
 
--- what holds of the owners between two fillings
+-- what holds of the states when some are populated
 pub record Taken (g : CFG) (starters states : List ℕ) : Type 0 where
   pub size : length states ≡ length (g .blocks)
   pub rooted : (u : ℕ) → stateIn states u ≢ none → (getD starters (stateIn states u) none ≡ u) ⊎ ((p : ℕ) × (stateIn states p ≡ stateIn states u) × In u (successors g p))
@@ -41,7 +42,7 @@ Dealt starters r path x states = (stateIn states x ≢ none) ⊎ (In x starters 
 abbrev pub Le : List ℕ → List ℕ → Type 0
 Le o o′ = (x : ℕ) → stateIn o x ≢ none → stateIn o′ x ≡ stateIn o x
 
--- one populating
+-- the population of one state
 module _ (g : CFG) (a : Closed g) (starters : List ℕ) (r k : ℕ) (k-small : k < none) (k-in : k < length starters) (k-at : getD starters k none ≡ r) (r-reach : Reached g r) where
   came-inv : (path : List ℕ) (x : ℕ) (o : List ℕ) → Inv g starters k path o → Came (successors g) r path x → Reached g x
   came-inv path x o i c = came-reached g r-reach path x (λ y j. i .taken .reach y (let e = i .on-path y j in omega arith)) c
@@ -191,7 +192,7 @@ abbrev pub populateWith : ℕ → CFG → List ℕ → ℕ → List ℕ → List
 populateWith n g starters k [] states = states
 populateWith n g starters k (r ∷ rs) states = populateWith n g starters (suc k) rs (visit (populating starters r k) (successors g) n [] r states)
 
--- all of them, one after another
+-- the population of all, one after another
 abbrev Sealed : CFG → List ℕ → List ℕ → Type 0
 Sealed g starters states = (u : ℕ) → stateIn states u ≢ none → (v : ℕ) → In v (successors g u) → (stateIn states v ≢ none) ⊎ In v starters
 

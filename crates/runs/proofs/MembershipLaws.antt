@@ -1,13 +1,12 @@
 -- What counting up, selecting, testing all and finding the first come to. Assumes nothing.
 use Prim.Native.Nat.{ℕ, zero, suc, _+_, _≤_, _<_}
-use mathlib.Core.Bool.{Bool, true, false, _&&_, false≢true}
+use mathlib.Core.Bool.{Bool, true, false, false≢true}
 use mathlib.Core.Logic.{_⊎_, inl, inr}
 use mathlib.Core.Path.{_≡_, refl, sym, _∙_, ap}
 use mathlib.Core.List.{List, [], _∷_}
-use mathlib.Core.Option.{Option, none, some}
+use mathlib.Core.Option.{none, some}
 use native.Mathlib.Omega.{arith}
-use lib.ListN.{length}
-use Rattle.runs.specs.Lists.{upFrom, keep, only, every, orElse, first}
+use Rattle.runs.specs.Lists.{upFrom, only, every, first}
 use Rattle.runs.proofs.Tests.{true-or-false, and-true, Compared, same, other, compared}
 use Rattle.runs.proofs.Sets.{In, Distinct}
 

@@ -1,2 +1,4 @@
+pub mod PlacementLaws
+pub mod StateOrder
 pub mod GraphFacts
 pub mod Selections

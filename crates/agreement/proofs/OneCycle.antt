@@ -21,6 +21,7 @@ use Rattle.grouping.specs.Grouping.{Groups}
 use Rattle.synthesis.specs.Placement.{order}
 use Rattle.synthesis.specs.Wires.{set-wire, towards, leadsTo, Edge, Point, Build, arrive, start, enter, after, put, build, leaves, nextStateOf, closeState, stateOf}
 use Rattle.synthesis.proofs.GraphFacts.{BlockFits, GraphFits}
+use Rattle.synthesis.proofs.StateOrder.{Ahead, Ordered, StateOrder}
 use Rattle.agreement.proofs.Environments.{wires-grow}
 use Rattle.agreement.proofs.Readings.{Reads, PointReads, start-reads}
 use Rattle.agreement.proofs.TakenEdges.{NoneTaken, OneTaken, none-grow, one-grow, none-towards, one-towards, one-away, arrive-grow, arrive-none, arrive-one}
@@ -32,25 +33,7 @@ pub data Trace (g : CFG) (st : List ℕ) (b : ℕ) (r : List ℕ) : ℕ → Conf
   next : {j : ℕ} {c c′ : Configuration} → Trace g st b r j c → (x : ℕ) → c .place ≡ standing x → mem x st ≡ false
       → c′ ≡ runBlock (blockOf g x) (c .registers) → Trace g st b r (suc j) c′
 
--- ---- what placement gives
-
--- each of vs is a starter or among xs
-abbrev pub Ahead : List ℕ → List ℕ → List ℕ → Type 0
-Ahead st xs [] = Unit {0}
-Ahead st xs (v ∷ vs) = ((mem v st ≡ true) ⊎ (mem v xs ≡ true)) × Ahead st xs vs
-
--- no block of the list is a starter, and each successor of one is a starter or stands later in the list
-abbrev pub Ordered : CFG → List ℕ → List ℕ → Type 0
-Ordered g st [] = Unit {0}
-Ordered g st (x ∷ xs) = (mem x st ≡ false) × Ahead st xs (successors g x) × Ordered g st xs
-
--- the blocks of state k in order: its starter b, then xs
-pub record Placed (g : CFG) (s : Groups) (k b : ℕ) : Type 0 where
-  pub others : List ℕ
-  pub order-is : order g s k ≡ b ∷ others
-  pub starter : mem b (s .starters) ≡ true
-  pub ahead : Ahead (s .starters) others (successors g b)
-  pub ordered : Ordered g (s .starters) others
+-- ---- where the blocks still to place are come to
 
 -- a place that is a starter, among xs, or halted
 abbrev Towards : List ℕ → List ℕ → Place → Type 0
@@ -212,7 +195,7 @@ state-is : (g : CFG) (s : Groups) (k : ℕ) (xs : List ℕ) → order g s k ≡ 
 unfolding stateOf
 state-is g s k xs h = rw h
 
-pub cycle-agrees : (g : CFG) (s : Groups) (rs : List ℕ) → length rs ≡ 16 → GraphFits g → (k b : ℕ) → Placed g s k b → CycleAgrees g s rs k b
+pub cycle-agrees : (g : CFG) (s : Groups) (rs : List ℕ) → length rs ≡ 16 → GraphFits g → (k b : ℕ) → StateOrder g s k b → CycleAgrees g s rs k b
 unfolding build
 cycle-agrees g s rs size f k b h =
     let R = g .registers in

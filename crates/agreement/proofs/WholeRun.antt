@@ -18,24 +18,15 @@ use Rattle.cfg.specs.Graph.{CFG, step}
 use Rattle.fsmd.specs.Layout.{none}
 use Rattle.fsmd.specs.Machine.{State, FSMD, emptyState, stateOf as stateAt, worked, toState, clock, cycle}
 use Rattle.grouping.specs.Grouping.{Groups}
-use Rattle.synthesis.specs.Placement.{order, members}
+use Rattle.synthesis.specs.Placement.{members}
 use Rattle.synthesis.specs.Wires.{leaves, nextStateOf, stateOf}
 use Rattle.synthesis.specs.Synthesis.{machineFor}
 use Rattle.synthesis.proofs.GraphFacts.{GraphFits}
+use Rattle.synthesis.proofs.StateOrder.{Arranged}
 use Rattle.agreement.specs.Agreement.{haltedWith, graphAfter, atStarter, moves, arrivals, Arrival, HaltBefore, EndOfCycle, machineAfter, stateIn, AgreeAfter}
 use Rattle.agreement.proofs.Readings.{Reads}
-use Rattle.agreement.proofs.OneCycle.{Placed, StateReads, CycleAgrees, cycle-agrees}
+use Rattle.agreement.proofs.OneCycle.{StateReads, CycleAgrees, cycle-agrees}
 use Rattle.agreement.proofs.Arrivals.{place-of, moves-zero, moves-add, trace-comes, trace-moves, arrival-once, arrival-or-halt, halted-once, standing-before, halting-step}
-
--- what grouping and placement give
-pub record Arranged (g : CFG) (s : Groups) : Type 0 where
-  pub few : length (s .starters) ≤ none
-  pub entry : mem 0 (s .starters) ≡ true
-  pub entry-state : stateIn s 0 ≡ 0
-  pub home : (b : ℕ) → mem b (s .starters) ≡ true → stateIn s b < length (s .starters)
-  pub own : (b : ℕ) → mem b (s .starters) ≡ true → getD (s .starters) (stateIn s b) none ≡ b
-  pub placed : (b : ℕ) → mem b (s .starters) ≡ true → Placed g s (stateIn s b) b
-  pub sized : (k : ℕ) → length (order g s k) ≤ length (members g s k)
 
 -- ---- one cycle of the machine
 

@@ -1,22 +1,22 @@
 -- The values of the wires that synthesis makes, from the laws of words over all codes. Assumes nothing.
-use Prim.Native.Nat.{ℕ, zero, suc, _≤_, _<_}
+use Prim.Native.Nat.{ℕ, _<_}
 use native.Mathlib.Omega.{arith}
 use mathlib.Core.Path.{_≡_, refl, ap, ap₂, _∙_}
-use mathlib.Core.Bool.{Bool, true, false, not, _&&_, _||_, false≢true}
-use mathlib.Core.List.{List, [], _∷_}
-use lib.ListN.{getD, take}
-use lib.Dec.{eqb, leb, ltb}
+use mathlib.Core.Bool.{Bool, true, false, not, _&&_, _||_}
+use mathlib.Core.List.{List}
+use lib.ListN.{getD}
+use lib.Dec.{eqb, ltb}
 use lib.Bits.{bitAnd, bitOr}
-use borrow.Author.Tests.{leb-true, le-ltb, eqb-false}
+use borrow.Author.Tests.{le-ltb, eqb-false}
 use Rattle.word.specs.declared.Comparison.{Comparison}
 use Rattle.word.specs.declared.Comparison.the-variants.{Eq, Ne, Lt, Ge, Ltu, Geu}
-use Rattle.word.specs.Word.{choose, truth, compareOf, codeOf, evalOf, andNotOf, arities, arity}
+use Rattle.word.specs.Word.{choose, truth, compareOf, codeOf, evalOf, andNotOf, arity}
 use Rattle.word.proofs.WireLaws.{eval-uses, and-truth, or-truth, and-not-truth, select-truth}
 use Rattle.word.proofs.Laws.{eval-compare}
-use Rattle.runs.specs.Lists.{every}
 use Rattle.cfg.specs.declared.Instruction.{Instruction}
 use Rattle.cfg.specs.Graph.{valueOf}
 use Rattle.fsmd.specs.Machine.{wireValue}
+use Rattle.synthesis.proofs.GraphFacts.{two-operands}
 use Rattle.synthesis.specs.Wires.{wire, set-wire, and-wire, or-wire, and-not-wire, select-wire, instructionWire}
 use Rattle.cfg.proofs.Admitted.{ValidInstruction}
 
@@ -59,22 +59,6 @@ comparison-value at q a b =
 
 -- ---- an instruction's wire
 
-low : (l : List ℕ) (n : ℕ) → every (λ x. leb x 2) (take n l) ≡ true → (k : ℕ) → k < n → getD l k 0 ≤ 2
-low [] n h k d = omega arith
-low (x ∷ l) zero h k d = absurd (omega arith)
-low (x ∷ l) (suc n) h k d = go (leb x 2) refl h (low l n) k d
-  where
-    go : (t : Bool) → leb x 2 ≡ t → (t && every (λ x. leb x 2) (take n l)) ≡ true
-        → (every (λ x. leb x 2) (take n l) ≡ true → (k : ℕ) → k < n → getD l k 0 ≤ 2) → (k : ℕ) → k < suc n → getD (x ∷ l) k 0 ≤ 2
-    go true e h ih zero d = leb-true x 2 e
-    go true e h ih (suc k) d = ih h k (omega arith)
-    go false e h ih k d = absurd (false≢true h)
-
--- no instruction reads a third operand
-arity-low : (k : ℕ) → k ≤ 11 → arity k ≤ 2
-unfolding arity
-arity-low k h = low arities 12 refl k (omega arith)
-
 set-or-read : (t : Bool) (at refs : ℕ → ℕ) (a x : ℕ) → (t ≡ false → at (refs a) ≡ x)
     → choose t (choose t a (refs a)) (at (choose t a (refs a))) ≡ choose t a x
 set-or-read true at refs a x h = refl
@@ -88,7 +72,7 @@ unfolding wireValue instructionWire
 instruction-value at refs R q i f h =
     let k = i .code in
     let t = eqb k 1 in
-    let n = arity-low k (f .codeHigh) in
+    let n = two-operands f in
     eval-uses
     (choose t (choose t (i .a) (refs (i .a))) (at (choose t (i .a) (refs (i .a)))))
     (at (choose (ltb (arity k) 2) 0 (refs (i .b))))

@@ -3,9 +3,15 @@ use Prim.Native.Nat.{ℕ, zero, suc, _≤_, _<_}
 use native.Mathlib.Omega.{arith}
 use native.Mathlib.Decide.{decLt}
 use mathlib.Core.Path.{_≡_, refl, sym, _∙_}
+use mathlib.Core.Bool.{true}
 use mathlib.Core.List.{List, [], _∷_}
 use lib.ListN.{length, getD, take, length-take, List·getD-eq-default}
 use lib.Seq.{getD-take}
+use lib.Dec.{leb}
+use borrow.Author.Tests.{leb-true}
+use Rattle.word.specs.Word.{arities, arity}
+use Rattle.runs.specs.Lists.{every}
+use Rattle.runs.proofs.ListLaws.{and-left, and-right}
 use Rattle.cfg.specs.declared.Instruction.{Instruction}
 use Rattle.cfg.specs.declared.Ending.{Ending}
 use Rattle.cfg.specs.declared.Ending.the-variants.{Goto, Ite, Halt}
@@ -72,3 +78,15 @@ graph-fits g v =
     go : (n : ℕ) → Dec (n < length (g .blocks)) → BlockFits (g .registers) (blockOf g n)
     go n (yes l) = block-fits (length (g .blocks)) (g .registers) (blockOf g n) (v .block n l)
     go n (no l) = rw (List·getD-eq-default (g .blocks) emptyBlock {n = n} (omega arith)) (empty-fits (g .registers))
+
+-- ---- no instruction reads a third operand
+
+low : (l : List ℕ) (n : ℕ) → every (λ x. leb x 2) (take n l) ≡ true → (k : ℕ) → k < n → getD l k 0 ≤ 2
+low [] n h k d = omega arith
+low (x ∷ l) zero h k d = absurd (omega arith)
+low (x ∷ l) (suc n) h zero d = leb-true x 2 (and-left (leb x 2) (every (λ x. leb x 2) (take n l)) h)
+low (x ∷ l) (suc n) h (suc k) d = low l n (and-right (leb x 2) (every (λ x. leb x 2) (take n l)) h) k (omega arith)
+
+pub two-operands : {R : ℕ} {i : Instruction} → ValidInstruction R i → arity (i .code) ≤ 2
+unfolding arity
+two-operands {R} {i} v = low arities 12 refl (i .code) (let h = v .codeHigh in omega arith)

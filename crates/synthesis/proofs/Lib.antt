@@ -2,3 +2,4 @@ pub mod PlacementLaws
 pub mod StateOrder
 pub mod GraphFacts
 pub mod Selections
+pub mod Validity

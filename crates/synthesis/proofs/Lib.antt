@@ -3,3 +3,4 @@ pub mod StateOrder
 pub mod GraphFacts
 pub mod Selections
 pub mod Validity
+pub mod WireCount

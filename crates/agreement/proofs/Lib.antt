@@ -6,3 +6,4 @@ pub mod OneCycle
 pub mod Arrivals
 pub mod WholeRun
 pub mod RunAnswers
+pub mod TableAgreement

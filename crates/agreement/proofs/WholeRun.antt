@@ -10,19 +10,19 @@ use lib.ListN.{length, getD, drop, length-append, length-map, length-drop}
 use lib.Dec.{ltb}
 use borrow.Author.Tests.{lt-ltb, le-ltb}
 use Rattle.word.specs.Word.{choose}
-use Rattle.runs.specs.Lists.{upFrom, mem}
+use Rattle.runs.specs.Lists.{mem}
 use Rattle.runs.specs.Runs.{Place, standing, halted, Configuration, startAt, times}
-use Rattle.runs.proofs.ListLaws.{length-upFrom, getD-map-upFrom}
 use Rattle.runs.proofs.RunLaws.{never-both, times-zero, times-add, times-last}
 use Rattle.cfg.specs.Graph.{CFG, step}
 use Rattle.fsmd.specs.Layout.{none}
-use Rattle.fsmd.specs.Machine.{State, FSMD, emptyState, stateOf as stateAt, worked, toState, clock, cycle}
+use Rattle.fsmd.specs.Machine.{State, FSMD, stateOf as stateAt, worked, toState, clock, cycle}
 use Rattle.grouping.specs.Grouping.{Groups}
 use Rattle.synthesis.specs.Placement.{members}
 use Rattle.synthesis.specs.Wires.{leaves, nextStateOf, stateOf}
 use Rattle.synthesis.specs.Synthesis.{machineFor}
 use Rattle.synthesis.proofs.GraphFacts.{GraphFits}
 use Rattle.synthesis.proofs.StateOrder.{Arranged}
+use Rattle.synthesis.proofs.MachineFacts.{states-count, state-at, registers-are}
 use Rattle.agreement.specs.Agreement.{haltedWith, graphAfter, atStarter, moves, arrivals, Arrival, HaltBefore, EndOfCycle, machineAfter, stateIn, AgreeAfter}
 use Rattle.agreement.proofs.Readings.{Reads}
 use Rattle.agreement.proofs.OneCycle.{StateReads, CycleAgrees, cycle-agrees}
@@ -45,25 +45,13 @@ unfolding cycle
 cycle-halted m c h = rw h
 
 module _ (g : CFG) (s : Groups) where
-  pub states-count : length (machineFor g s .states) ≡ length (s .starters)
-  unfolding machineFor
-  states-count = length-map (upFrom 0 (length (s .starters))) (stateOf g s) ∙ length-upFrom 0 (length (s .starters))
-
-  pub state-at : (k : ℕ) → k < length (s .starters) → stateAt (machineFor g s) k ≡ stateOf g s k
-  unfolding machineFor
-  state-at k h = getD-map-upFrom (stateOf g s) (length (s .starters)) k emptyState h
-
-  registers-are : machineFor g s .registers ≡ g .registers
-  unfolding machineFor
-  registers-are = refl
-
   cycle-reads : (k : ℕ) (rs : List ℕ) (v : ℕ) (qs : List ℕ) → k < length (s .starters) → StateReads g (stateOf g s k) rs v qs
       → cycle (machineFor g s) (startAt k rs) ≡ record { place = toState (length (s .starters)) v; registers = qs }
   cycle-reads k rs v qs h l =
       cycle-clock (machineFor g s) k rs
-      ∙ ap (λ (q : State). clock (machineFor g s) q rs) (state-at k h)
-      ∙ clock-reads (machineFor g s) (stateOf g s k) rs v qs (rw registers-are l)
-      ∙ ap (λ (n : ℕ). record { place = toState n v; registers = qs }) states-count
+      ∙ ap (λ (q : State). clock (machineFor g s) q rs) (state-at g s k h)
+      ∙ clock-reads (machineFor g s) (stateOf g s k) rs v qs (rw (registers-are g s) l)
+      ∙ ap (λ (n : ℕ). record { place = toState n v; registers = qs }) (states-count g s)
 
 reads-length : {R : ℕ} {high E : List ℕ} {t : ℕ} {vs : List ℕ} {v : ℕ} {q : List ℕ} → Reads R high E t vs v q → length q ≡ R + length high
 reads-length {R} {high} {E} {t} {vs} l = sym (ap length (l .words)) ∙ simp (length-append, length-map) (let c = l .count in omega arith)

@@ -4,3 +4,4 @@ pub mod GraphFacts
 pub mod Selections
 pub mod Validity
 pub mod WireCount
+pub mod MachineFacts

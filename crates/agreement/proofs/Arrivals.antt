@@ -13,7 +13,7 @@ use Rattle.runs.specs.Runs.{Place, standing, halted, Configuration, startAt, on
 use Rattle.runs.proofs.RunLaws.{never-both, times-zero, times-add, times-last, times-halted}
 use Rattle.cfg.specs.Graph.{CFG, blockOf, runBlock, step}
 use Rattle.agreement.specs.Agreement.{haltedWith, graphAfter, atStarter, moves, arrivals, Arrival, HaltBefore}
-use Rattle.agreement.proofs.OneCycle.{Trace, first, next}
+use Rattle.synthesis.proofs.OneCycle.{Trace, first, next}
 
 -- ---- one step
 

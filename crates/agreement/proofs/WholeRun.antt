@@ -24,8 +24,8 @@ use Rattle.synthesis.proofs.GraphFacts.{GraphFits}
 use Rattle.synthesis.proofs.StateOrder.{Arranged}
 use Rattle.synthesis.proofs.MachineFacts.{states-count, state-at, registers-are}
 use Rattle.agreement.specs.Agreement.{haltedWith, graphAfter, atStarter, moves, arrivals, Arrival, HaltBefore, EndOfCycle, machineAfter, stateIn, AgreeAfter}
-use Rattle.agreement.proofs.Readings.{Reads}
-use Rattle.agreement.proofs.OneCycle.{StateReads, CycleAgrees, cycle-agrees}
+use Rattle.synthesis.proofs.Readings.{Reads}
+use Rattle.synthesis.proofs.OneCycle.{StateReads, CycleAgrees, cycle-agrees}
 use Rattle.agreement.proofs.Arrivals.{place-of, moves-zero, moves-add, trace-comes, trace-moves, arrival-once, arrival-or-halt, halted-once, standing-before, halting-step}
 
 -- ---- one cycle of the machine

@@ -27,7 +27,7 @@ use Rattle.synthesis.specs.Placement.{order}
 use Rattle.synthesis.specs.Wires.{wire, set-wire, and-wire, or-wire, and-not-wire, select-wire, selects, Edge, Point, Build, fresh, join, joins, arrive, start}
 use Rattle.synthesis.specs.Wires.{instructionWire, assign, assigns, edge, close, leadsTo, towards, enter, after, put, build, leaves, nextStateOf, exit, exits, closeState, stateOf}
 use Rattle.synthesis.proofs.GraphFacts.{ValidCode, Compares, BlockFits, GraphFits, two-operands}
-use Rattle.synthesis.proofs.Selections.{length-selects}
+use Rattle.synthesis.proofs.SelectionCount.{length-selects}
 use Rattle.synthesis.proofs.StateOrder.{Ahead, Ordered, StateOrder}
 
 -- ---- references, where the next wire is number n

@@ -25,7 +25,7 @@ use Rattle.synthesis.specs.Wires.{wire, set-wire, and-wire, or-wire, and
 use Rattle.synthesis.specs.Wires.{instructionWire, assign, assigns, close, leadsTo, towards, enter, after, put, build, leaves, nextStateOf, exit, exits, closeState, stateOf}
 use Rattle.synthesis.proofs.GraphFacts.{GraphFits}
 use Rattle.synthesis.proofs.PlacementLaws.{order-length}
-use Rattle.synthesis.proofs.Selections.{selects-short}
+use Rattle.synthesis.proofs.SelectionCount.{selects-short}
 use Rattle.synthesis.proofs.Validity.{EdgesValid, BuildValid, edges-towards, put-valid, build-valid, empty-valid}
 
 -- edges of at most 16 registers

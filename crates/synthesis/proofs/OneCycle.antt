@@ -18,14 +18,14 @@ use Rattle.cfg.specs.declared.Ending.the-variants.{Goto, Ite, Halt}
 use Rattle.cfg.specs.Graph.{CFG, blockOf, codeOf, targets, successors, executeAll, holds, leave, runBlock}
 use Rattle.fsmd.specs.Machine.{State, worked}
 use Rattle.grouping.specs.Grouping.{Groups}
 use Rattle.synthesis.specs.Placement.{order}
 use Rattle.synthesis.specs.Wires.{set-wire, towards, leadsTo, Edge, Point, Build, arrive, start, enter, after, put, build, leaves, nextStateOf, closeState, stateOf}
 use Rattle.synthesis.proofs.GraphFacts.{BlockFits, GraphFits}
 use Rattle.synthesis.proofs.StateOrder.{Ahead, Ordered, StateOrder}
-use Rattle.agreement.proofs.Environments.{wires-grow}
-use Rattle.agreement.proofs.Readings.{Reads, PointReads, start-reads}
-use Rattle.agreement.proofs.TakenEdges.{NoneTaken, OneTaken, none-grow, one-grow, none-towards, one-towards, one-away, arrive-grow, arrive-none, arrive-one}
-use Rattle.agreement.proofs.TakenEdges.{blockMade, made-reached, made-passed, close-state-one}
+use Rattle.synthesis.proofs.Environments.{wires-grow}
+use Rattle.synthesis.proofs.Readings.{Reads, PointReads, start-reads}
+use Rattle.synthesis.proofs.TakenEdges.{NoneTaken, OneTaken, none-grow, one-grow, none-towards, one-towards, one-away, arrive-grow, arrive-none, arrive-one}
+use Rattle.synthesis.proofs.TakenEdges.{blockMade, made-reached, made-passed, close-state-one}
 
 -- The graph's run from block b with registers r: in j steps it comes to c, and no step but the last moves to one of the blocks st.
 pub data Trace (g : CFG) (st : List ℕ) (b : ℕ) (r : List ℕ) : ℕ → Configuration → Type 0 where

@@ -10,8 +10,8 @@ use Rattle.word.specs.Word.{choose, truth}
 use Rattle.runs.specs.Lists.{upFrom}
 use Rattle.fsmd.specs.declared.Wire.{Wire}
 use Rattle.fsmd.specs.Machine.{wireValue, worked}
 use Rattle.synthesis.specs.Wires.{selects, select-wire}
-use Rattle.agreement.proofs.WireValues.{select-value}
+use Rattle.synthesis.proofs.WireValues.{select-value}
 
 abbrev pub at : List ℕ → ℕ → ℕ
 at E r = getD E r 0

@@ -17,12 +17,12 @@ use Rattle.cfg.specs.Graph.{codeOf, execute, executeAll, holds, leave, runBlock
 use Rattle.fsmd.specs.declared.Wire.{Wire}
 use Rattle.fsmd.specs.Machine.{worked}
 use Rattle.grouping.specs.Grouping.{Groups}
 use Rattle.synthesis.specs.Wires.{wire, set-wire, and-wire, or-wire, and-not-wire, select-wire, selects, Edge, Point, Build, fresh, join, joins, arrive}
 use Rattle.synthesis.specs.Wires.{instructionWire, assign, assigns, edge, close, towards, after, exit, exits, closeState, nextStateOf}
 use Rattle.synthesis.proofs.GraphFacts.{ValidCode, Compares, BlockFits}
-use Rattle.agreement.proofs.WireValues.{set-value}
-use Rattle.agreement.proofs.Environments.{at, worked-append, worked-nil, worked-cons, Grows, grows-refl, grows-trans, wires-grow}
-use Rattle.agreement.proofs.Readings.{Reads, reads-grow, reads-put, reads-ite, reads-exit, PointReads, fresh-is, assign-reads, join-reads, start-reads}
+use Rattle.synthesis.proofs.WireValues.{set-value}
+use Rattle.synthesis.proofs.Environments.{at, worked-append, worked-nil, worked-cons, Grows, grows-refl, grows-trans, wires-grow}
+use Rattle.synthesis.proofs.Readings.{Reads, reads-grow, reads-put, reads-ite, reads-exit, PointReads, fresh-is, assign-reads, join-reads, start-reads}
 
 -- in the environment E, for R registers
 module _ (R : ℕ) (high : List ℕ) (E : List ℕ) where

@@ -13,12 +13,12 @@ use Rattle.cfg.specs.declared.Condition.{Condition}
 use Rattle.cfg.specs.Graph.{valueOf, execute, holds}
 use Rattle.fsmd.specs.declared.Wire.{Wire}
 use Rattle.fsmd.specs.Machine.{wireValue, worked}
 use Rattle.synthesis.specs.Wires.{wire, set-wire, and-wire, or-wire, and-not-wire, select-wire, selects, Edge, Point, fresh, join, instructionWire, assign}
 use Rattle.runs.proofs.ListLaws.{length-upFrom}
 use Rattle.cfg.proofs.Admitted.{ValidInstruction}
-use Rattle.agreement.proofs.WireValues.{set-value, and-value, or-value, and-not-value, select-value, comparison-value, instruction-value}
-use Rattle.agreement.proofs.Environments.{at, Below, worked-append, worked-nil, worked-cons, worked-selects, snoc-length, length-worked, Grows, worked-grows}
-use Rattle.agreement.proofs.Environments.{below-mono, below-at, below-set, below-upFrom, map-append, map-set, getD-map, map-behind, map-registers}
+use Rattle.synthesis.proofs.WireValues.{set-value, and-value, or-value, and-not-value, select-value, comparison-value, instruction-value}
+use Rattle.synthesis.proofs.Environments.{at, Below, worked-append, worked-nil, worked-cons, worked-selects, snoc-length, length-worked, Grows, worked-grows}
+use Rattle.synthesis.proofs.Environments.{below-mono, below-at, below-set, below-upFrom, map-append, map-set, getD-map, map-behind, map-registers}
 
 -- In the environment E reference t reads v, and the references vs, one for each of R registers, read q; q's words from R up are `high`.
 pub record Reads (R : ℕ) (high : List ℕ) (E : List ℕ) (t : ℕ) (vs : List ℕ) (v : ℕ) (q : List ℕ) : Type 0 where

@@ -1,4 +1,3 @@
-pub mod Tests
 pub mod Windows
 pub mod Environment
 pub mod Machines

@@ -11,6 +11,7 @@ use lib.Dec.{eqb, leb}
 use borrow.Author.Tests.{le-leb}
 use Rattle.runs.specs.Lists.{upFrom, padded, concatMap}
 use Rattle.runs.specs.Runs.{Place, Configuration, standing, halted, onward}
+use Rattle.runs.proofs.Tests.{or-right}
 use Rattle.runs.proofs.ListLaws.{length-upFrom, getD-map-upFrom, padded-append, length-padded}
 use Rattle.fsmd.specs.declared.Wire.{Wire}
 use Rattle.fsmd.specs.Layout.{maxStates, maxBlocks, maxRegisters, maxWires, wireWords, recordWords, recordOffset, wireOffset, none}
@@ -248,11 +249,6 @@ module _ (m : FSMD) (rest : List ℕ) where
 
 -- ---- the machine that a machine's table holds
 
-or-third : (a b d : Bool) → a || b || true || d ≡ true
-or-third true b d = refl
-or-third false true d = refl
-or-third false false d = refl
-
 -- a cycle goes by the registers and the states alone
 same-cycle : (m n : FSMD) → m .registers ≡ n .registers → m .states ≡ n .states → (c : Configuration) → cycle m c ≡ cycle n c
 unfolding cycle clock
@@ -294,8 +290,8 @@ module _ (m : FSMD) (rest : List ℕ) (few : length (m .states) ≤ maxStates) (
             let b : k < length (m .states) = omega arith in
             let a : j < length (m .states) = omega arith in
             rw (le-leb (firstWireAt t j + wireCountAt t j) (firstWireAt t k)
-            (omega (arith, back-first m rest few room k b, back-first m rest few room j a, back-count m rest few room j a, before-less (m .states) j k l b)))
-            (or-third (eqb (wireCountAt t j) 0) (eqb (wireCountAt t k) 0) (leb (firstWireAt t k + wireCountAt t k) (firstWireAt t j)));
+            (omega (arith, back-first m rest few room k b, back-first m rest few room j a, back-count m rest few room j a, before-less (m .states) j k l b)),
+            or-right (eqb (wireCountAt t j) 0 || eqb (wireCountAt t k) 0) true refl);
         valid = λ k h.
             let b : k < length (m .states) = omega arith in
             ap₂ validState r (back-state m rest few room k b small (nexts k b)) ∙ valid k b;

@@ -107,7 +107,7 @@ pub fn cycle(table: &[u32], k: usize, registers: Registers, words: &mut [u32]) -
     let at = record(k);
     let count = wire_count(table, k);
     let n = Machine::REGISTERS + count;
-    word::buffer::store(words, registers);
+    runs::store(words, registers);
     work(words, table, first_wire(table, k), count);
     let state = read(words, n, table[at + Machine::NEXT_STATE]);
     let next = taken(

@@ -70,9 +70,9 @@ pub fn run_machine(table: &[u32], registers: &mut [u32], start: u32, budget: u32
     if states <= start {
         return RunAnswer::Refused(9);
     }
-    let ran = run(table, word::buffer::load(registers), start, budget);
+    let ran = run(table, runs::load(registers), start, budget);
     let left = ran.registers;
     let answer = ran.answer;
-    word::buffer::store(registers, left);
+    runs::store(registers, left);
     answer
 }

@@ -1,4 +1,6 @@
-use Rattle.fsmd.proofs.Tests.{ltb-same}
+use borrow.Author.Tests.{lt-ltb, le-ltb, le-leb, lt-leb, ltb-true}
+use lib.Dec.{ltb}
+use Rattle.runs.proofs.ListLaws.{same-test}
 use borrow.Author.Tests.{lt-ltb, le-ltb, le-leb, lt-leb}
 use Prim.Native.Nat.{_+_, _-_}
 use native.Mathlib.Omega.{arith}
@@ -27,8 +29,11 @@ returns-2 c =
 returns-3 : tie.Need-returns-3
 returns-3 c =
     let a = c .before .before .before .args in
+    let i = c .before .before .wide .result - 16 in
     rw (le-ltb (a .x) (a .registers) (omega arith), le-leb 16 (a .x) (omega arith))
-    (ltb-same (c .before .before .wide .result - 16) (a .n) (a .x) (16 + a .n) (λ h. omega arith) (λ h. omega arith))
+    (same-test (ltb i (a .n)) (ltb (a .x) (16 + a .n))
+    (λ e. let h = ltb-true i (a .n) e in lt-ltb (a .x) (16 + a .n) (omega arith))
+    (λ e. let h = ltb-true (a .x) (16 + a .n) e in lt-ltb i (a .n) (omega arith)))
 
 pub valid-reference-spec : {M : Type 1} → statement M
 valid-reference-spec = tie.close (tie.spec wide-requires returns returns-2 returns-3)

@@ -1,3 +1,6 @@
+use lib.Seq.{take-at}
+use lib.ListN.{length, take, drop, length-append, length-drop}
+use native.Mathlib.Omega.{arith}
 use mathlib.Core.Path.{_≡_, ap, _∙_}
 use mathlib.Core.List.{List}
 use Prim.Native.Nat.{ℕ, _+_}
@@ -18,7 +21,6 @@ use Rattle.fsmd.proofs.table.first_wire.Reads as first-wire-reads
 use Rattle.fsmd.proofs.table.record.Reads as record-reads
 use Rattle.fsmd.proofs.table.wide.Reads as wide-reads
 use Rattle.fsmd.proofs.table.wire_count.Reads as wire-count-reads
-use Rattle.word.proofs.buffer.store.Reads as store-reads
 
 -- src/clock.rt:107:9
 record-requires : tie.Need-record-requires
@@ -85,16 +87,19 @@ returns : tie.Need-returns
 returns c =
     let b = c .before .before .before .before .before .before .before .before .before in
     let l = b .before .before .before .before .before in
-    let a = l .before .before .before .before .before .before .args in
+    let s = l .before .before .before .before .before .before in
+    let a = s .args in
     let t = now (a .table) in
     let rs = a .registers .words in
+    let ws = now (a .words) in
     let f = b .before .first-wire in
     let n = l .before .before .wire-count in
     let p = l .before .before .before .«record» in
     let m = c .before .wide in
+    let h : length rs ≡ 16 = omega (arith, s .pre .1, l .store .kept .0, ap length (l .store .ensures), length-append rs (drop 16 ws), length-drop 16 ws) in
     clocked t (a .k) (f .result) (n .result) (p .result) (m .result) (f .ensures .0) (n .ensures .0) (p .ensures) (m .ensures .0) rs
     (take (16 + n .result) (b .work .last .0)) (c .taken .result .words) (c .before .before .before .before .read .result)
-    (b .work .ensures ∙ ap (λ (v : List ℕ). worked v (wiresFrom t (f .result) (n .result))) (l .store .ensures .1))
+    (b .work .ensures ∙ ap (λ (v : List ℕ). worked v (wiresFrom t (f .result) (n .result))) (ap (take 16) (l .store .ensures) ∙ take-at rs (drop 16 ws) 16 h))
     (c .before .before .before .before .read .ensures)
     (c .taken .ensures)
 

@@ -1,7 +1,9 @@
+use Rattle.runs.proofs.ListLaws.{getD-map, copied-more}
+use lib.ListN.{length, take, drop, getD, set, length-set, length-map}
+use mathlib.Core.Path.{_≡_, refl, sym, ap, ap₂, _∙_}
 use lib.Seq.{take-all}
 use lib.ListN.{length, take, drop, getD, set, length-set}
 use mathlib.Core.List.{List, _++_, map}
-use Rattle.fsmd.proofs.Environment.{map-next}
 use Rattle.fsmd.proofs.Windows.{window-length, window-at}
 use denote.Ref.{now}
 use lib.ListN.{length, take, drop, getD, length-set}
@@ -18,8 +20,7 @@ use Rattle.fsmd.proofs.clock.read.Reads as read-reads
 
 abbrev Inv-loop : tie.InvT-loop
 Inv-loop words n table at count next₀ i₀ next i =
-    (i ≤ count)
-    × (next .words ≡ map (λ x. getD (take n words) x 0) (take i (take count (drop at table))) ++ drop i (next₀ .words))
+    (i ≤ count) × (next .words ≡ take i (map (λ x. getD (take n words) x 0) (take count (drop at table))) ++ drop i (next₀ .words))
 
 abbrev μ-loop : tie.MeasureT-loop
 μ-loop words n table at count next₀ i₀ next i = count - i
@@ -67,14 +68,16 @@ loop-again c =
     let a = b .before .before .before .args in
     let t = now (a .table) in
     let i = b .loop .i in
+    let f : ℕ → ℕ = λ x. getD (take (a .n) (now (a .words))) x 0 in
     let s = take (a .count) (drop (a .at) t) in
     let q = c .before .before .loop-test .taken in
     let e : length s ≡ a .count = window-length t (a .at) (a .count) (search needs) in
-    let l : length (a .registers .words) ≡ 16 = search needs in (
+    let k : length (map f s) ≡ a .count = length-map s f ∙ e in
+    let l : length (a .registers .words) ≡ 16 = search needs in
+    (
       omega arith,
-      ap (λ (l : List ℕ). set l i (c .read .result)) (b .loop .inv .1)
-          ∙ map-next (λ x. getD (take (a .n) (now (a .words))) x 0) s (a .registers .words) i (c .read .result) (omega arith) (omega arith)
-          (c .read .ensures ∙ ap (λ (x : ℕ). getD (take (a .n) (now (a .words))) x 0) (sym (window-at t (a .at) (a .count) i q))),
+      ap₂ (λ (l : List ℕ) (x : ℕ). set l i x) (b .loop .inv .1) (c .read .ensures ∙ ap f (sym (window-at t (a .at) (a .count) i q)) ∙ sym (getD-map f s i 0 0 (omega arith)))
+          ∙ copied-more (a .registers .words) (map f s) i (omega arith) (omega arith),
     )
 
 -- src/clock.rt:83:1
@@ -83,10 +86,11 @@ returns c =
     let b = c .before in
     let a = b .before .before .before .args in
     let t = now (a .table) in
+    let f : ℕ → ℕ = λ x. getD (take (a .n) (now (a .words))) x 0 in
     let s = take (a .count) (drop (a .at) t) in
-    let e : length s ≡ a .count = window-length t (a .at) (a .count) (search needs) in
+    let e : length (map f s) ≡ a .count = length-map s f ∙ window-length t (a .at) (a .count) (search needs) in
     let i : b .loop .i ≡ a .count = omega arith in
-    b .loop .inv .1 ∙ rw (i, take-all (a .count) s (omega arith))
+    b .loop .inv .1 ∙ rw (i, take-all (a .count) (map f s) (omega arith))
 
 pub taken-spec : {M : Type 1} → statement M
 taken-spec =

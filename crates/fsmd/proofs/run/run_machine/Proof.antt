@@ -15,8 +15,6 @@ use Rattle.fsmd.proofs.run.run_machine.Reads as reads
 use Rattle.fsmd.proofs.run.run_machine.Lts as lts
 use Rattle.fsmd.proofs.admission.admitted.Reads as admitted-reads
 use Rattle.fsmd.proofs.run.run.Reads as run-reads
-use Rattle.word.proofs.buffer.load.Reads as load-reads
-use Rattle.word.proofs.buffer.store.Reads as store-reads
 
 -- src/run.rt:62:9
 returns : tie.Need-returns
@@ -87,9 +85,10 @@ returns-5 c =
     let m = cycle (machineOf t) in
     let e = refuse-none t rs (a .start) (c .before .before .before .before .before .before .before .before .before .before .before .before .before .if1 .left) (c .before .before .before .before .before .before .before .before .before .before .before .before .if2 .left) (sym (c .before .before .before .before .before .before .before .before .before .before .before .admitted .ensures) ∙ not-false _ (c .before .before .before .before .before .before .before .before .before .before .if3 .left)) (c .before .before .before .before .before .before .before .before .if4 .left) in
     let r = c .before .before .before .before .before .run .ensures in
-    let l = c .before .before .before .before .before .before .load .ensures in (
+    let l = c .before .before .before .before .before .before .load .ensures in
+    (
       r .0 ∙ ap (λ (x : List ℕ). answer m (a .budget) (startAt (a .start) x)) l ∙ sym (run-answer t rs (a .start) (a .budget) e),
-      c .before .before .store .ensures .0
+      c .before .before .store .ensures
           ∙ ap (λ (x : List ℕ). x ++ drop 16 rs) (r .1 ∙ ap (λ (x : List ℕ). registersAfter m (a .budget) (startAt (a .start) x)) l)
           ∙ sym (run-registers t rs (a .start) (a .budget) e),
     )

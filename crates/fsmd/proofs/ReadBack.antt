@@ -289,9 +289,11 @@ module _ (m : FSMD) (rest : List ℕ) (few : length (m .states) ≤ maxStates) (
         separate = λ j k l h.
             let b : k < length (m .states) = omega arith in
             let a : j < length (m .states) = omega arith in
-            rw (le-leb (firstWireAt t j + wireCountAt t j) (firstWireAt t k)
-            (omega (arith, back-first m rest few room k b, back-first m rest few room j a, back-count m rest few room j a, before-less (m .states) j k l b)),
-            or-right (eqb (wireCountAt t j) 0 || eqb (wireCountAt t k) 0) true refl);
+            rw (
+              le-leb (firstWireAt t j + wireCountAt t j) (firstWireAt t k)
+                  (omega (arith, back-first m rest few room k b, back-first m rest few room j a, back-count m rest few room j a, before-less (m .states) j k l b)),
+              or-right (eqb (wireCountAt t j) 0 || eqb (wireCountAt t k) 0) true refl,
+            );
         valid = λ k h.
             let b : k < length (m .states) = omega arith in
             ap₂ validState r (back-state m rest few room k b small (nexts k b)) ∙ valid k b;

@@ -85,8 +85,7 @@ returns-5 c =
     let m = cycle (machineOf t) in
     let e = refuse-none t rs (a .start) (c .before .before .before .before .before .before .before .before .before .before .before .before .before .if1 .left) (c .before .before .before .before .before .before .before .before .before .before .before .before .if2 .left) (sym (c .before .before .before .before .before .before .before .before .before .before .before .admitted .ensures) ∙ not-false _ (c .before .before .before .before .before .before .before .before .before .before .if3 .left)) (c .before .before .before .before .before .before .before .before .if4 .left) in
     let r = c .before .before .before .before .before .run .ensures in
-    let l = c .before .before .before .before .before .before .load .ensures in
-    (
+    let l = c .before .before .before .before .before .before .load .ensures in (
       r .0 ∙ ap (λ (x : List ℕ). answer m (a .budget) (startAt (a .start) x)) l ∙ sym (run-answer t rs (a .start) (a .budget) e),
       c .before .before .store .ensures
           ∙ ap (λ (x : List ℕ). x ++ drop 16 rs) (r .1 ∙ ap (λ (x : List ℕ). registersAfter m (a .budget) (startAt (a .start) x)) l)

@@ -1,0 +1,72 @@
+-- "Listing" of paper 01: its bytes, the answer and the final output, on all inputs. Assumes nothing.
+use Prim.Native.Nat.{ℕ}
+use mathlib.Core.Bool.{Bool, true, false}
+use mathlib.Core.List.{List, [], _∷_, _++_}
+use lib.ListN.{length, getD, drop}
+use lib.Dec.{eqb, ltb}
+use Rattle.word.specs.Word.{choose}
+use Rattle.runs.specs.Lists.{upFrom, only, concatMap}
+use Rattle.decimal.specs.Decimal.{decimalOf}
+use Rattle.cfg_line.specs.Name.{bytes}
+use Rattle.cfg_text.specs.Walk.{Reading, refused, read}
+use Rattle.cfg_text.specs.Read.{maxText, readText}
+use Rattle.cfg_write.specs.Write.{parted}
+use Rattle.fsmd.specs.Machine.{State, FSMD, stateOf}
+use Rattle.synthesis.specs.Synthesis.{machine}
+use Rattle.listing.specs.declared.ListAnswer.{ListAnswer}
+use Rattle.listing.specs.declared.ListAnswer.the-variants.{Listed, Short}
+
+-- fields parted by commas, then a line feed
+abbrev pub lineOf : List (List ℕ) → List ℕ
+lineOf fs = parted 44 fs ++ (10 ∷ [])
+
+-- how many blocks state k has
+abbrev pub blocksIn : FSMD → ℕ → ℕ
+blocksIn m k = length (only (eqb k) (m .blockStates))
+
+-- how many wires there are in all
+abbrev pub wiresIn : FSMD → ℕ
+wiresIn m = length (concatMap (λ (q : State). q .wires) (m .states))
+
+-- the word, states, wires in all
+unfoldable pub headLine : FSMD → List ℕ
+unfolding parted decimalOf concatMap
+headLine m = lineOf (bytes "states" ∷ decimalOf (length (m .states)) ∷ decimalOf (wiresIn m) ∷ [])
+
+-- state, starter, blocks, wires
+unfoldable pub stateLine : FSMD → ℕ → List ℕ
+unfolding parted decimalOf
+stateLine m k =
+    lineOf (decimalOf k ∷ decimalOf (getD (m .starters) k 0) ∷ decimalOf (blocksIn m k) ∷ decimalOf (length (stateOf m k .wires)) ∷ [])
+
+unfoldable pub machineListing : FSMD → List ℕ
+unfolding headLine stateLine concatMap
+machineListing m = headLine m ++ concatMap (stateLine m) (upFrom 0 (length (m .states)))
+
+-- the number and the line of a refusal
+unfoldable pub refusedLine : ℕ → ℕ → List ℕ
+unfolding parted decimalOf
+refusedLine number line = lineOf (bytes "refused" ∷ decimalOf number ∷ decimalOf line ∷ [])
+
+abbrev pub listingOf : Reading → List ℕ
+listingOf (refused number line) = refusedLine number line
+listingOf (read g) = machineListing (machine g)
+
+-- the listing of a text: 1 a text too long, at line 0
+unfoldable pub listing : List ℕ → List ℕ
+unfolding readText refusedLine machineListing machine
+listing text = listingOf (choose (ltb maxText (length text)) (refused 1 0) (readText text))
+
+-- its length, which is what is needed where the output is shorter
+unfoldable pub listAnswer : List ℕ → List ℕ → ListAnswer
+unfolding listing
+listAnswer text out = let n = length (listing text) in choose (ltb (length out) n) (Short n) (Listed n)
+
+-- bytes past the listing stay; where the output is short all do
+abbrev pub bytesAfter : ListAnswer → List ℕ → List ℕ → List ℕ
+bytesAfter (Listed n) new out = new ++ drop n out
+bytesAfter (Short n) new out = out
+
+unfoldable pub listBytes : List ℕ → List ℕ → List ℕ
+unfolding listAnswer listing
+listBytes text out = bytesAfter (listAnswer text out) (listing text) out

@@ -1,0 +1,85 @@
+// The listing that the words of a machine table give.
+use crate::lines;
+use fsmd::Machine;
+ghost use mathlib.Core.Path.{_≡_};
+ghost use Prim.Native.Nat.{_+_, _≤_, _<_};
+ghost use lib.ListN.{length, getD};
+ghost use Rattle.fsmd.specs.Table.{wireCountAt};
+ghost use Rattle.listing.specs.Put.{Put};
+ghost use Rattle.listing.specs.Words.{occurrences, starterAt, blocksAt, wiresAt, stateLineAt, stateLinesAt, tableListing, Listable};
+
+// How often k stands in some words.
+fn count_of(words: &[u32], k: u32) -> u32
+    requires { ⌜ length (now words) ≤ 64 ⌝ }
+    ensures { λ r. ⌜ r ≡ occurrences k (now (words .entry)) ⌝ }
+{
+    let mut n: u32 = 0;
+    let mut i: usize = 0;
+    while i < words.len() {
+        if k == words[i] {
+            n += 1;
+        }
+        i += 1;
+    }
+    n
+}
+
+// The blocks of a state.
+fn blocks_of(machine: &[u32], k: u32) -> u32
+    requires { ⌜ Listable (now machine) ⌝ }
+    ensures { λ r. ⌜ r ≡ blocksAt (now (machine .entry)) k ⌝ }
+{
+    let from = Machine::BLOCK_STATES;
+    let to = Machine::RECORDS;
+    count_of(&machine[from..to], k)
+}
+
+// The wires in all: the last state's end where all do.
+fn wires_of(machine: &[u32]) -> u32
+    requires { ⌜ Listable (now machine) ⌝ }
+    ensures { λ r. ⌜ r ≡ wiresAt (now (machine .entry)) ⌝ }
+{
+    let last = (machine[0] - 1) as usize;
+    let at = Machine::RECORDS + Machine::RECORD * last;
+    machine[at] + machine[at + 1]
+}
+
+// The line of a state.
+fn put_line(machine: &[u32], k: u32, out: &mut [u8], at: usize) -> usize
+    requires { ⌜ Listable (now machine) ⌝ }
+    requires { ⌜ (k < getD (now machine) 0 0) × (at < 65536) ⌝ }
+    ensures { λ r. ⌜ Put (now (out .entry)) at (stateLineAt (now (machine .entry)) k) (now (out .exit)) r ⌝ }
+    ensures { λ r. ⌜ r ≤ at + 44 ⌝ }
+{
+    let i = k as usize;
+    let starter = machine[Machine::STARTERS + i];
+    let wires = machine[Machine::RECORDS + Machine::RECORD * i + 1];
+    lines::put_state(out, at, k, starter, blocks_of(machine, k), wires)
+}
+
+// The lines of all states.
+fn put_lines(machine: &[u32], out: &mut [u8], at: usize) -> usize
+    requires { ⌜ Listable (now machine) ⌝ }
+    requires { ⌜ at ≤ 64 ⌝ }
+    ensures { λ r. ⌜ Put (now (out .entry)) at (stateLinesAt (now (machine .entry))) (now (out .exit)) r ⌝ }
+    ensures { λ r. ⌜ r ≤ 4096 ⌝ }
+{
+    let n = machine[0];
+    let mut end = at;
+    let mut k: u32 = 0;
+    while k < n {
+        end = put_line(machine, k, out, end);
+        k += 1;
+    }
+    end
+}
+
+// The whole listing of a machine table, from the start of the buffer on.
+pub fn put_listing(machine: &[u32], out: &mut [u8]) -> usize
+    requires { ⌜ Listable (now machine) ⌝ }
+    ensures { λ r. ⌜ Put (now (out .entry)) 0 (tableListing (now (machine .entry))) (now (out .exit)) r ⌝ }
+    ensures { λ r. ⌜ r ≤ 4096 ⌝ }
+{
+    let at = lines::put_head(out, machine[0], wires_of(machine));
+    put_lines(machine, out, at)
+}

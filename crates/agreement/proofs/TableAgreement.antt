@@ -19,7 +19,7 @@ use Rattle.grouping.proofs.Reach.{valid-closed}
 use Rattle.synthesis.specs.Synthesis.{machineFor, machine}
 use Rattle.synthesis.proofs.GraphFacts.{graph-fits}
 use Rattle.synthesis.proofs.StateOrder.{groups-arranged}
-use Rattle.synthesis.proofs.MachineFacts.{MachineFits, machine-is, machine-fits}
+use Rattle.synthesis.proofs.SynthesisedMachine.{MachineFits, machine-is, machine-fits}
 use Rattle.agreement.specs.Agreement.{AgreeAfter, Agreement}
 use Rattle.agreement.proofs.WholeRun.{cycle-halted, agree-after}
 use Rattle.agreement.proofs.RunAnswers.{run-agrees}

@@ -22,7 +22,7 @@ use Rattle.synthesis.specs.Wires.{leaves, nextStateOf, stateOf}
 use Rattle.synthesis.specs.Synthesis.{machineFor}
 use Rattle.synthesis.proofs.GraphFacts.{GraphFits}
 use Rattle.synthesis.proofs.StateOrder.{Arranged}
-use Rattle.synthesis.proofs.MachineFacts.{states-count, state-at, registers-are}
+use Rattle.synthesis.proofs.SynthesisedMachine.{states-count, state-at, registers-are}
 use Rattle.agreement.specs.Agreement.{haltedWith, graphAfter, atStarter, moves, arrivals, Arrival, HaltBefore, EndOfCycle, machineAfter, stateIn, AgreeAfter}
 use Rattle.synthesis.proofs.Readings.{Reads}
 use Rattle.synthesis.proofs.OneCycle.{StateReads, CycleAgrees, cycle-agrees}

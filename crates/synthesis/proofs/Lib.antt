@@ -9,4 +9,4 @@ pub mod OneCycle
 pub mod SelectionCount
 pub mod Validity
 pub mod WireCount
-pub mod MachineFacts
+pub mod SynthesisedMachine

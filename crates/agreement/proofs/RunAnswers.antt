@@ -3,22 +3,19 @@ use Prim.Native.Nat.{ℕ, zero, suc, _≤_, _<_}
 use native.Mathlib.Omega.{arith}
 use native.Mathlib.Decide.{decLt}
 use mathlib.Core.Path.{_≡_, refl, sym, ap, _∙_}
-use mathlib.Core.Logic.{_↔_, _≢_}
-use mathlib.Core.Bool.{Bool, true, false, not, _||_}
+use mathlib.Core.Logic.{_≢_}
+use mathlib.Core.Bool.{true}
 use mathlib.Core.List.{List, _++_}
 use lib.ListN.{length, getD, take, drop}
-use lib.Dec.{eqb, ltb}
 use borrow.Author.Tests.{lt-ltb, le-ltb}
-use Rattle.word.specs.Word.{choose}
 use Rattle.runs.specs.Runs.{Place, standing, halted, Configuration, startAt, times, stepsRun, outcome, answer, registersAfter, numberOf, haltedOf, countOf, nextOf}
-use Rattle.runs.specs.declared.RunAnswer.{RunAnswer}
-use Rattle.runs.specs.declared.RunAnswer.the-variants.{Refused, Halted, Spent}
+use Rattle.runs.specs.declared.RunAnswer.the-variants.{Refused}
 use Rattle.runs.proofs.RunLaws.{never-both, times-zero, times-suc, stepsRun-zero, stepsRun-standing, stepsRun-halted, stepsRun-all}
-use Rattle.fsmd.specs.Layout.{maxRegisters, machineWords, none}
-use Rattle.fsmd.specs.Machine.{FSMD, cycle}
+use Rattle.fsmd.specs.Layout.{maxRegisters, machineWords}
+use Rattle.fsmd.specs.Machine.{cycle}
 use Rattle.fsmd.specs.Table.{machineOf, admitted}
 use Rattle.fsmd.specs.Run.{refusal, runAnswer, runRegisters}
-use Rattle.agreement.specs.Agreement.{machineAfter, HaltingCycle, stoodIn, RunAgrees}
+use Rattle.agreement.specs.Agreement.{machineAfter, stoodIn, RunAgrees}
 use Rattle.agreement.proofs.WholeRun.{cycle-halted}
 
 -- ---- the steps that are run, of any run

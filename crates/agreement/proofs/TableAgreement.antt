@@ -1,25 +1,25 @@
 -- Demand 3 on tables: every admitted graph table agrees with a table that holds the machine synthesised from it. Assumes nothing.
-use Prim.Native.Nat.{ℕ, suc, _≤_, _<_}
+use Prim.Native.Nat.{ℕ, _≤_}
 use native.Mathlib.Omega.{arith}
-use mathlib.Core.Path.{_≡_, refl, sym, ap, _∙_}
+use mathlib.Core.Path.{_≡_, sym, ap, _∙_}
 use mathlib.Core.Bool.{true}
 use mathlib.Core.List.{List, _++_, map}
 use lib.ListN.{length, getD, drop, length-map}
 use Rattle.runs.specs.Lists.{upFrom}
-use Rattle.runs.specs.Runs.{Configuration, onward, times}
+use Rattle.runs.specs.Runs.{Configuration, onward}
 use Rattle.runs.proofs.ListLaws.{length-upFrom}
 use Rattle.cfg.specs.Graph.{CFG}
 use Rattle.cfg.specs.Table.{graphOf, admitted}
-use Rattle.cfg.proofs.Admitted.{ValidGraph, valid-graph, admitted-halves}
+use Rattle.cfg.proofs.Admitted.{valid-graph, admitted-halves}
 use Rattle.fsmd.specs.Layout.{machineWords}
-use Rattle.fsmd.specs.Machine.{State, FSMD, emptyState, stateOf, worked, toState, clock, cycle}
-use Rattle.fsmd.specs.Table.{stateAt, machineOf, validState, admitted as admittedMachine}
+use Rattle.fsmd.specs.Machine.{State, FSMD, emptyState, worked, toState, cycle}
+use Rattle.fsmd.specs.Table.{stateAt, machineOf, admitted as admittedMachine}
 use Rattle.grouping.specs.Grouping.{Groups, groups}
 use Rattle.grouping.proofs.Reach.{valid-closed}
 use Rattle.synthesis.specs.Synthesis.{machineFor, machine}
 use Rattle.synthesis.proofs.GraphFacts.{graph-fits}
 use Rattle.synthesis.proofs.StateOrder.{groups-arranged}
-use Rattle.synthesis.proofs.SynthesisedMachine.{MachineFits, machine-is, machine-fits}
+use Rattle.synthesis.proofs.SynthesisedMachine.{machine-is, machine-fits}
 use Rattle.agreement.specs.Agreement.{AgreeAfter, Agreement}
 use Rattle.agreement.proofs.WholeRun.{cycle-halted, agree-after}
 use Rattle.agreement.proofs.RunAnswers.{run-agrees}

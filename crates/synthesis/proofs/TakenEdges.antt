@@ -1,24 +1,24 @@
 -- Of the edges that lead to no placed block, one is taken and the others are not. What joins, blocks and exits do to that. Assumes nothing.
-use Prim.Native.Nat.{ℕ, zero, suc, _+_, _≤_, _<_}
+use Prim.Native.Nat.{ℕ, _+_, _≤_, _<_}
 use mathlib.Core.Path.{_≡_, refl, ap, _∙_}
 use mathlib.Core.Logic.{_⊎_, inl, inr}
 use mathlib.Core.Bool.{Bool, true, false, not, _&&_, _||_}
 use mathlib.Core.List.{List, [], _∷_, _++_}
-use lib.ListN.{length, getD, drop}
-use Rattle.word.specs.Word.{choose, truth, codeOf as comparisonCode}
+use lib.ListN.{length, drop}
+use Rattle.word.specs.Word.{choose, truth}
 use Rattle.runs.specs.Lists.{keep}
-use Rattle.runs.specs.Runs.{Place, standing, halted, Configuration}
+use Rattle.runs.specs.Runs.{Place, standing, Configuration}
 use Rattle.cfg.specs.declared.Instruction.{Instruction}
 use Rattle.cfg.specs.declared.Condition.{Condition}
 use Rattle.cfg.specs.declared.Ending.{Ending}
 use Rattle.cfg.specs.declared.Ending.the-variants.{Goto, Ite, Halt}
 use Rattle.cfg.specs.declared.Block.{Block}
-use Rattle.cfg.specs.Graph.{codeOf, execute, executeAll, holds, leave, runBlock}
+use Rattle.cfg.specs.Graph.{codeOf, executeAll, holds, leave, runBlock}
 use Rattle.fsmd.specs.declared.Wire.{Wire}
 use Rattle.fsmd.specs.Machine.{worked}
 use Rattle.grouping.specs.Grouping.{Groups}
-use Rattle.synthesis.specs.Wires.{wire, set-wire, and-wire, or-wire, and-not-wire, select-wire, selects, Edge, Point, Build, fresh, join, joins, arrive}
-use Rattle.synthesis.specs.Wires.{instructionWire, assign, assigns, edge, close, towards, after, exit, exits, closeState, nextStateOf}
+use Rattle.synthesis.specs.Wires.{set-wire, Edge, Point, Build, fresh, join, joins, arrive}
+use Rattle.synthesis.specs.Wires.{assign, assigns, edge, close, towards, after, exit, exits, closeState, nextStateOf}
 use Rattle.synthesis.proofs.GraphFacts.{ValidCode, Compares, BlockFits}
 use Rattle.synthesis.proofs.WireValues.{set-value}
 use Rattle.synthesis.proofs.Environments.{at, worked-append, worked-nil, worked-cons, Grows, grows-refl, grows-trans, wires-grow}

@@ -1,5 +1,5 @@
 -- How many wires synthesis makes: at most 48 for each block, 3,072 in all. Assumes nothing.
-use Prim.Native.Nat.{ℕ, zero, suc, _+_, _*_, _≤_, _<_}
+use Prim.Native.Nat.{ℕ, zero, suc, _+_, _*_, _≤_}
 use native.Mathlib.Omega.{arith}
 use mathlib.Core.Path.{_≡_, refl}
 use mathlib.Core.Bool.{Bool, true, false, not}
@@ -26,7 +26,7 @@ use Rattle.synthesis.specs.Wires.{instructionWire, assign, assigns, clos
 use Rattle.synthesis.proofs.GraphFacts.{GraphFits}
 use Rattle.synthesis.proofs.PlacementLaws.{order-length}
 use Rattle.synthesis.proofs.SelectionCount.{selects-short}
-use Rattle.synthesis.proofs.Validity.{EdgesValid, BuildValid, edges-towards, put-valid, build-valid, empty-valid}
+use Rattle.synthesis.proofs.StateValidity.{EdgesValid, BuildValid, edges-towards, put-valid, build-valid, empty-valid}
 
 -- edges of at most 16 registers
 abbrev Narrow : List Edge → Type 0

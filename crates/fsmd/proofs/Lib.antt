@@ -3,3 +3,4 @@ pub mod Windows
 pub mod Environment
 pub mod Machines
 pub mod Steps
+pub mod ReadBack

@@ -12,6 +12,7 @@ use Rattle.cfg.proofs.Admitted.{ValidGraph}
 use Rattle.fsmd.specs.Layout.{none}
 use Rattle.fsmd.specs.Machine.{FSMD, emptyState, stateOf as stateAt}
 use Rattle.fsmd.specs.Table.{validState}
+use Rattle.fsmd.proofs.ReadBack.{wireCount}
 use Rattle.grouping.specs.Grouping.{Groups, groups}
 use Rattle.grouping.proofs.Reach.{Closed, valid-closed}
 use Rattle.grouping.proofs.GroupingLaws.{grouped}
@@ -20,7 +21,7 @@ use Rattle.synthesis.specs.Synthesis.{machineFor, machine}
 use Rattle.synthesis.proofs.GraphFacts.{graph-fits}
 use Rattle.synthesis.proofs.StateOrder.{StateOrder, groups-arranged}
 use Rattle.synthesis.proofs.StateValidity.{StateValid, state-valid}
-use Rattle.synthesis.proofs.WireCount.{wireCount, machine-count}
+use Rattle.synthesis.proofs.WireCount.{machine-count}
 
 -- ---- the states of a machine that is made for a grouping
 

@@ -17,7 +17,7 @@ use Rattle.cfg.specs.declared.Ending.the-variants.{Goto, Ite, Halt}
 use Rattle.cfg.specs.Graph.{CFG, blockOf, codeOf}
 use Rattle.fsmd.specs.declared.Wire.{Wire}
 use Rattle.fsmd.specs.Layout.{none}
-use Rattle.fsmd.specs.Machine.{State}
+use Rattle.fsmd.proofs.ReadBack.{wireCount}
 use Rattle.grouping.specs.Grouping.{Groups}
 use Rattle.synthesis.specs.Placement.{members, order}
 use Rattle.synthesis.specs.Synthesis.{machineFor}
@@ -191,11 +191,6 @@ only-short p (x ∷ l) = go (p x) (only-short p l)
     go : (b : Bool) → length (only p l) ≤ length l → length (keep b x (only p l)) ≤ suc (length l)
     go true h = omega arith
     go false h = omega arith
-
--- the wires of a list of states
-unfoldable pub wireCount : List State → ℕ
-wireCount [] = 0
-wireCount (q ∷ qs) = length (q .wires) + wireCount qs
 
 module _ (g : CFG) (s : Groups) (f : GraphFits g) where
   count-from : (a n : ℕ) → wireCount (map (stateOf g s) (upFrom a n)) ≤ 48 * spread (λ x. getD (s .states) x none) (upFrom 0 (length (g .blocks))) a n

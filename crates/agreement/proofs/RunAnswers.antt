@@ -108,16 +108,18 @@ module _ (t : List ℕ) (long : machineWords ≤ length t) (ok : admitted t ≡ 
         not9 = λ n. absurd (omega arith);
         not10 = λ n. absurd (omega arith);
         accepted = λ n. number;
-        halts = λ n. (λ d. outcome-halted place count (sym (ap haltedOf e) ∙ d), λ d. ap haltedOf e ∙ halted-outcome place count d);
-        registers = λ n. run-registers h;
-        next = λ n. ap nextOf e ∙ outcome-next place count;
-        spent = λ n d.
-            let p = outcome-standing place count (sym (ap haltedOf e) ∙ d) in
-            ap countOf e ∙ outcome-count place count ∙ stepsRun-all (cycle (machineOf t)) (cycle-halted (machineOf t)) k (p .0) (startAt 0 rs) (p .1);
-        ended = λ n d. rw (ap countOf e ∙ outcome-count place count) (record {
-          running = running-before (cycle (machineOf t)) k (startAt 0 rs);
-          stopped = halted-with (cycle (machineOf t)) k (startAt 0 rs) (outcome-halted place count (sym (ap haltedOf e) ∙ d));
-        });
+        answers = λ n. record {
+          halts = (λ d. outcome-halted place count (sym (ap haltedOf e) ∙ d), λ d. ap haltedOf e ∙ halted-outcome place count d);
+          registers = run-registers h;
+          next = ap nextOf e ∙ outcome-next place count;
+          spent = λ d.
+              let p = outcome-standing place count (sym (ap haltedOf e) ∙ d) in
+              ap countOf e ∙ outcome-count place count ∙ stepsRun-all (cycle (machineOf t)) (cycle-halted (machineOf t)) k (p .0) (startAt 0 rs) (p .1);
+          ended = λ d. rw (ap countOf e ∙ outcome-count place count) (record {
+            running = running-before (cycle (machineOf t)) k (startAt 0 rs);
+            stopped = halted-with (cycle (machineOf t)) k (startAt 0 rs) (outcome-halted place count (sym (ap haltedOf e) ∙ d));
+          });
+        };
       }
 
   too-short : length buffer < maxRegisters → RunAgrees t buffer k
@@ -127,11 +129,7 @@ module _ (t : List ℕ) (long : machineWords ≤ length t) (ok : admitted t ≡ 
         not9 = λ n. absurd (omega arith);
         not10 = λ n. absurd (omega arith);
         accepted = λ n. absurd (omega arith);
-        halts = λ n. absurd (omega arith);
-        registers = λ n. absurd (omega arith);
-        next = λ n. absurd (omega arith);
-        spent = λ n d. absurd (omega arith);
-        ended = λ n d. absurd (omega arith);
+        answers = λ n. absurd (omega arith);
       }
 
   pub run-agrees : RunAgrees t buffer k

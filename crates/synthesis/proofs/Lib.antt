@@ -7,6 +7,7 @@ pub mod Readings
 pub mod TakenEdges
 pub mod OneCycle
 pub mod SelectionCount
+pub mod FoundEdges
 pub mod WireValidity
 pub mod StateValidity
 pub mod WireCount

@@ -20,7 +20,7 @@ use Rattle.grouping.proofs.VisitStack.{resume-over}
 use Rattle.grouping.proofs.ByteStack.{top, pathOf, frames, AtVisit, AtEdges, begins, ends, enters, pops, passes-none, turns, room, falls, pushes}
 
 -- an edge from the path's head is tested by the marks of the starters
-pub illegal-by : (s : Starters) (states path : List ℕ) (x y : ℕ) → Listed s → y < 64 → illegal (startersOf s) states (x ∷ path) y ≡ illegalBy states (s .marks) x y
+illegal-by : (s : Starters) (states path : List ℕ) (x y : ℕ) → Listed s → y < 64 → illegal (startersOf s) states (x ∷ path) y ≡ illegalBy states (s .marks) x y
 illegal-by s states path x y l h = rw (l .marked y h) (twice (not (eqb (getD states x none) (getD states y none))) (eqb (getD (s .marks) y 0) 0))
   where
     twice : (a b : Bool) → a && not (not b) ≡ a && b
@@ -48,58 +48,65 @@ seen-first (suc x) h = go (compared (suc x) 0)
 pub detectWhole : List ℕ → List ℕ → List ℕ → Detection
 detectWhole bytes starters states = visitBytes (detecting starters states) bytes 0 (visited [])
 
-pub record DetectVisit (bytes starters states seen stack passed : List ℕ) (depth : ℕ) : Type 0 where
+pub record DetectVisit (bytes : List ℕ) (s : Starters) (states seen stack passed : List ℕ) (depth : ℕ) : Type 0 where
   pub list : List ℕ
+  pub listed : Listed s
   pub marked : Seen list seen
-  pub on : AtVisit bytes (detecting starters states) (detectWhole bytes starters states) 0 (visited list) seen stack passed depth
+  pub on : AtVisit bytes (detecting (startersOf s) states) (detectWhole bytes (startersOf s) states) 0 (visited list) seen stack passed depth
 
-pub record DetectEdges (bytes starters states seen stack passed : List ℕ) (depth block k : ℕ) : Type 0 where
+pub record DetectEdges (bytes : List ℕ) (s : Starters) (states seen stack passed : List ℕ) (depth block k : ℕ) : Type 0 where
   pub list : List ℕ
+  pub listed : Listed s
   pub marked : Seen list seen
-  pub on : AtEdges bytes (detecting starters states) (detectWhole bytes starters states) 0 (visited list) seen stack passed depth block k
+  pub on : AtEdges bytes (detecting (startersOf s) states) (detectWhole bytes (startersOf s) states) 0 (visited list) seen stack passed depth block k
 
-pub detect-begins : (bytes starters states : List ℕ) → DetectVisit bytes starters states (set (replicate 64 0) 0 1) (replicate 64 0) (replicate 64 0) 1
+pub detect-begins : (bytes : List ℕ) (s : Starters) (states : List ℕ) → Listed s → DetectVisit bytes s states (set (replicate 64 0) 0 1) (replicate 64 0) (replicate 64 0) 1
 unfolding detectWhole used
-detect-begins bytes starters states =
+detect-begins bytes s states l =
     record {
       list = 0 ∷ [];
+      listed = l;
       marked = seen-first;
-      on = begins bytes (detecting starters states) 0 (visited []) 0 (set (replicate 64 0) 0 1) refl (omega arith) refl (omega arith);
+      on = begins bytes (detecting (startersOf s) states) 0 (visited []) 0 (set (replicate 64 0) 0 1) refl (omega arith) refl (omega arith);
     }
 
-module _ {bytes starters states seen stack passed : List ℕ} {depth : ℕ} where
-  pub detect-ends : DetectVisit bytes starters states seen stack passed depth → depth ≡ 0 → Legal ≡ detection bytes starters states
+module _ {bytes : List ℕ} {s : Starters} {states seen stack passed : List ℕ} {depth : ℕ} where
+  pub detect-ends : DetectVisit bytes s states seen stack passed depth → depth ≡ 0 → Legal ≡ detection bytes (startersOf s) states
   unfolding detectWhole detection
   detect-ends i z = ap detectedOf (ends (i .on) z)
 
-  pub detect-enters : DetectVisit bytes starters states seen stack passed depth → 0 < depth → (block k : ℕ) → block ≡ getD stack (depth - 1) 0 → k ≡ getD passed (depth - 1) 0
-      → DetectEdges bytes starters states seen stack passed depth block k
-  detect-enters i some block k eb ek = record { list = i .list; marked = i .marked; on = enters (i .on) some block k eb ek }
+  pub detect-enters : DetectVisit bytes s states seen stack passed depth → 0 < depth → (block k : ℕ) → block ≡ getD stack (depth - 1) 0 → k ≡ getD passed (depth - 1) 0
+      → DetectEdges bytes s states seen stack passed depth block k
+  detect-enters i some block k eb ek = record { list = i .list; listed = i .listed; marked = i .marked; on = enters (i .on) some block k eb ek }
 
-  module _ {block k : ℕ} (i : DetectEdges bytes starters states seen stack passed depth block k) where
-    pub detect-pops : 2 ≤ k → DetectVisit bytes starters states seen stack passed (depth - 1)
-    detect-pops end = record { list = i .list; marked = i .marked; on = pops (i .on) end seen (i .on .sized .seen-64) (omega arith) }
+  module _ {block k : ℕ} (i : DetectEdges bytes s states seen stack passed depth block k) where
+    pub detect-pops : 2 ≤ k → DetectVisit bytes s states seen stack passed (depth - 1)
+    detect-pops end = record { list = i .list; listed = i .listed; marked = i .marked; on = pops (i .on) end seen (i .on .sized .seen-64) (omega arith) }
 
     -- the next byte, and the same as an index
     module _ (to t : ℕ) (index : t ≡ to) (is : to ≡ getD bytes (2 * block + k) none) (more : k < 2) where
       byte : t ≡ getD bytes (2 * block + k) none
       byte = index ∙ is
 
-      pub detect-none : 64 ≤ t → DetectEdges bytes starters states seen stack passed depth block (k + 1)
-      detect-none h = record { list = i .list; marked = i .marked; on = passes-none (i .on) t byte more h }
+      pub detect-none : 64 ≤ t → DetectEdges bytes s states seen stack passed depth block (k + 1)
+      detect-none h = record { list = i .list; listed = i .listed; marked = i .marked; on = passes-none (i .on) t byte more h }
 
       module _ (l : t < 64) where
-        abbrev Test : Bool → Type 0
-        Test b = illegal starters states (block ∷ pathOf bytes stack passed (depth - 1)) t ≡ b
+        abbrev path : List ℕ
+        path = block ∷ pathOf bytes stack passed (depth - 1)
+
+        tested : (b : Bool) → illegalBy states (s .marks) block t ≡ b → illegal (startersOf s) states path t ≡ b
+        tested b e = illegal-by s states (pathOf bytes stack passed (depth - 1)) block t (i .listed) l ∙ e
 
         -- an illegal edge
-        pub detect-stops : Test true → IllegalTo to ≡ detection bytes starters states
+        pub detect-stops : illegalBy states (s .marks) block t ≡ true → IllegalTo to ≡ detection bytes (startersOf s) states
         unfolding detectWhole detection
-        detect-stops e =
-            let a : AtEdges bytes (detecting starters states) (detectWhole bytes starters states) 0 (illegalTo t) seen stack passed depth block (k + 1) =
+        detect-stops h =
+            let e = tested true h in
+            let a : AtEdges bytes (detecting (startersOf s) states) (detectWhole bytes (startersOf s) states) 0 (illegalTo t) seen stack passed depth block (k + 1) =
             rw (e, detectTurn) at (turns (i .on) t byte more l (rw e refl)) in
             rw (← index) (ap detectedOf
-            (sym (resume-over (detecting starters states) (edgesIn bytes) (illegalTo t) (λ path x. refl) (λ path x. refl) (λ x. refl) (64 - depth) (top bytes block (k + 1) ∷ frames bytes stack passed (depth - 1)))
+            (sym (resume-over (detecting (startersOf s) states) (edgesIn bytes) (illegalTo t) (λ path x. refl) (λ path x. refl) (λ x. refl) (64 - depth) (top bytes block (k + 1) ∷ frames bytes stack passed (depth - 1)))
             ∙ a .left))
 
         module _ (new : getD seen t 0 ≡ 0) where
@@ -111,17 +118,20 @@ module _ {bytes starters states seen stack passed : List ℕ} {depth : ℕ} wher
           detect-falls es ed = falls (i .on) t byte more l new 1 (λ e. omega arith) es ed
 
         -- a legal edge to a block that is not visited yet
-        pub detect-pushes : Test false → getD seen t 0 ≡ 0
-            → DetectVisit bytes starters states (set seen t 1) (set stack depth to) (set (set passed (depth - 1) (k + 1)) depth 0) (depth + 1)
-        detect-pushes e new =
+        pub detect-pushes : illegalBy states (s .marks) block t ≡ false → getD seen t 0 ≡ 0
+            → DetectVisit bytes s states (set seen t 1) (set stack depth to) (set (set passed (depth - 1) (k + 1)) depth 0) (depth + 1)
+        detect-pushes h new =
+            let e = tested false h in
             rw (← index) (record {
               list = t ∷ i .list;
+              listed = i .listed;
               marked = seen-push (i .list) seen t (i .on .sized .seen-64) l (i .marked);
               on = pushes (i .on) t byte more l new 1 (λ e. omega arith) (rw (e, i .marked t l, new) refl);
             })
 
         -- and to one that is
-        pub detect-known : Test false → (getD seen t 0 ≡ 0 → ⊥) → DetectEdges bytes starters states seen stack passed depth block (k + 1)
-        detect-known e old =
+        pub detect-known : illegalBy states (s .marks) block t ≡ false → (getD seen t 0 ≡ 0 → ⊥) → DetectEdges bytes s states seen stack passed depth block (k + 1)
+        detect-known h old =
+            let e = tested false h in
             let z : mem t (i .list) ≡ true = i .marked t l ∙ ap not (ne-eqb (getD seen t 0) 0 old) in
-            record { list = i .list; marked = i .marked; on = rw (e, detectTurn) at (turns (i .on) t byte more l (rw (e, z) refl)) }
+            record { list = i .list; listed = i .listed; marked = i .marked; on = rw (e, detectTurn) at (turns (i .on) t byte more l (rw (e, z) refl)) }

@@ -37,6 +37,9 @@ entry-listed =
     blocks zero h = omega arith
     blocks (suc k) h = absurd (omega arith)
 
+pub starters-few : (s : Starters) → Listed s → length (s .marks) ≡ 64 → s .count ≤ 64
+starters-few s i m = omega (arith, i .counted, used-le 0 (s .marks))
+
 mem-snoc : (x y : ℕ) (l : List ℕ) → mem x (l ++ (y ∷ [])) ≡ mem x l || eqb x y
 mem-snoc x y [] = or-no (eqb x y)
   where

@@ -11,3 +11,4 @@ pub mod LoopSearch
 pub mod DetectionSearch
 pub mod PopulationSearch
 pub mod StarterLaws
+pub mod EdgeBytes

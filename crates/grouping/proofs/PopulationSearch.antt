@@ -4,9 +4,10 @@ use mathlib.Core.Path.{_≡_, refl, sym, ap, _∙_}
 use mathlib.Core.Bool.{Bool, true, false, not, _&&_, _||_}
 use mathlib.Core.List.{List, [], _∷_}
 use native.Mathlib.Omega.{arith}
+use native.Mathlib.Numerals.{add-one}
 use lib.Dec.{eqb}
-use lib.ListN.{length, getD, set, replicate, length-set}
-use lib.Seq.{getD-set-same, getD-set-other}
+use lib.ListN.{length, getD, set, take, drop, replicate, length-set, length-replicate, drop-of-length-le}
+use lib.Seq.{getD-set-same, getD-set-other, getD-take, drop-cons, length-take-le}
 use borrow.Author.Tests.{eq-eqb, ne-eqb}
 use Rattle.runs.specs.Lists.{mem}
 use Rattle.runs.proofs.Tests.{Compared, same, other, compared}
@@ -14,7 +15,7 @@ use Rattle.runs.proofs.Sets.{getD-any}
 use Rattle.fsmd.specs.Layout.{none}
 use Rattle.grouping.specs.declared.Starters.{Starters}
 use Rattle.grouping.specs.Grouping.{populating}
-use Rattle.grouping.specs.Bytes.{edgesIn, Listed, startersOf, used, visitBytes, taken}
+use Rattle.grouping.specs.Bytes.{edgesIn, Listed, startersOf, used, visitBytes, taken, takenFrom, population}
 use Rattle.grouping.proofs.VisitLaws.{visit-stops}
 use Rattle.grouping.proofs.Marks.{used-set}
 use Rattle.grouping.proofs.VisitStack.{resume}
@@ -149,3 +150,31 @@ module _ {bytes : List ℕ} {s : Starters} {r k : ℕ} {whole states stack passe
                     pushes (i .on) t byte more l e k not-none
                     (free (startersOf s) r k path t states (i .on .sized .seen-64) l e ∙ rw m refl);
               })
+
+-- ---- the states one after another
+
+pub record Populating (bytes : List ℕ) (s : Starters) (states : List ℕ) (k : ℕ) : Type 0 where
+  pub number : k ≤ s .count
+  pub size : length states ≡ 64
+  pub left : takenFrom bytes (startersOf s) k (drop k (startersOf s)) states ≡ population bytes (startersOf s)
+
+pub populating-begins : (bytes : List ℕ) (s : Starters) → Populating bytes s (replicate 64 none) 0
+unfolding population
+populating-begins bytes s = record { number = omega arith; size = length-replicate 64 none; left = refl }
+
+module _ (bytes : List ℕ) (s : Starters) (n : length (s .list) ≡ 64) (few : s .count ≤ 64) (states : List ℕ) (k : ℕ) (i : Populating bytes s states k) where
+  size : length (startersOf s) ≡ s .count
+  size = length-take-le (s .count) (s .list) (omega arith)
+
+  pub populating-on : k < s .count → (after : List ℕ) → length after ≡ 64 → after ≡ taken bytes (startersOf s) (getD (s .list) k 0) k states → Populating bytes s after (k + 1)
+  unfolding takenFrom
+  populating-on l after m e =
+      let d : drop k (startersOf s) ≡ getD (s .list) k 0 ∷ drop (suc k) (startersOf s) =
+      drop-cons (startersOf s) k 0 (omega (arith, size)) ∙ ap (λ (r : ℕ). r ∷ drop (suc k) (startersOf s)) (getD-take (s .count) (s .list) k 0 l) in
+      record { number = omega arith; size = m; left = rw (add-one, e) ((rw d at (i .left))) }
+
+  pub populating-ends : s .count ≤ k → states ≡ population bytes (startersOf s)
+  unfolding takenFrom
+  populating-ends h =
+      let d : drop k (startersOf s) ≡ [] = drop-of-length-le (startersOf s) {i = k} (omega (arith, size)) in
+      rw d at (i .left)

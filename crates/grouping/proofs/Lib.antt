@@ -12,3 +12,6 @@ pub mod DetectionSearch
 pub mod PopulationSearch
 pub mod StarterLaws
 pub mod EdgeBytes
+pub mod VisitMaps
+pub mod GraphSearches
+pub mod GroupingRounds

@@ -8,7 +8,7 @@ use lib.Dec.{eqb}
 use lib.ListN.{length, getD, set, replicate, length-set, getD-replicate}
 use lib.Seq.{getD-set-same, getD-set-other}
 use Rattle.runs.specs.Lists.{mem}
-use Rattle.runs.proofs.Tests.{Compared, same, other, compared, eqb-same}
+use Rattle.runs.proofs.Tests.{Compared, same, other, compared}
 use Rattle.fsmd.specs.Layout.{none}
 use Rattle.grouping.specs.declared.Starters.{Starters}
 use Rattle.grouping.specs.Grouping.{Loops, startedAt, looping}

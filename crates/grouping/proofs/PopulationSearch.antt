@@ -7,7 +7,7 @@ use native.Mathlib.Omega.{arith}
 use native.Mathlib.Numerals.{add-one}
 use lib.Dec.{eqb}
 use lib.ListN.{length, getD, set, take, drop, replicate, length-set, length-replicate, drop-of-length-le}
-use lib.Seq.{getD-set-same, getD-set-other, getD-take, drop-cons, length-take-le}
+use lib.Seq.{getD-set-same, getD-set-other, getD-take, drop-cons}
 use borrow.Author.Tests.{eq-eqb, ne-eqb}
 use Rattle.runs.specs.Lists.{mem}
 use Rattle.runs.proofs.Tests.{Compared, same, other, compared}
@@ -18,6 +18,7 @@ use Rattle.grouping.specs.Grouping.{populating}
 use Rattle.grouping.specs.Bytes.{edgesIn, Listed, startersOf, used, visitBytes, taken, takenFrom, population}
 use Rattle.grouping.proofs.VisitLaws.{visit-stops}
 use Rattle.grouping.proofs.Marks.{used-set}
+use Rattle.grouping.proofs.StarterLaws.{starters-length}
 use Rattle.grouping.proofs.VisitStack.{resume}
 use Rattle.grouping.proofs.ByteStack.{pathOf, frames, AtVisit, AtEdges, begins, ends, enters, pops, passes-none, turns, room, falls, pushes}
 
@@ -162,9 +163,9 @@ pub populating-begins : (bytes : List ℕ) (s : Starters) → Populating bytes s
 unfolding population
 populating-begins bytes s = record { number = omega arith; size = length-replicate 64 none; left = refl }
 
-module _ (bytes : List ℕ) (s : Starters) (n : length (s .list) ≡ 64) (few : s .count ≤ 64) (states : List ℕ) (k : ℕ) (i : Populating bytes s states k) where
+module _ (bytes : List ℕ) (s : Starters) (listed : Listed s) (states : List ℕ) (k : ℕ) (i : Populating bytes s states k) where
   size : length (startersOf s) ≡ s .count
-  size = length-take-le (s .count) (s .list) (omega arith)
+  size = starters-length s listed
 
   pub populating-on : k < s .count → (after : List ℕ) → length after ≡ 64 → after ≡ taken bytes (startersOf s) (getD (s .list) k 0) k states → Populating bytes s after (k + 1)
   unfolding takenFrom

@@ -7,7 +7,7 @@ use native.Mathlib.Omega.{arith}
 use native.Mathlib.Numerals.{add-one}
 use lib.Dec.{eqb}
 use lib.ListN.{length, getD, set, take, drop, replicate, length-set, getD-replicate}
-use lib.Seq.{take-suc-set, drop-set-lt, drop-drop, drop-cons, getD-set-same, getD-set-other}
+use lib.Seq.{length-take-le, take-suc-set, drop-set-lt, drop-drop, drop-cons, getD-set-same, getD-set-other}
 use borrow.Author.Tests.{eq-eqb, ne-eqb}
 use Rattle.runs.specs.Lists.{mem}
 use Rattle.runs.proofs.Tests.{Compared, same, other, compared}
@@ -19,6 +19,8 @@ pub entry-listed : Listed (record { count = 1; list = replicate 64 0; marks = se
 unfolding used
 entry-listed =
     record {
+      list-64 = refl;
+      marks-64 = refl;
       counted = refl;
       marked = marked;
       blocks = λ k h. blocks k h;
@@ -37,8 +39,11 @@ entry-listed =
     blocks zero h = omega arith
     blocks (suc k) h = absurd (omega arith)
 
-pub starters-few : (s : Starters) → Listed s → length (s .marks) ≡ 64 → s .count ≤ 64
-starters-few s i m = omega (arith, i .counted, used-le 0 (s .marks))
+pub starters-few : (s : Starters) → Listed s → s .count ≤ 64
+starters-few s i = omega (arith, i .counted, i .marks-64, used-le 0 (s .marks))
+
+pub starters-length : (s : Starters) → Listed s → length (startersOf s) ≡ s .count
+starters-length s i = length-take-le (s .count) (s .list) (omega (arith, i .list-64, starters-few s i))
 
 mem-snoc : (x y : ℕ) (l : List ℕ) → mem x (l ++ (y ∷ [])) ≡ mem x l || eqb x y
 mem-snoc x y [] = or-no (eqb x y)
@@ -52,24 +57,32 @@ mem-snoc x y (z ∷ l) = ap (λ (b : Bool). eqb x z || b) (mem-snoc x y l) ∙ a
     assoc true b c = refl
     assoc false b c = refl
 
-module _ (s : Starters) (i : Listed s) (n : length (s .list) ≡ 64) (m : length (s .marks) ≡ 64) (t : ℕ) (l : t < 64) where
+module _ (s : Starters) (i : Listed s) (t : ℕ) (l : t < 64) where
+  marks-in : t < length (s .marks)
+  marks-in = omega (arith, i .marks-64)
+
   pub with-known : (getD (s .marks) t 0 ≡ 0 → ⊥) → startersOf s ≡ withStarter t (startersOf s)
   with-known f = let e : mem t (startersOf s) ≡ true = i .marked t l ∙ ap not (ne-eqb (getD (s .marks) t 0) 0 f) in rw (e, withStarter)
 
   module _ (new : getD (s .marks) t 0 ≡ 0) where
     pub with-room : s .count < 64
-    with-room = omega (arith, used-lt 0 (s .marks) t (omega arith) new, i .counted)
+    with-room = omega (arith, used-lt 0 (s .marks) t marks-in new, i .counted, i .marks-64)
 
     abbrev pub more : Starters
     more = record { count = s .count + 1; list = set (s .list) (s .count) t; marks = set (s .marks) t 1 }
 
+    list-in : s .count < length (s .list)
+    list-in = omega (arith, with-room, i .list-64)
+
     snoc : startersOf more ≡ startersOf s ++ (t ∷ [])
-    snoc = rw add-one (take-suc-set (s .list) (s .count) t (omega (arith, with-room)))
+    snoc = rw add-one (take-suc-set (s .list) (s .count) t list-in)
 
     pub with-listed : Listed more
     with-listed =
         record {
-          counted = omega (arith, used-set 0 (s .marks) t 1 (omega arith) new (λ e. omega arith), i .counted);
+          list-64 = length-set (s .list) (s .count) t ∙ i .list-64;
+          marks-64 = length-set (s .marks) t 1 ∙ i .marks-64;
+          counted = omega (arith, used-set 0 (s .marks) t 1 marks-in new (λ e. omega arith), i .counted);
           marked = λ x h. rw snoc (mem-snoc x t (startersOf s) ∙ marked x h (compared x t));
           blocks = λ k h. blocks k h (compared k (s .count));
           rest = rest;
@@ -84,11 +97,11 @@ module _ (s : Starters) (i : Listed s) (n : length (s .list) ≡ 64) (m : length
         or-no false = refl
 
         marked : (x : ℕ) → x < 64 → Compared x t → mem x (startersOf s) || eqb x t ≡ not (eqb (getD (set (s .marks) t 1) x 0) 0)
-        marked x h (same e p) = rw (e, p, getD-set-same (s .marks) t 1 0 (omega arith)) (or-yes (mem t (startersOf s)))
+        marked x h (same e p) = rw (e, p, getD-set-same (s .marks) t 1 0 marks-in) (or-yes (mem t (startersOf s)))
         marked x h (other e p) = rw (e, getD-set-other (s .marks) t x 1 0 p) (or-no (mem x (startersOf s)) ∙ i .marked x h)
 
         blocks : (k : ℕ) → k < s .count + 1 → Compared k (s .count) → getD (set (s .list) (s .count) t) k 0 < 64
-        blocks k h (same e p) = rw (p, getD-set-same (s .list) (s .count) t 0 (omega (arith, with-room))) l
+        blocks k h (same e p) = rw (p, getD-set-same (s .list) (s .count) t 0 list-in) l
         blocks k h (other e p) = rw (getD-set-other (s .list) (s .count) k t 0 p) (i .blocks k (omega arith))
 
         rest : drop (s .count + 1) (set (s .list) (s .count) t) ≡ replicate (64 - (s .count + 1)) 0

@@ -31,6 +31,8 @@ startersOf s = take (s .count) (s .list)
 
 -- each starter is a block, is marked and stands once; what is not used is 0
 pub record Listed (s : Starters) : Type 0 where
+  pub list-64 : length (s .list) ≡ maxBlocks
+  pub marks-64 : length (s .marks) ≡ maxBlocks
   pub counted : s .count ≡ used 0 (s .marks)
   pub marked : (x : ℕ) → x < maxBlocks → mem x (startersOf s) ≡ not (eqb (getD (s .marks) x 0) 0)
   pub blocks : (k : ℕ) → k < s .count → getD (s .list) k 0 < maxBlocks

@@ -71,23 +71,21 @@ pub fn group(table: &[u32]) -> Grouping
     ensures { λ r. ⌜ r ≡ groupingOf (now (table .entry)) ⌝ }
 {
     let edges = edges::edges_of(table);
-    let mut starters = loops::loop_starters(&edges);
-    let mut states = [255u8; Graph::BLOCKS];
-    'rounds: loop {
-        let fresh = population::populate(&edges, starters);
-        states = fresh;
+    let first = loops::loop_starters(&edges);
+    let mut starters = first;
+    loop {
+        let states = population::populate(&edges, starters);
         let found = detection::detect(&edges, &states, starters);
         let Detected::IllegalTo(block) = found else {
-            break 'rounds;
+            let count = starters.count;
+            let list = starters.list;
+            return Grouping {
+                count,
+                starters: list,
+                states,
+            };
         };
         let more = starters.with(block);
         starters = more;
-    }
-    let count = starters.count;
-    let list = starters.list;
-    Grouping {
-        count,
-        starters: list,
-        states,
     }
 }

@@ -14,7 +14,7 @@ new c = rw (c .before .before .wide .ensures .0) at (c .if1 .taken)
 room : (c : tie.Then1) → c .before .before .before .args .t1 .count < 64
 room c =
     let k = c .before .before .before in
-    with-room (k .args .t1) (k .pre .0) (search needs) (search needs) (k .args .block) (k .pre .1) (new c)
+    with-room (k .args .t1) (k .pre .0) (k .args .block) (k .pre .1) (new c)
 
 add-self : tie.Need-add-self
 add-self c = omega (arith, room c)
@@ -23,14 +23,14 @@ returns : tie.Need-returns
 returns c =
     let k = c .before .before .before in
     rw (c .before .before .wide .ensures .0) (
-      with-listed (k .args .t1) (k .pre .0) (search needs) (search needs) (k .args .block) (k .pre .1) (new c),
-      with-more (k .args .t1) (k .pre .0) (search needs) (search needs) (k .args .block) (k .pre .1) (new c),
+      with-listed (k .args .t1) (k .pre .0) (k .args .block) (k .pre .1) (new c),
+      with-more (k .args .t1) (k .pre .0) (k .args .block) (k .pre .1) (new c),
     )
 
 returns-2 : tie.Need-returns-2
 returns-2 c =
     let k = c .before .before .before in
-    (k .pre .0, with-known (k .args .t1) (k .pre .0) (search needs) (search needs) (k .args .block) (k .pre .1) (λ e. c .if1 .left (rw (c .before .before .wide .ensures .0) e)))
+    (k .pre .0, with-known (k .args .t1) (k .pre .0) (k .args .block) (k .pre .1) (λ e. c .if1 .left (rw (c .before .before .wide .ensures .0) e)))
 
 pub with-spec : {M : Type 1} → statement M
 with-spec = tie.close (tie.spec (λ c κs. search needs) (λ c. search needs) room (λ c. search needs) add-self returns returns-2)

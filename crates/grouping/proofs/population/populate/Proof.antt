@@ -26,7 +26,7 @@ more : (c : tie.Then1 Inv-loop μ-loop) → c .before .before .before .loop .k <
 more c = omega (arith, c .if1 .taken, c .before .before .wide .ensures .0)
 
 few : (c : tie.Start Inv-loop μ-loop) → c .args .starters .count ≤ 64
-few c = starters-few (c .args .starters) (c .pre) (search needs)
+few c = starters-few (c .args .starters) (c .pre)
 
 -- src/population.rt:58:5
 loop-holds : tie.Need-loop-holds Inv-loop μ-loop
@@ -58,14 +58,14 @@ loop-again c =
     let a = c .before .before .before .before .before .before .before .before in
     let l = c .before .before .before .before .before .before .loop in
     let t = c .before .take-state in
-    populating-on (now (a .args .edges)) (a .args .starters) (search needs) (few a) (l .states) (l .k) (l .inv) (more (c .before .before .before)) (t .last .1 .1 .1 .0) (t .kept .1 .1 .1 .0 ∙ l .inv .size) (t .ensures)
+    populating-on (now (a .args .edges)) (a .args .starters) (a .pre) (l .states) (l .k) (l .inv) (more (c .before .before .before)) (t .last .1 .1 .1 .0) (t .kept .1 .1 .1 .0 ∙ l .inv .size) (t .ensures)
 
 -- src/population.rt:52:1
 returns : tie.Need-returns Inv-loop μ-loop
 returns c =
     let a = c .before .before .before .before .before in
     let l = c .before .before .before .loop in
-    populating-ends (now (a .args .edges)) (a .args .starters) (search needs) (few a) (l .states) (l .k) (l .inv) (omega (arith, c .if1 .left, c .before .before .wide .ensures .0))
+    populating-ends (now (a .args .edges)) (a .args .starters) (a .pre) (l .states) (l .k) (l .inv) (omega (arith, c .if1 .left, c .before .before .wide .ensures .0))
 
 pub populate-spec : {M : Type 1} → statement M
 populate-spec =

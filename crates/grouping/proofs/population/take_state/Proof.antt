@@ -33,7 +33,7 @@ abbrev μ-visit : tie.MeasureT-visit
 μ-visit edges k states₀ starters number first root stack₀ passed₀ depth₀ states stack passed depth = 2 * (64 - used none states) + depth
 
 few : (c : tie.After-wide Inv-edges μ-edges Inv-visit μ-visit) → c .before .before .before .args .k < 64
-few c = let a = c .before .before .before in omega (arith, a .pre .1, starters-few (a .args .t2) (a .pre .0) (search needs))
+few c = let a = c .before .before .before in omega (arith, a .pre .1, starters-few (a .args .t2) (a .pre .0))
 
 -- the starter's byte, and that it is a block
 first-is : (c : tie.After-wide2 Inv-edges μ-edges Inv-visit μ-visit) → c .wide2 .result ≡ getD (c .before .before .before .before .before .args .t2 .list) (c .before .before .before .before .before .args .k) 0

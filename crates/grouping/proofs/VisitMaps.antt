@@ -43,8 +43,8 @@ module _ {S T : Type 0} {v : Visitor S} {w : Visitor T} {h : S → T} {I : S →
           let c = m .finishes x (each (visit v next n (x ∷ path)) (next x) (v .enter x s)) l (b .1) in
           rw (visit-goes v next n path x s e) (
             visit-goes w next n path x (h s) (m .stops path x s l i ∙ e)
-            ∙ ap (λ (t : T). w .finish x (each (visit w next n (x ∷ path)) (next x) t)) (a .0)
-            ∙ ap (w .finish x) (b .0)
-            ∙ c .0,
+                ∙ ap (λ (t : T). w .finish x (each (visit w next n (x ∷ path)) (next x) t)) (a .0)
+                ∙ ap (w .finish x) (b .0)
+                ∙ c .0,
             c .1,
           )

@@ -15,7 +15,11 @@ fn illegal(states: &[u8], starters: Starters, block: usize, target: usize) -> bo
 {
     let own = edges::at(states, block);
     let other = edges::at(states, target);
-    if own == other { false } else { starters.marks[target] == 0 }
+    if own == other {
+        false
+    } else {
+        starters.marks[target] == 0
+    }
 }
 
 pub fn detect(edges: &[u8], states: &[u8], starters: Starters) -> Detected

@@ -12,13 +12,6 @@ use Rattle.grouping.proofs.GroupingRounds.{Round, round-few, round-firs
 use borrow.Author.Needs.{needs}
 use Rattle.grouping.proofs.group.Statement.{statement}
 use Rattle.grouping.proofs.group.Tie as tie
-use Rattle.grouping.proofs.group.Reads as reads
-use Rattle.grouping.proofs.group.Lts as lts
-use Rattle.grouping.proofs.Starters.with.Reads as with-reads
-use Rattle.grouping.proofs.detection.detect.Reads as detect-reads
-use Rattle.grouping.proofs.edges.edges_of.Reads as edges-of-reads
-use Rattle.grouping.proofs.loops.loop_starters.Reads as loop-starters-reads
-use Rattle.grouping.proofs.population.populate.Reads as populate-reads
 
 abbrev Inv-loop : tie.InvT-loop
 Inv-loop table edges starters₀ starters = Round (graphOf table) starters
@@ -32,71 +25,32 @@ on c =
     let a = c .before .before .before .before .before .before .before .before .before .before .before .before .before .before in
     round-on (graphOf (now (a .args .table))) (admitted-closed (now (a .args .table)) (a .pre)) (c .before .before .before .before .before .before .before .before .before .before .before .before .edges-of .result) (c .before .before .before .before .before .before .before .before .before .before .before .before .edges-of .ensures) (c .before .before .before .before .before .before .before .before .before .loop .starters) (c .before .before .before .before .before .before .before .before .before .loop .inv) (c .before .before .before .before .before .before .before .populate .result) (c .before .before .before .before .before .before .before .populate .ensures) (c .before .before .found .given .0 .0) (sym (c .before .before .before .before .detect .ensures) ∙ c .before .before .found .given .1) (c .with .result) (c .with .ensures .0) (c .with .ensures .1)
 
--- src/lib.rt:73:17
-edges-of-requires : tie.Need-edges-of-requires Inv-loop μ-loop
-edges-of-requires c κs = search needs
-
--- src/lib.rt:74:38
-slice-aggregate-loop-starters : tie.Need-slice-aggregate-loop-starters Inv-loop μ-loop
-slice-aggregate-loop-starters c = search needs
-
--- src/lib.rt:74:9
-loop-starters-requires : tie.Need-loop-starters-requires Inv-loop μ-loop
-loop-starters-requires c κs = search needs
-
--- src/lib.rt:76:5
 loop-holds : tie.Need-loop-holds Inv-loop μ-loop
 loop-holds c =
     let a = c .before .before .before .before in
     let l = c .loop-starters in
     round-first (graphOf (now (a .args .table))) (admitted-closed (now (a .args .table)) (a .pre)) (c .before .before .edges-of .result) (c .before .before .edges-of .ensures) (l .result) (l .ensures .0) (l .ensures .1)
 
--- src/lib.rt:77:43
-slice-aggregate-populate : tie.Need-slice-aggregate-populate Inv-loop μ-loop
-slice-aggregate-populate c = search needs
-
--- src/lib.rt:77:22
 populate-requires : tie.Need-populate-requires Inv-loop μ-loop
 populate-requires c κs = c .before .loop .inv .listed
 
--- src/lib.rt:78:39
-slice-aggregate-detect : tie.Need-slice-aggregate-detect Inv-loop μ-loop
-slice-aggregate-detect c = search needs
-
--- src/lib.rt:78:47
-slice-aggregate-detect-2 : tie.Need-slice-aggregate-detect-2 Inv-loop μ-loop
-slice-aggregate-detect-2 c = search needs
-
--- src/lib.rt:78:13
 detect-requires : tie.Need-detect-requires Inv-loop μ-loop
 detect-requires c κs = c .before .before .before .before .loop .inv .listed
 
--- src/lib.rt:79:33
-enum-known-found : tie.Need-enum-known-found Inv-loop μ-loop
-enum-known-found c = search needs
-
--- src/lib.rt:80:17
-enum-told : tie.Need-enum-told Inv-loop μ-loop
-enum-told c = search needs
-
--- src/lib.rt:82:13
 returns : tie.Need-returns Inv-loop μ-loop
 unfolding groupingOf
 returns c =
     let a = c .before .before .before .before .before .before .before .before .before .before .before .before .before in
     round-last (graphOf (now (a .args .table))) (admitted-closed (now (a .args .table)) (a .pre)) (c .before .before .before .before .before .before .before .before .before .before .before .edges-of .result) (c .before .before .before .before .before .before .before .before .before .before .before .edges-of .ensures) (c .before .before .before .before .before .before .before .before .loop .starters) (c .before .before .before .before .before .before .before .before .loop .inv) (c .before .before .before .before .before .before .populate .result) (c .before .before .before .before .before .before .populate .ensures) (sym (c .before .before .before .detect .ensures) ∙ c .before .enum-told .given .1)
 
--- src/lib.rt:88:13
 with-requires : tie.Need-with-requires Inv-loop μ-loop
 with-requires c κs =
     let a = c .before .before .before .before .before .before .before .before .before .before .before .before .before in
     (c .before .before .before .before .before .before .before .before .loop .inv .listed, illegal-low (graphOf (now (a .args .table))) (admitted-closed (now (a .args .table)) (a .pre)) (c .before .before .before .before .before .before .before .before .before .before .before .edges-of .result) (c .before .before .before .before .before .before .before .before .before .before .before .edges-of .ensures) (c .before .before .before .before .before .before .before .before .loop .starters) (c .before .before .before .before .before .before .before .before .loop .inv) (c .before .before .before .before .before .before .populate .result) (c .before .before .before .before .before .before .populate .ensures) (c .before .found .given .0 .0) (sym (c .before .before .before .detect .ensures) ∙ c .before .found .given .1))
 
--- src/lib.rt:76:5
 loop-less : tie.Need-loop-less Inv-loop μ-loop
 loop-less c = let n = on c in omega (arith, n .1, round-few (admitted-closed (now (c .before .before .before .before .before .before .before .before .before .before .before .before .before .before .args .table)) (c .before .before .before .before .before .before .before .before .before .before .before .before .before .before .pre)) (n .0))
 
--- src/lib.rt:76:5
 loop-again : tie.Need-loop-again Inv-loop μ-loop
 loop-again c = on c .0
 
@@ -106,17 +60,17 @@ group-spec =
     (tie.spec
     Inv-loop
     μ-loop
-    edges-of-requires
-    slice-aggregate-loop-starters
-    loop-starters-requires
+    (λ c κs. search needs)
+    (λ c. search needs)
+    (λ c κs. search needs)
     loop-holds
-    slice-aggregate-populate
+    (λ c. search needs)
     populate-requires
-    slice-aggregate-detect
-    slice-aggregate-detect-2
+    (λ c. search needs)
+    (λ c. search needs)
     detect-requires
-    enum-known-found
-    enum-told
+    (λ c. search needs)
+    (λ c. search needs)
     returns
     with-requires
     loop-less

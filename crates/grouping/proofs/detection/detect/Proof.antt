@@ -11,11 +11,6 @@ use Rattle.grouping.proofs.DetectionSearch.{DetectVisit, DetectEdges, d
 use borrow.Author.Needs.{needs}
 use Rattle.grouping.proofs.detection.detect.Statement.{statement}
 use Rattle.grouping.proofs.detection.detect.Tie as tie
-use Rattle.grouping.proofs.detection.detect.Reads as reads
-use Rattle.grouping.proofs.detection.detect.Lts as lts
-use Rattle.grouping.proofs.detection.illegal.Reads as illegal-reads
-use Rattle.grouping.proofs.edges.at.Reads as at-reads
-use Rattle.grouping.proofs.edges.wide.Reads as wide-reads
 
 abbrev Inv-edges : tie.InvT-edges
 Inv-edges edges states starters seen₀ stack₀ passed₀ depth₀ found₀ block k₀ seen stack passed depth found k =
@@ -37,157 +32,111 @@ room c =
     let a = c .before .before .before .before .before in
     detect-room (a .before .before .edges .inv .0) (a .at .result) (c .before .before .before .before .wide3 .result) (c .before .before .before .before .wide3 .ensures .0) (a .at .ensures) (a .before .edges-test .taken) (c .before .before .before .if1 .taken) (c .if3 .taken)
 
--- src/detection.rt:30:5
 array-write-seen : tie.Need-array-write-seen Inv-edges μ-edges Inv-visit μ-visit
 array-write-seen c = lit< tt
 
--- src/detection.rt:31:5
 visit-holds : tie.Need-visit-holds Inv-edges μ-edges Inv-visit μ-visit
 visit-holds c = let a = c .before .before in (detect-begins (now (a .args .edges)) (a .args .starters) (now (a .args .states)) (a .pre), refl)
 
--- src/detection.rt:32:39
 sub-wide : tie.Need-sub-wide Inv-edges μ-edges Inv-visit μ-visit
 sub-wide c = omega (arith, c .visit-test .taken)
 
--- src/detection.rt:32:33
 array-read-wide : tie.Need-array-read-wide Inv-edges μ-edges Inv-visit μ-visit
 array-read-wide c = omega (arith, c .visit-test .taken, shallow (c .before .visit .inv .0 .on .sized))
 
--- src/detection.rt:32:13
-wide-requires : tie.Need-wide-requires Inv-edges μ-edges Inv-visit μ-visit
-wide-requires c κs = search needs
-
--- src/detection.rt:33:40
 sub-wide-2 : tie.Need-sub-wide-2 Inv-edges μ-edges Inv-visit μ-visit
 sub-wide-2 c = omega (arith, c .before .visit-test .taken)
 
--- src/detection.rt:33:33
 array-read-wide-2 : tie.Need-array-read-wide-2 Inv-edges μ-edges Inv-visit μ-visit
 array-read-wide-2 c = omega (arith, c .before .visit-test .taken, shallow (c .before .before .visit .inv .0 .on .sized))
 
--- src/detection.rt:33:13
-wide-requires-2 : tie.Need-wide-requires-2 Inv-edges μ-edges Inv-visit μ-visit
-wide-requires-2 c κs = search needs
-
--- src/detection.rt:34:9
 edges-holds : tie.Need-edges-holds Inv-edges μ-edges Inv-visit μ-visit
 edges-holds c =
     let v = c .before .before .before .visit in
     (detect-enters (v .inv .0) (c .before .before .visit-test .taken) (c .before .wide .result) (c .wide2 .result) (c .before .wide .ensures .0) (c .wide2 .ensures .0), v .inv .1, refl, refl)
 
--- src/detection.rt:35:39
 mul-at : tie.Need-mul-at Inv-edges μ-edges Inv-visit μ-visit
 mul-at c = omega (arith, c .before .edges .inv .0 .on .is-block)
 
--- src/detection.rt:35:39
 add-at : tie.Need-add-at Inv-edges μ-edges Inv-visit μ-visit
 add-at c = omega (arith, c .before .edges .inv .0 .on .is-block, c .edges-test .taken)
 
--- src/detection.rt:35:17
-at-requires : tie.Need-at-requires Inv-edges μ-edges Inv-visit μ-visit
-at-requires c κs = search needs
-
--- src/detection.rt:36:17
-wide-requires-3 : tie.Need-wide-requires-3 Inv-edges μ-edges Inv-visit μ-visit
-wide-requires-3 c κs = search needs
-
--- src/detection.rt:37:13
 add-k : tie.Need-add-k Inv-edges μ-edges Inv-visit μ-visit
 add-k c = omega (arith, c .before .before .edges-test .taken)
 
--- src/detection.rt:39:20
 illegal-requires : tie.Need-illegal-requires Inv-edges μ-edges Inv-visit μ-visit
 illegal-requires c κs = c .if1 .taken
 
--- src/detection.rt:43:20
 array-read-if3 : tie.Need-array-read-if3 Inv-edges μ-edges Inv-visit μ-visit
 array-read-if3 c = c .before .before .if1 .taken
 
--- src/detection.rt:44:41
 cast-passed : tie.Need-cast-passed Inv-edges μ-edges Inv-visit μ-visit
 cast-passed c = omega (arith, c .before .before .before .before .before .before .edges-test .taken)
 
--- src/detection.rt:44:28
 sub-passed : tie.Need-sub-passed Inv-edges μ-edges Inv-visit μ-visit
 sub-passed c = omega (arith, c .before .before .before .before .before .before .before .edges .inv .0 .on .some)
 
--- src/detection.rt:44:21
 array-write-passed : tie.Need-array-write-passed Inv-edges μ-edges Inv-visit μ-visit
 array-write-passed c = omega (arith, room c)
 
--- src/detection.rt:45:21
 array-write-seen-2 : tie.Need-array-write-seen-2 Inv-edges μ-edges Inv-visit μ-visit
 array-write-seen-2 c = c .before .before .before .if1 .taken
 
--- src/detection.rt:46:21
 array-write-stack : tie.Need-array-write-stack Inv-edges μ-edges Inv-visit μ-visit
 array-write-stack c = room c
 
--- src/detection.rt:47:21
 array-write-passed-2 : tie.Need-array-write-passed-2 Inv-edges μ-edges Inv-visit μ-visit
 array-write-passed-2 c = room c
 
--- src/detection.rt:48:21
 add-depth : tie.Need-add-depth Inv-edges μ-edges Inv-visit μ-visit
 add-depth c = omega (arith, room c)
 
--- src/detection.rt:31:5
 visit-less : tie.Need-visit-less Inv-edges μ-edges Inv-visit μ-visit
 visit-less c =
     let a = c .before .before .before .before .before in
     let i = a .before .before .edges .inv in
     detect-falls (i .0) (a .at .result) (c .before .before .before .before .wide3 .result) (c .before .before .before .before .wide3 .ensures .0) (a .at .ensures) (a .before .edges-test .taken) (c .before .before .before .if1 .taken) (c .if3 .taken) (i .2) (i .3)
 
--- src/detection.rt:31:5
 visit-again : tie.Need-visit-again Inv-edges μ-edges Inv-visit μ-visit
 visit-again c =
     let a = c .before .before .before .before .before in
     let i = a .before .before .edges .inv in
     (detect-pushes (i .0) (a .at .result) (c .before .before .before .before .wide3 .result) (c .before .before .before .before .wide3 .ensures .0) (a .at .ensures) (a .before .edges-test .taken) (c .before .before .before .if1 .taken) (sym (c .before .before .illegal .ensures) ∙ c .before .if2 .left) (c .if3 .taken), i .1)
 
--- src/detection.rt:34:9
 edges-less : tie.Need-edges-less Inv-edges μ-edges Inv-visit μ-visit
 edges-less c = omega (arith, c .before .before .before .before .before .before .edges-test .taken)
 
--- src/detection.rt:34:9
 edges-again : tie.Need-edges-again Inv-edges μ-edges Inv-visit μ-visit
 edges-again c =
     let a = c .before .before .before .before .before in
     let i = a .before .before .edges .inv in
     (detect-known (i .0) (a .at .result) (c .before .before .before .before .wide3 .result) (c .before .before .before .before .wide3 .ensures .0) (a .at .ensures) (a .before .edges-test .taken) (c .before .before .before .if1 .taken) (sym (c .before .before .illegal .ensures) ∙ c .before .if2 .left) (c .if3 .left), i .1, i .2, i .3)
 
--- src/detection.rt:34:9
 edges-less-2 : tie.Need-edges-less-2 Inv-edges μ-edges Inv-visit μ-visit
 edges-less-2 c = omega (arith, c .before .before .before .edges-test .taken)
 
--- src/detection.rt:34:9
 edges-again-2 : tie.Need-edges-again-2 Inv-edges μ-edges Inv-visit μ-visit
 edges-again-2 c =
     let a = c .before .before in
     let i = a .before .before .edges .inv in
     (detect-none (i .0) (a .at .result) (c .before .wide3 .result) (c .before .wide3 .ensures .0) (a .at .ensures) (a .before .edges-test .taken) (c .if1 .left), i .1, i .2, i .3)
 
--- src/detection.rt:53:9
 sub-depth : tie.Need-sub-depth Inv-edges μ-edges Inv-visit μ-visit
 sub-depth c = omega (arith, c .before .edges .inv .0 .on .some)
 
--- src/detection.rt:31:5
 visit-less-2 : tie.Need-visit-less-2 Inv-edges μ-edges Inv-visit μ-visit
 visit-less-2 c =
     let i = c .before .edges .inv in
     rw (← i .2) (omega (arith, i .0 .on .some, i .3))
 
--- src/detection.rt:31:5
 visit-again-2 : tie.Need-visit-again-2 Inv-edges μ-edges Inv-visit μ-visit
 visit-again-2 c = (detect-pops (c .before .edges .inv .0) (c .edges-test .left), c .before .edges .inv .1)
 
--- src/detection.rt:21:1
 returns : tie.Need-returns Inv-edges μ-edges Inv-visit μ-visit
 returns c =
     let v = c .before .visit in
     v .inv .1 ∙ detect-ends (v .inv .0) (omega (arith, c .visit-test .left))
 
--- src/detection.rt:21:1
 returns-2 : tie.Need-returns-2 Inv-edges μ-edges Inv-visit μ-visit
 returns-2 c =
     let a = c .before .before .before .before in
@@ -205,15 +154,15 @@ detect-spec =
     visit-holds
     sub-wide
     array-read-wide
-    wide-requires
+    (λ c κs. search needs)
     sub-wide-2
     array-read-wide-2
-    wide-requires-2
+    (λ c κs. search needs)
     edges-holds
     mul-at
     add-at
-    at-requires
-    wide-requires-3
+    (λ c κs. search needs)
+    (λ c κs. search needs)
     add-k
     illegal-requires
     array-read-if3

@@ -10,9 +10,6 @@ use Rattle.grouping.proofs.EdgeBytes.{Copied, copied-none, copied-all, 
 use borrow.Author.Needs.{needs}
 use Rattle.grouping.proofs.edges.edges_of.Statement.{statement}
 use Rattle.grouping.proofs.edges.edges_of.Tie as tie
-use Rattle.grouping.proofs.edges.edges_of.Reads as reads
-use Rattle.grouping.proofs.edges.edges_of.Lts as lts
-use Rattle.cfg.proofs.decode.ending_at.Reads as ending-at-reads
 
 abbrev Inv-loop : tie.InvT-loop
 Inv-loop table edges₀ blocks n₀ edges n = Copied table edges n
@@ -24,94 +21,63 @@ abbrev μ-loop : tie.MeasureT-loop
 inside : (c : tie.In-loop Inv-loop μ-loop) → Admitted (now (c .before .before .before .before .args .table)) × (c .before .loop .n < 64)
 inside c = let a = admitted-facts (now (c .before .before .before .before .args .table)) (c .before .before .before .before .pre) in (a, omega (arith, a .fewBlocks, c .loop-test .taken))
 
--- src/edges.rt:32:18
 shared-slice-read-blocks : tie.Need-shared-slice-read-blocks Inv-loop μ-loop
 shared-slice-read-blocks c = let a = admitted-facts (now (c .before .before .args .table)) (c .before .before .pre) in omega (arith, a .long)
 
--- src/edges.rt:32:18
 cast-blocks : tie.Need-cast-blocks Inv-loop μ-loop
 cast-blocks c = let a = admitted-facts (now (c .before .before .args .table)) (c .before .before .pre) in omega (arith, a .fewBlocks)
 
--- src/edges.rt:34:5
 loop-holds : tie.Need-loop-holds Inv-loop μ-loop
 loop-holds c = copied-none (now (c .before .before .args .table))
 
--- src/edges.rt:35:66
 mul-ending-at : tie.Need-mul-ending-at Inv-loop μ-loop
 mul-ending-at c = omega (arith, inside c .1)
 
--- src/edges.rt:35:52
 add-ending-at : tie.Need-add-ending-at Inv-loop μ-loop
 add-ending-at c = omega (arith, inside c .1)
 
--- src/edges.rt:35:52
 add-ending-at-2 : tie.Need-add-ending-at-2 Inv-loop μ-loop
 add-ending-at-2 c = omega (arith, inside c .1)
 
--- src/edges.rt:35:13
 ending-at-requires : tie.Need-ending-at-requires Inv-loop μ-loop
 ending-at-requires c κs = let i = inside c in omega (arith, i .1, i .0 .long)
 
--- src/edges.rt:37:26
-enum-known-ending : tie.Need-enum-known-ending Inv-loop μ-loop
-enum-known-ending c = search needs
-
--- src/edges.rt:38:32
 cast-edges : tie.Need-cast-edges Inv-loop μ-loop
 cast-edges c = omega (arith, goto-low (c .before .before .before .before .before .loop .inv) (inside (c .before .before .before .before) .0) (c .before .before .before .before .loop-test .taken) (c .before .ending .given .0 .0) (sym (c .before .ending .given .1) ∙ c .before .before .before .ending-at .ensures))
 
--- src/edges.rt:38:23
 mul-edges : tie.Need-mul-edges Inv-loop μ-loop
 mul-edges c = omega (arith, inside (c .before .before .before .before) .1)
 
--- src/edges.rt:38:17
 array-write-edges : tie.Need-array-write-edges Inv-loop μ-loop
 array-write-edges c = omega (arith, inside (c .before .before .before .before) .1)
 
--- src/edges.rt:40:28
-enum-known-ending-2 : tie.Need-enum-known-ending-2 Inv-loop μ-loop
-enum-known-ending-2 c = search needs
-
--- src/edges.rt:41:32
 cast-edges-2 : tie.Need-cast-edges-2 Inv-loop μ-loop
 cast-edges-2 c = let l = ite-low (c .before .before .before .before .before .loop .inv) (inside (c .before .before .before .before) .0) (c .before .before .before .before .loop-test .taken) (c .before .ending2 .given .0 .0) (c .before .ending2 .given .0 .1 .0) (c .before .ending2 .given .0 .1 .1 .0) (sym (c .before .ending2 .given .1) ∙ c .before .before .before .ending-at .ensures) in omega (arith, l .0)
 
--- src/edges.rt:41:23
 mul-edges-2 : tie.Need-mul-edges-2 Inv-loop μ-loop
 mul-edges-2 c = omega (arith, inside (c .before .before .before .before) .1)
 
--- src/edges.rt:41:17
 array-write-edges-2 : tie.Need-array-write-edges-2 Inv-loop μ-loop
 array-write-edges-2 c = omega (arith, inside (c .before .before .before .before) .1)
 
--- src/edges.rt:42:36
 cast-edges-3 : tie.Need-cast-edges-3 Inv-loop μ-loop
 cast-edges-3 c = let l = ite-low (c .before .before .before .before .before .loop .inv) (inside (c .before .before .before .before) .0) (c .before .before .before .before .loop-test .taken) (c .before .ending2 .given .0 .0) (c .before .ending2 .given .0 .1 .0) (c .before .ending2 .given .0 .1 .1 .0) (sym (c .before .ending2 .given .1) ∙ c .before .before .before .ending-at .ensures) in omega (arith, l .1)
 
--- src/edges.rt:42:23
 mul-edges-3 : tie.Need-mul-edges-3 Inv-loop μ-loop
 mul-edges-3 c = omega (arith, inside (c .before .before .before .before) .1)
 
--- src/edges.rt:42:23
 add-edges : tie.Need-add-edges Inv-loop μ-loop
 add-edges c = omega (arith, inside (c .before .before .before .before) .1)
 
--- src/edges.rt:42:17
 array-write-edges-3 : tie.Need-array-write-edges-3 Inv-loop μ-loop
 array-write-edges-3 c = omega (arith, inside (c .before .before .before .before) .1)
 
-enum-told : tie.Need-enum-told Inv-loop μ-loop
-enum-told c = search needs
-
--- src/edges.rt:46:9
 add-n : tie.Need-add-n Inv-loop μ-loop
 add-n c = omega (arith, inside (c .before .before) .1)
 
--- src/edges.rt:34:5
 loop-less : tie.Need-loop-less Inv-loop μ-loop
 loop-less c = omega (arith, c .before .before .loop-test .taken)
 
--- src/edges.rt:34:5
 loop-again : tie.Need-loop-again Inv-loop μ-loop
 loop-again c =
     let i = c .before .before .before .loop .inv in
@@ -126,7 +92,6 @@ loop-again c =
     v)
     (c .match .came)
 
--- src/edges.rt:27:1
 returns : tie.Need-returns Inv-loop μ-loop
 returns c = copied-all (c .before .loop .inv) (admitted-facts (now (c .before .before .before .before .args .table)) (c .before .before .before .before .pre)) (c .loop-test .left)
 
@@ -143,11 +108,11 @@ edges-of-spec =
     add-ending-at
     add-ending-at-2
     ending-at-requires
-    enum-known-ending
+    (λ c. search needs)
     cast-edges
     mul-edges
     array-write-edges
-    enum-known-ending-2
+    (λ c. search needs)
     cast-edges-2
     mul-edges-2
     array-write-edges-2
@@ -155,7 +120,7 @@ edges-of-spec =
     mul-edges-3
     add-edges
     array-write-edges-3
-    enum-told
+    (λ c. search needs)
     add-n
     loop-less
     loop-again

@@ -11,12 +11,6 @@ use Rattle.grouping.proofs.LoopSearch.{LoopVisit, LoopEdges, loop-begin
 use borrow.Author.Needs.{needs}
 use Rattle.grouping.proofs.loops.loop_starters.Statement.{statement}
 use Rattle.grouping.proofs.loops.loop_starters.Tie as tie
-use Rattle.grouping.proofs.loops.loop_starters.Reads as reads
-use Rattle.grouping.proofs.loops.loop_starters.Lts as lts
-use Rattle.grouping.proofs.Starters.entry.Reads as entry-reads
-use Rattle.grouping.proofs.Starters.with.Reads as with-reads
-use Rattle.grouping.proofs.edges.at.Reads as at-reads
-use Rattle.grouping.proofs.edges.wide.Reads as wide-reads
 
 abbrev Inv-edges : tie.InvT-edges
 Inv-edges edges starters₀ marks₀ stack₀ passed₀ depth₀ block k₀ starters marks stack passed depth k =
@@ -37,183 +31,128 @@ room c =
     let a = c .before .before .before in
     loop-room (a .before .before .edges .inv .0) (a .at .result) (c .before .before .wide3 .result) (c .before .before .wide3 .ensures .0) (a .at .ensures) (a .before .edges-test .taken) (c .before .if1 .taken) (c .if2 .taken)
 
--- src/loops.rt:12:9
-entry-requires : tie.Need-entry-requires Inv-edges μ-edges Inv-visit μ-visit
-entry-requires c κs = search needs
-
--- src/loops.rt:17:5
 array-write-marks : tie.Need-array-write-marks Inv-edges μ-edges Inv-visit μ-visit
 array-write-marks c = lit< tt
 
--- src/loops.rt:18:5
 visit-holds : tie.Need-visit-holds Inv-edges μ-edges Inv-visit μ-visit
 visit-holds c = loop-begins (now (c .before .before .args .edges)) (c .entry .result) (c .entry .ensures .0) (c .entry .ensures .1)
 
--- src/loops.rt:19:39
 sub-wide : tie.Need-sub-wide Inv-edges μ-edges Inv-visit μ-visit
 sub-wide c = omega (arith, c .visit-test .taken)
 
--- src/loops.rt:19:33
 array-read-wide : tie.Need-array-read-wide Inv-edges μ-edges Inv-visit μ-visit
 array-read-wide c = omega (arith, c .visit-test .taken, shallow (c .before .visit .inv .on .sized))
 
--- src/loops.rt:19:13
-wide-requires : tie.Need-wide-requires Inv-edges μ-edges Inv-visit μ-visit
-wide-requires c κs = search needs
-
--- src/loops.rt:20:40
 sub-wide-2 : tie.Need-sub-wide-2 Inv-edges μ-edges Inv-visit μ-visit
 sub-wide-2 c = omega (arith, c .before .visit-test .taken)
 
--- src/loops.rt:20:33
 array-read-wide-2 : tie.Need-array-read-wide-2 Inv-edges μ-edges Inv-visit μ-visit
 array-read-wide-2 c = omega (arith, c .before .visit-test .taken, shallow (c .before .before .visit .inv .on .sized))
 
--- src/loops.rt:20:13
-wide-requires-2 : tie.Need-wide-requires-2 Inv-edges μ-edges Inv-visit μ-visit
-wide-requires-2 c κs = search needs
-
--- src/loops.rt:21:9
 edges-holds : tie.Need-edges-holds Inv-edges μ-edges Inv-visit μ-visit
 edges-holds c =
     let v = c .before .before .before .visit in
     (loop-enters (v .inv) (c .before .before .visit-test .taken) (c .before .wide .result) (c .wide2 .result) (c .before .wide .ensures .0) (c .wide2 .ensures .0), refl, refl)
 
--- src/loops.rt:22:39
 mul-at : tie.Need-mul-at Inv-edges μ-edges Inv-visit μ-visit
 mul-at c = omega (arith, c .before .edges .inv .0 .on .is-block)
 
--- src/loops.rt:22:39
 add-at : tie.Need-add-at Inv-edges μ-edges Inv-visit μ-visit
 add-at c = omega (arith, c .before .edges .inv .0 .on .is-block, c .edges-test .taken)
 
--- src/loops.rt:22:17
-at-requires : tie.Need-at-requires Inv-edges μ-edges Inv-visit μ-visit
-at-requires c κs = search needs
-
--- src/loops.rt:23:17
-wide-requires-3 : tie.Need-wide-requires-3 Inv-edges μ-edges Inv-visit μ-visit
-wide-requires-3 c κs = search needs
-
--- src/loops.rt:24:13
 add-k : tie.Need-add-k Inv-edges μ-edges Inv-visit μ-visit
 add-k c = omega (arith, c .before .before .edges-test .taken)
 
--- src/loops.rt:26:20
 array-read-if2 : tie.Need-array-read-if2 Inv-edges μ-edges Inv-visit μ-visit
 array-read-if2 c = c .if1 .taken
 
--- src/loops.rt:27:41
 cast-passed : tie.Need-cast-passed Inv-edges μ-edges Inv-visit μ-visit
 cast-passed c = omega (arith, c .before .before .before .before .edges-test .taken)
 
--- src/loops.rt:27:28
 sub-passed : tie.Need-sub-passed Inv-edges μ-edges Inv-visit μ-visit
 sub-passed c = omega (arith, c .before .before .before .before .before .edges .inv .0 .on .some)
 
--- src/loops.rt:27:21
 array-write-passed : tie.Need-array-write-passed Inv-edges μ-edges Inv-visit μ-visit
 array-write-passed c = omega (arith, room c)
 
--- src/loops.rt:28:21
 array-write-marks-2 : tie.Need-array-write-marks-2 Inv-edges μ-edges Inv-visit μ-visit
 array-write-marks-2 c = c .before .if1 .taken
 
--- src/loops.rt:29:21
 array-write-stack : tie.Need-array-write-stack Inv-edges μ-edges Inv-visit μ-visit
 array-write-stack c = room c
 
--- src/loops.rt:30:21
 array-write-passed-2 : tie.Need-array-write-passed-2 Inv-edges μ-edges Inv-visit μ-visit
 array-write-passed-2 c = room c
 
--- src/loops.rt:31:21
 add-depth : tie.Need-add-depth Inv-edges μ-edges Inv-visit μ-visit
 add-depth c = omega (arith, room c)
 
--- src/loops.rt:18:5
 visit-less : tie.Need-visit-less Inv-edges μ-edges Inv-visit μ-visit
 visit-less c =
     let a = c .before .before .before in
     let i = a .before .before .edges .inv in
     loop-falls (i .0) (a .at .result) (c .before .before .wide3 .result) (c .before .before .wide3 .ensures .0) (a .at .ensures) (a .before .edges-test .taken) (c .before .if1 .taken) (c .if2 .taken) (i .1) (i .2)
 
--- src/loops.rt:18:5
 visit-again : tie.Need-visit-again Inv-edges μ-edges Inv-visit μ-visit
 visit-again c =
     let a = c .before .before .before in
     loop-pushes (a .before .before .edges .inv .0) (a .at .result) (c .before .before .wide3 .result) (c .before .before .wide3 .ensures .0) (a .at .ensures) (a .before .edges-test .taken) (c .before .if1 .taken) (c .if2 .taken)
 
--- src/loops.rt:34:20
 array-read-if3 : tie.Need-array-read-if3 Inv-edges μ-edges Inv-visit μ-visit
 array-read-if3 c = c .before .if1 .taken
 
--- src/loops.rt:35:25
 with-requires : tie.Need-with-requires Inv-edges μ-edges Inv-visit μ-visit
 with-requires c κs = (c .before .before .before .before .before .before .edges .inv .0 .listed, rw (c .before .before .before .wide3 .ensures .0) at (c .before .before .if1 .taken))
 
--- src/loops.rt:21:9
 edges-less : tie.Need-edges-less Inv-edges μ-edges Inv-visit μ-visit
 edges-less c = omega (arith, c .before .before .before .before .before .before .edges-test .taken)
 
--- src/loops.rt:21:9
 edges-again : tie.Need-edges-again Inv-edges μ-edges Inv-visit μ-visit
 edges-again c =
     let a = c .before .before .before .before .before in
-    let i = a .before .before .edges .inv in
-    (
+    let i = a .before .before .edges .inv in (
       loop-again (i .0) (a .at .result) (c .before .before .before .before .wide3 .result) (c .before .before .before .before .wide3 .ensures .0) (a .at .ensures) (a .before .edges-test .taken) (c .before .before .before .if1 .taken)
           (c .before .if3 .taken) (c .with .result) (c .with .ensures .0) (c .with .ensures .1),
       i .1,
       i .2,
     )
 
--- src/loops.rt:21:9
 edges-less-2 : tie.Need-edges-less-2 Inv-edges μ-edges Inv-visit μ-visit
 edges-less-2 c = omega (arith, c .before .before .before .before .before .edges-test .taken)
 
--- src/loops.rt:21:9
 edges-again-2 : tie.Need-edges-again-2 Inv-edges μ-edges Inv-visit μ-visit
 edges-again-2 c =
     let a = c .before .before .before .before in
-    let i = a .before .before .edges .inv in
-    (
+    let i = a .before .before .edges .inv in (
       loop-known (i .0) (a .at .result) (c .before .before .before .wide3 .result) (c .before .before .before .wide3 .ensures .0) (a .at .ensures) (a .before .edges-test .taken) (c .before .before .if1 .taken)
           (c .before .if2 .left) (c .if3 .left),
       i .1,
       i .2,
     )
 
--- src/loops.rt:21:9
 edges-less-3 : tie.Need-edges-less-3 Inv-edges μ-edges Inv-visit μ-visit
 edges-less-3 c = omega (arith, c .before .before .before .edges-test .taken)
 
--- src/loops.rt:21:9
 edges-again-3 : tie.Need-edges-again-3 Inv-edges μ-edges Inv-visit μ-visit
 edges-again-3 c =
     let a = c .before .before in
     let i = a .before .before .edges .inv in
     (loop-none (i .0) (a .at .result) (c .before .wide3 .result) (c .before .wide3 .ensures .0) (a .at .ensures) (a .before .edges-test .taken) (c .if1 .left), i .1, i .2)
 
--- src/loops.rt:40:9
 array-write-marks-3 : tie.Need-array-write-marks-3 Inv-edges μ-edges Inv-visit μ-visit
 array-write-marks-3 c = c .before .edges .inv .0 .on .is-block
 
--- src/loops.rt:41:9
 sub-depth : tie.Need-sub-depth Inv-edges μ-edges Inv-visit μ-visit
 sub-depth c = omega (arith, c .before .edges .inv .0 .on .some)
 
--- src/loops.rt:18:5
 visit-less-2 : tie.Need-visit-less-2 Inv-edges μ-edges Inv-visit μ-visit
 visit-less-2 c =
     let e = c .before .edges in
     rw (← e .inv .1) (omega (arith, e .inv .0 .on .some, e .inv .2, used-more 0 (e .marks) (c .before .before .before .wide .result) 2 (λ h. omega arith)))
 
--- src/loops.rt:18:5
 visit-again-2 : tie.Need-visit-again-2 Inv-edges μ-edges Inv-visit μ-visit
 visit-again-2 c = loop-pops (c .before .edges .inv .0) (c .edges-test .left)
 
--- src/loops.rt:9:1
 returns : tie.Need-returns Inv-edges μ-edges Inv-visit μ-visit
 returns c = (c .before .visit .inv .listed, loop-ends (c .before .visit .inv) (omega (arith, c .visit-test .left)))
 
@@ -225,20 +164,20 @@ loop-starters-spec =
     μ-edges
     Inv-visit
     μ-visit
-    entry-requires
+    (λ c κs. search needs)
     array-write-marks
     visit-holds
     sub-wide
     array-read-wide
-    wide-requires
+    (λ c κs. search needs)
     sub-wide-2
     array-read-wide-2
-    wide-requires-2
+    (λ c κs. search needs)
     edges-holds
     mul-at
     add-at
-    at-requires
-    wide-requires-3
+    (λ c κs. search needs)
+    (λ c κs. search needs)
     add-k
     array-read-if2
     cast-passed

@@ -10,10 +10,6 @@ use Rattle.grouping.proofs.PopulationSearch.{Populating, populating-beg
 use borrow.Author.Needs.{needs}
 use Rattle.grouping.proofs.population.populate.Statement.{statement}
 use Rattle.grouping.proofs.population.populate.Tie as tie
-use Rattle.grouping.proofs.population.populate.Reads as reads
-use Rattle.grouping.proofs.population.populate.Lts as lts
-use Rattle.grouping.proofs.edges.wide.Reads as wide-reads
-use Rattle.grouping.proofs.population.take_state.Reads as take-state-reads
 
 abbrev Inv-loop : tie.InvT-loop
 Inv-loop edges starters states₀ k₀ states k = Populating edges starters states k
@@ -28,31 +24,21 @@ more c = omega (arith, c .if1 .taken, c .before .before .wide .ensures .0)
 few : (c : tie.Start Inv-loop μ-loop) → c .args .starters .count ≤ 64
 few c = starters-few (c .args .starters) (c .pre)
 
--- src/population.rt:58:5
 loop-holds : tie.Need-loop-holds Inv-loop μ-loop
 loop-holds c = populating-begins (now (c .before .args .edges)) (c .before .args .starters)
 
--- src/population.rt:58:11
-wide-requires : tie.Need-wide-requires Inv-loop μ-loop
-wide-requires c κs = search needs
-
--- src/population.rt:59:40
 slice-aggregate-take-state : tie.Need-slice-aggregate-take-state Inv-loop μ-loop
 slice-aggregate-take-state c = sym (c .before .before .before .before .loop .inv .size)
 
--- src/population.rt:59:9
 take-state-requires : tie.Need-take-state-requires Inv-loop μ-loop
 take-state-requires c κs = (c .before .before .before .before .before .before .pre, more (c .before), c .before .before .before .before .loop .inv .size)
 
--- src/population.rt:60:9
 add-k : tie.Need-add-k Inv-loop μ-loop
 add-k c = omega (arith, more (c .before .before .before), few (c .before .before .before .before .before .before .before .before))
 
--- src/population.rt:58:5
 loop-less : tie.Need-loop-less Inv-loop μ-loop
 loop-less c = omega (arith, more (c .before .before .before))
 
--- src/population.rt:58:5
 loop-again : tie.Need-loop-again Inv-loop μ-loop
 loop-again c =
     let a = c .before .before .before .before .before .before .before .before in
@@ -60,7 +46,6 @@ loop-again c =
     let t = c .before .take-state in
     populating-on (now (a .args .edges)) (a .args .starters) (a .pre) (l .states) (l .k) (l .inv) (more (c .before .before .before)) (t .last .1 .1 .1 .0) (t .kept .1 .1 .1 .0 ∙ l .inv .size) (t .ensures)
 
--- src/population.rt:52:1
 returns : tie.Need-returns Inv-loop μ-loop
 returns c =
     let a = c .before .before .before .before .before in
@@ -74,7 +59,7 @@ populate-spec =
     Inv-loop
     μ-loop
     loop-holds
-    wide-requires
+    (λ c κs. search needs)
     slice-aggregate-take-state
     take-state-requires
     add-k

@@ -5,3 +5,6 @@ pub mod NameLaws
 pub mod LineLaws
 pub mod TextLaws
 pub mod WalkLaws
+pub mod AcceptedLaws
+pub mod TableLaws
+pub mod RoundTrip

@@ -174,7 +174,7 @@ valid-code b r k h =
     let rest = every unused (drop (k .count) (k .instructions)) in
     and-right few code (and-left (few && code) rest (and-left (few && code && rest) (validEnding b r (k .ending)) h))
 
-proper-eight : (k : Block) → proper k ≡ true → length (k .instructions) ≡ maxInstructions
+pub proper-eight : (k : Block) → proper k ≡ true → length (k .instructions) ≡ maxInstructions
 proper-eight k h =
     eqb-true (length (k .instructions)) maxInstructions
     (and-left (eqb (length (k .instructions)) maxInstructions) (every (λ (i : Instruction). ltb (i .a) (2 ^ 32)) (codeOf k)) h)

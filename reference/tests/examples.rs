@@ -100,7 +100,7 @@ fn p7_starters_and_listing() {
     assert_eq!(listing(P7.as_bytes()), "states,2,20\n0,0,1,2\n1,1,5,18\n");
 }
 
-/// The wires of P7, worked out by hand from the law.
+/// The wires of P7, worked out by hand from paper 01.
 #[test]
 fn p7_wires() {
     let wires: [[u32; 4]; 20] = [

@@ -1,4 +1,4 @@
-//! Starters found another way, and the law's procedure step by step.
+//! Starters found another way, and paper 01's procedure step by step.
 
 mod common;
 
@@ -105,7 +105,7 @@ fn every_block_has_one_starter() {
     }
 }
 
-/// The law's three steps as it words them, recursive, with a path.
+/// Paper 01's three steps as it words them, recursive, with a path.
 #[derive(Default)]
 struct Steps {
     visited: BTreeSet<usize>,

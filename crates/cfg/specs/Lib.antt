@@ -2,3 +2,4 @@ pub mod Layout
 pub mod Graph
 pub mod Table
 pub mod Run
+pub mod Fits

@@ -2,6 +2,7 @@
 use word::Comparison;
 
 pub mod decode; // decode.rt: a table's words as blocks
+pub mod admission; // admission.rt: which tables are admitted
 
 // The head of a graph table: how many blocks and registers the graph has.
 pub struct Graph {
@@ -66,12 +67,14 @@ pub struct Block {
 
 impl Block {
     pub const INSTRUCTIONS: usize = 8;
-    // Words of a block, and where in them its first instruction and its ending begin.
+    // Words of a block, and where in them its first instruction and its ending begin and the last, always 0, stands.
     pub const WORDS: usize = 40;
 
     pub const CODE: usize = 1;
 
     pub const ENDING: usize = 33;
+
+    pub const LAST: usize = 39;
 
     // No instruction, and a halt.
     pub fn empty() -> Block {

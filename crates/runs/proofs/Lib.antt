@@ -3,3 +3,4 @@ pub mod Sets
 pub mod ListLaws
 pub mod MembershipLaws
 pub mod RunLaws
+pub mod Every

@@ -73,7 +73,7 @@ module _ (step : Configuration → Configuration) (stays : (c : Configuration) �
 
   pub stepsRun-add : (j k : ℕ) (c : Configuration) → stepsRun step (j + k) c ≡ stepsRun step j c + stepsRun step k (times step j c)
   unfolding times stepsRun
-  stepsRun-add zero k c = rw (zero-add, zero-add)
+  stepsRun-add zero k c = rw (zero-add k, zero-add (stepsRun step k c))
   stepsRun-add (suc j) k c = rw suc-add (go (stepsRun-add j k (step c)) (c .place) refl)
     where
       go : stepsRun step (j + k) (step c) ≡ stepsRun step j (step c) + stepsRun step k (times step j (step c)) → (p : Place) → c .place ≡ p

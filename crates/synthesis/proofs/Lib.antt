@@ -1,2 +1,12 @@
 pub mod PlacementLaws
 pub mod StateOrder
+pub mod GraphFacts
+pub mod WireValues
+pub mod Environments
+pub mod Readings
+pub mod TakenEdges
+pub mod OneCycle
+pub mod SelectionCount
+pub mod Validity
+pub mod WireCount
+pub mod MachineFacts

@@ -1,34 +1,34 @@
 -- A text that is accepted: which lines led to where reading stands, that they were written of the graph, and that the graph is valid.
 -- Assumes nothing.
-use Prim.Native.Nat.{ℕ, zero, suc, _+_, _-_, _^_, _≤_, _<_}
+use Prim.Native.Nat.{ℕ, zero, suc, _+_, _^_, _≤_, _<_}
 use native.Mathlib.Omega.{arith}
 use native.Mathlib.Nat.{add-zero}
 use mathlib.Core.Path.{_≡_, refl, sym, ap, ap₂, _∙_}
-use mathlib.Core.Bool.{Bool, true, false, not, _&&_, _||_}
+use mathlib.Core.Bool.{Bool, true, false, _&&_, _||_}
 use mathlib.Core.List.{List, [], _∷_, _++_, map, append-assoc, append-nil, map-append}
 use mathlib.Core.Logic.{_⊎_, inl, inr}
 use lib.Dec.{eqb, leb, ltb}
 use lib.ListN.{length, take, drop, length-append}
-use borrow.Author.Tests.{leb-true, ltb-true, eqb-true, eqb-false, eq-eqb, ne-eqb, le-leb, lt-ltb}
+use borrow.Author.Tests.{ltb-true, eqb-true, eq-eqb, ne-eqb, le-leb, lt-ltb}
 use Rattle.word.specs.Word.{choose, arity}
 use Rattle.runs.specs.Lists.{every, padded}
 use Rattle.runs.proofs.ListLaws.{and-left, and-right, and-both, length-padded}
 use Rattle.cfg.specs.Layout.{maxBlocks, maxRegisters, maxInstructions}
 use Rattle.cfg.specs.Graph.{CFG, noInstruction, codeOf, targets, validInstruction, validEnding, unused, validBlock, validGraph}
 use Rattle.cfg.specs.declared.Instruction.{Instruction}
-use Rattle.cfg.specs.declared.Condition.{Condition}
 use Rattle.cfg.specs.declared.Ending.{Ending}
 use Rattle.cfg.specs.declared.Ending.the-variants as ending
 use Rattle.cfg.specs.declared.Block.{Block}
 use Rattle.cfg_line.specs.declared.Line.{Line}
 use Rattle.cfg_line.specs.declared.Line.the-variants as line
 use Rattle.cfg_line.specs.Form.{lineOf}
-use Rattle.cfg_text.specs.Walk.{Progress, start, between, inside, Next, go, refuse, Reading, refused, read, atStart, atBlock, inBlock, allBelow, instructionRegisters, endingRegisters, opened, joined, blockWith, closed, next, finish, proceed, walk}
+use Rattle.cfg_text.specs.Walk.{Progress, start, between, inside, Next, go, refuse, refused, read, allBelow, instructionRegisters, endingRegisters, opened, joined, blockWith, closed, next, finish, proceed, walk}
 use Rattle.cfg_write.specs.Write.{endingLine, blockLines, linesFrom, linesOf}
-use Rattle.cfg_write.proofs.NameLaws.{Codes, codes, arity-one-two}
-use Rattle.cfg_write.proofs.LineLaws.{Formed, FormedInstruction, FormedGraph, FormedIte}
+use Rattle.cfg_write.proofs.NameLaws.{codes, arity-one-two}
+use Rattle.cfg_write.proofs.LineLaws.{Formed, FormedInstruction, FormedGraph}
 use Rattle.cfg_write.proofs.TextLaws.{lineBytes, LineWritten, line-written}
-use Rattle.cfg_write.proofs.WalkLaws.{proper}
+use Rattle.cfg_write.proofs.Whole.{proper}
+use Rattle.cfg_write.proofs.SnocLaws.{every-snoc}
 
 -- ---- refusals lead nowhere
 
@@ -70,11 +70,6 @@ abbrev Known : Progress → Type 0
 Known start = Unit {0}
 Known (between b r bs) = Between b r bs
 Known (inside b r bs is) = Inside b r bs is
-
-every-snoc : {A : Type 0} (p : A → Bool) (l : List A) (x : A) → every p l ≡ true → p x ≡ true → every p (l ++ (x ∷ [])) ≡ true
-every-snoc p [] x h k = and-both (p x) true k refl
-every-snoc p (y ∷ l) x h k =
-    and-both (p y) (every p (l ++ (x ∷ []))) (and-left (p y) (every p l) h) (every-snoc p l x (and-right (p y) (every p l) h) k)
 
 -- ---- an instruction that joined
 
@@ -318,13 +313,13 @@ finish-back (between b r bs) n g l h e z = by (eqb (length bs) b) refl e
     made t q =
         let m = eqb-true (length bs) b t in
         let a : Accepted here (soFar (between b r bs)) (l ∷ []) =
-            record {
-              rest = [];
-              text = rw z refl;
-              lines = rw m (sym (append-nil (line.Graph b r ∷ linesFrom 0 bs)));
-              valid = graph-from b r bs m h;
-              properly = h .properly;
-            } in
+        record {
+          rest = [];
+          text = rw z refl;
+          lines = rw m (sym (append-nil (line.Graph b r ∷ linesFrom 0 bs)));
+          valid = graph-from b r bs m h;
+          properly = h .properly;
+        } in
         rw q at a
 
     by : (t : Bool) → eqb (length bs) b ≡ t → choose t (read here) (refused 3 n) ≡ read g → Accepted g (soFar (between b r bs)) (l ∷ [])

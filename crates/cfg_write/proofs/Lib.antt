@@ -1,4 +1,6 @@
 pub mod Examples
+pub mod Whole
+pub mod SnocLaws
 pub mod NumberLaws
 pub mod SplitLaws
 pub mod NameLaws
@@ -7,4 +9,6 @@ pub mod TextLaws
 pub mod WalkLaws
 pub mod AcceptedLaws
 pub mod TableLaws
+pub mod GraphLaws
+pub mod AnswerLaws
 pub mod RoundTrip

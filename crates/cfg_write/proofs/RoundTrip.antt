@@ -1,93 +1,115 @@
--- Reading and writing are inverse to each other, on graphs, texts and tables. Assumes nothing.
-use Prim.Native.Nat.{ℕ, zero, suc, _+_, _*_, _^_, _≤_, _<_}
-use native.Mathlib.Omega.{arith}
+-- Reading and writing undo each other, on graphs, texts and tables: the theorems. Assumes nothing.
+use Prim.Native.Nat.{ℕ, _≤_}
+use mathlib.Core.Logic.{_↔_}
 use mathlib.Core.Path.{_≡_, refl, sym, ap, _∙_}
-use mathlib.Core.Bool.{Bool, true, false, _&&_}
-use mathlib.Core.List.{List, [], _∷_, _++_, map, append-nil}
-use lib.Dec.{eqb, leb, ltb}
-use lib.ListN.{length, getD, take, drop, take-append-drop}
-use lib.Seq.{take-at}
-use borrow.Author.Tests.{lt-ltb, le-ltb, ltb-false, eq-eqb, eqb-true}
-use Rattle.word.specs.Word.{choose}
-use Rattle.runs.specs.Lists.{every, same, upFrom, concatMap}
-use Rattle.runs.proofs.ListLaws.{and-left, and-right, and-both, every-all, every-at, same-refl, getD-map-upFrom, length-upFrom}
-use Rattle.cfg.specs.Layout.{maxBlocks, maxRegisters, maxInstructions, graphWords}
-use Rattle.cfg.specs.declared.Instruction.{Instruction}
-use Rattle.cfg.specs.declared.Block.{Block}
-use Rattle.cfg.specs.Graph.{CFG, codeOf, emptyBlock, noInstruction, validBlock, validGraph}
+use mathlib.Core.Bool.{true}
+use mathlib.Core.List.{List, [], _++_, append-nil}
+use lib.ListN.{length, take, drop, take-append-drop}
+use Rattle.cfg.specs.Layout.{graphWords}
+use Rattle.cfg.specs.Graph.{CFG}
 use Rattle.cfg.specs.Table.{tableOf, graphOf, admitted}
-use Rattle.cfg.proofs.Admitted.{valid-graph, admitted-halves}
-use Rattle.cfg_line.specs.declared.Line.the-variants as line
-use Rattle.cfg_line.specs.Form.{splitAt}
-use Rattle.cfg_text.specs.Walk.{Reading, refused, read, start, between, finish, next, walk}
-use Rattle.cfg_text.specs.Read.{maxText, readText, reading, answerOf, wordsOf, readAnswer, readWords, Readable}
-use Rattle.cfg_text.specs.declared.ReadAnswer.{ReadAnswer}
-use Rattle.cfg_text.specs.declared.ReadAnswer.the-variants.{Refused, Read}
-use Rattle.cfg_write.specs.Write.{linesFrom, linesOf, lineText, parted, textOf}
-use Rattle.cfg_write.proofs.SplitLaws.{parted-split}
-use Rattle.cfg_write.proofs.TextLaws.{lineBytes, AllFormed, lines-split, lines-parted, lines-length}
-use Rattle.cfg_write.proofs.WalkLaws.{Goes, step, proper, walk-goes, blocks-go, formed-lines, lines-count}
+use Rattle.cfg.proofs.Admitted.{admitted-halves, admitted-facts}
+use Rattle.cfg_text.specs.Walk.{read}
+use Rattle.cfg_text.specs.Read.{maxText, readText, readAnswer, readWords, Readable}
+use Rattle.cfg_text.specs.declared.ReadAnswer.the-variants.{Read}
+use Rattle.cfg_write.specs.Write.{textOf, writeAnswer, writeBytes}
+use Rattle.cfg_write.specs.declared.WriteAnswer.the-variants as write
+use Rattle.cfg_write.proofs.Whole.{allWords, Whole}
 use Rattle.cfg_write.proofs.AcceptedLaws.{accepted}
-use Rattle.cfg_write.proofs.TableLaws.{table-read, table-length}
+use Rattle.cfg_write.proofs.GraphLaws.{graph-read, graph-short, accepted-whole, accepted-text}
+use Rattle.cfg_write.proofs.AnswerLaws.{admitted-whole, begins-graph, begins-admitted, took-of, answer-read, words-are, answer-written, bytes-written, wrote-of, took-bytes}
 
--- a graph that a table of words can hold: valid, and each block has eight instructions and words for literals
-pub record Whole (g : CFG) : Type 0 where
-  pub valid : validGraph g ≡ true
-  pub properly : every proper (g .blocks) ≡ true
+-- ---- graphs and texts
 
--- ---- graphs
+-- the text of a graph is read as that graph
+pub text-read : (g : CFG) → Whole g → readText (textOf g) ≡ read g
+text-read = graph-read
 
-valid-blocks : (g : CFG) → validGraph g ≡ true → every (validBlock (length (g .blocks)) (g .registers)) (g .blocks) ≡ true
-unfolding validGraph
-valid-blocks g h =
-    let n = length (g .blocks) in
-    and-right (leb 1 n && leb n maxBlocks && leb 1 (g .registers) && leb (g .registers) maxRegisters) (every (validBlock n (g .registers)) (g .blocks)) h
+-- and it is not too long
+pub text-short : (g : CFG) → Whole g → length (textOf g) ≤ maxText
+text-short = graph-short
 
-module _ (g : CFG) (w : Whole g) where
-  lines-formed : AllFormed (linesOf g)
-  lines-formed =
-      let v = valid-graph g (w .valid) in
-      (record { someBlock = v .someBlock; fewBlocks = v .fewBlocks; someRegister = v .someRegister; fewRegisters = v .fewRegisters }, formed-lines (length (g .blocks)) (g .registers) 0 (g .blocks) (v .fewBlocks) (v .fewRegisters) (valid-blocks g (w .valid)) (w .properly) (omega arith))
+-- what reading makes of a text is a graph that a table can hold
+pub read-whole : (text : List ℕ) (g : CFG) → readText text ≡ read g → Whole g
+read-whole = accepted-whole
 
-  lines-go : Goes start (linesOf g) (between (length (g .blocks)) (g .registers) (g .blocks))
-  unfolding next
-  lines-go = step refl (blocks-go (length (g .blocks)) (g .registers) [] (g .blocks) (valid-blocks g (w .valid)) (w .properly) (omega arith))
+-- and it is written as that text
+pub read-text : (text : List ℕ) (g : CFG) → readText text ≡ read g → textOf g ≡ text
+read-text = accepted-text
 
-  -- the text of a graph is read as that graph
-  pub text-read : readText (textOf g) ≡ read g
-  unfolding readText textOf
-  text-read =
-      ap (walk start 1) (lines-split (linesOf g) lines-formed)
-      ∙ walk-goes g lines-go lines-formed (λ m. rw (eq-eqb (length (g .blocks)) (length (g .blocks)) refl)) 1
+-- ---- graphs and tables
 
-  -- and is not too long
-  pub text-short : length (textOf g) ≤ maxText
-  unfolding textOf
-  text-short =
-      let v = valid-graph g (w .valid) in
-      let few = v .fewBlocks in
-      let l = lines-length (linesOf g) lines-formed in
-      let c = lines-count (length (g .blocks)) (g .registers) 0 (g .blocks) (valid-blocks g (w .valid)) (w .properly) in
-      omega arith
+-- a graph's words are those of that graph
+pub words-read : (g : CFG) → Whole g → graphOf (tableOf g) ≡ g
+words-read g w = ap graphOf (sym (append-nil (tableOf g))) ∙ begins-graph g [] w
 
-  -- its words are those of that graph
-  pub words-read : graphOf (tableOf g) ≡ g
-  words-read =
-      let v = valid-graph g (w .valid) in
-      ap graphOf (sym (append-nil (tableOf g))) ∙ table-read g [] (w .properly) (v .fewBlocks)
+-- ---- the tables that reading makes are the admitted ones
 
--- ---- texts
+admitted-readable : (t : List ℕ) → allWords t ≡ true → admitted t ≡ true → Readable t
+admitted-readable t h a =
+    let g = graphOf t in
+    let w = admitted-whole t h a in
+    let long = admitted-facts t a .long in
+    let short = graph-short g w in
+    let e = graph-read g w in
+    record {
+      text = textOf g;
+      accepted = answer-read (textOf g) t g short long e;
+      made =
+          words-are (textOf g) t g short long e
+          ∙ (ap (λ (l : List ℕ). l ++ drop graphWords t) (admitted-halves t a .1) ∙ take-append-drop graphWords t);
+    }
 
-module _ (text : List ℕ) (g : CFG) (e : readText text ≡ read g) where
-  -- what reading makes is a graph that a table can hold
-  pub read-whole : Whole g
-  unfolding readText
-  read-whole = let a = accepted 1 (splitAt 10 text) g e in record { valid = a .valid; properly = a .properly }
+readable-admitted : (t : List ℕ) → Readable t → admitted t ≡ true
+readable-admitted t r =
+    let k = took-of (r .text) t (r .accepted) in
+    let g = k .graph in
+    let w = accepted-whole (r .text) g (k .took) in
+    let e = words-are (r .text) t g (k .short) (k .long) (k .took) in
+    let b = begins-admitted g (drop graphWords t) w in
+    rw (sym e ∙ r .made) at b
 
-  -- and is written as that text
-  pub read-text : textOf g ≡ text
-  unfolding readText textOf
-  read-text =
-      let a = accepted 1 (splitAt 10 text) g e in
-      ap (concatMap lineText) (a .lines)
-      ∙ (sym (lines-parted (a .rest)) ∙ (ap (parted 10) (sym (a .text)) ∙ parted-split 10 text))
+pub admitted-iff : (t : List ℕ) → allWords t ≡ true → (admitted t ≡ true) ↔ Readable t
+admitted-iff t h = (admitted-readable t h, readable-admitted t)
+
+-- ---- the operations undo each other
+
+-- a table that was written and is read again is the same table
+pub record ReadAgain (table again bytes : List ℕ) : Type 0 where
+  pub accepted : readAnswer bytes again ≡ Read
+  pub words : readWords bytes again ≡ take graphWords table ++ drop graphWords again
+
+pub write-then-read :
+    (table out again : List ℕ) (n : ℕ) → allWords table ≡ true → graphWords ≤ length again → writeAnswer table out ≡ write.Written n
+    → ReadAgain table again (take n (writeBytes table out))
+write-then-read table out again n h long e =
+    let o = wrote-of table out n e in
+    let g = graphOf table in
+    let w = admitted-whole table h (o .isAdmitted) in
+    let b = took-bytes table out n e (o .size) in
+    let short = graph-short g w in
+    let t = graph-read g w in
+    record {
+      accepted = rw b (answer-read (textOf g) again g short long t);
+      words = rw b (words-are (textOf g) again g short long t ∙ ap (λ (l : List ℕ). l ++ drop graphWords again) (admitted-halves table (o .isAdmitted) .1));
+    }
+
+-- a text that was read and is written again is the same text
+pub record WrittenAgain (text table out : List ℕ) : Type 0 where
+  pub accepted : writeAnswer table out ≡ write.Written (length text)
+  pub bytes : writeBytes table out ≡ text ++ drop (length text) out
+
+pub read-then-write :
+    (text table out : List ℕ) → readAnswer text table ≡ Read → length text ≤ length out → WrittenAgain text (readWords text table) out
+read-then-write text table out h room =
+    let k = took-of text table h in
+    let g = k .graph in
+    let s = drop graphWords table in
+    let w = accepted-whole text g (k .took) in
+    let t = accepted-text text g (k .took) in
+    let e = words-are text table g (k .short) (k .long) (k .took) in
+    let room′ : length (textOf g) ≤ length out = rw t room in
+    record {
+      accepted = rw e (answer-written g s out w room′ ∙ rw t refl);
+      bytes = rw e (bytes-written g s out w room′ ∙ rw t refl);
+    }

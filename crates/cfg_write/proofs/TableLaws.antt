@@ -1,15 +1,13 @@
 -- A graph's table: its words are those of the graph again, whatever stands behind them. Assumes nothing.
-use Prim.Native.Nat.{ℕ, zero, suc, _+_, _-_, _*_, _≤_, _<_}
+use Prim.Native.Nat.{ℕ, suc, _+_, _-_, _*_, _≤_}
 use native.Mathlib.Omega.{arith}
-use native.Mathlib.Nat.{sub-zero}
-use mathlib.Core.Path.{_≡_, refl, sym, ap, ap₂, _∙_}
-use mathlib.Core.Bool.{Bool, true, false, _&&_}
+use mathlib.Core.Path.{_≡_, refl, ap, ap₂, _∙_}
+use mathlib.Core.Bool.{true}
 use mathlib.Core.List.{List, [], _∷_, _++_, map, append-assoc}
 use lib.ListN.{length, getD, replicate, length-append}
 use lib.Seq.{getD-append-add}
-use lib.Dec.{eqb}
 use Rattle.runs.specs.Lists.{upFrom, every, padded, concatMap}
-use Rattle.runs.proofs.ListLaws.{and-left, and-right, length-padded}
+use Rattle.runs.proofs.ListLaws.{and-left, and-right, length-padded, padded-append}
 use Rattle.cfg.specs.Layout.{maxBlocks, maxInstructions, headWords, graphWords, blockOffset}
 use Rattle.cfg.specs.Graph.{CFG}
 use Rattle.cfg.specs.Table.{instructionWordsOf, endingWordsOf, blockWordsOf, tableOf, instructionAt, endingAt, blockAt, graphOf}
@@ -18,7 +16,8 @@ use Rattle.cfg.specs.declared.Ending.{Ending}
 use Rattle.cfg.specs.declared.Ending.the-variants.{Goto, Ite, Halt}
 use Rattle.cfg.specs.declared.Block.{Block}
 use Rattle.cfg_write.proofs.NameLaws.{comparison-back}
-use Rattle.cfg_write.proofs.WalkLaws.{proper, proper-eight}
+use Rattle.cfg_write.proofs.Whole.{proper}
+use Rattle.cfg_write.proofs.WalkLaws.{proper-eight}
 
 -- ---- what stands behind some words
 
@@ -139,12 +138,6 @@ blocks-length (k ∷ bs) p =
 
 -- ---- the whole table
 
-padded-front : (n d : ℕ) (l : List ℕ) → length l ≤ n → padded n d l ≡ l ++ replicate (n - length l) d
-padded-front zero d [] h = refl
-padded-front zero d (x ∷ l) h = absurd (omega arith)
-padded-front (suc n) d [] h = rw sub-zero (ap (λ (l : List ℕ). d ∷ l) (padded-front n d [] (omega arith) ∙ rw sub-zero))
-padded-front (suc n) d (x ∷ l) h = let e : suc n - suc (length l) ≡ n - length l = omega arith in rw e (ap (λ (m : List ℕ). x ∷ m) (padded-front n d l (omega arith)))
-
 -- the graph of a table that begins with these words
 graph-read : (t : List ℕ) (g : CFG) (s : List ℕ) → t ≡ length (g .blocks) ∷ g .registers ∷ (concatMap blockWordsOf (g .blocks) ++ s) → every proper (g .blocks) ≡ true → graphOf t ≡ g
 unfolding graphOf
@@ -160,7 +153,7 @@ graph-padded :
 graph-padded m t g s e l p =
     let w = concatMap blockWordsOf (g .blocks) in
     graph-read (t ++ s) g (replicate (m - length w) 0 ++ s)
-    (rw (e, padded-front m 0 w l, append-assoc w (replicate (m - length w) 0) s))
+    (rw (e, padded-append m 0 w l, append-assoc w (replicate (m - length w) 0) s))
     p
 
 table-is : (g : CFG) → tableOf g ≡ length (g .blocks) ∷ g .registers ∷ padded 2560 0 (concatMap blockWordsOf (g .blocks))

@@ -23,7 +23,9 @@ pub enum Keyword {
     Goto,
     Ite,
     Halt,
-    // An instruction, by its code.
-    Operation(u32),
+    Set,
+    // Instructions of one operand and of two, by their code.
+    Unary(u32),
+    Binary(u32),
     Nothing,
 }

@@ -1,31 +1,29 @@
 -- Laws of a graph's run: instructions, blocks, steps, and the answers of "Run graph". Assumes nothing.
-use Prim.Native.Nat.{ℕ, zero, suc, _+_, _-_, _≤_, _<_, _^_}
-use native.Mathlib.Nat.{lt-of-lt-of-le}
+use Prim.Native.Nat.{ℕ, suc, _+_, _-_, _≤_, _<_}
 use native.Mathlib.Numerals.{add-one}
 use native.Mathlib.Omega.{arith}
-use mathlib.Core.Path.{_≡_, refl, sym, ap, _∙_, subst}
+use mathlib.Core.Path.{_≡_, refl, ap, _∙_}
 use mathlib.Core.Bool.{Bool, true, false, not, _||_}
 use mathlib.Core.List.{List, [], _∷_, _++_}
 use lib.Dec.{eqb, ltb}
-use lib.ListN.{length, getD, take, drop, set, length-take, drop-of-length-le}
+use lib.ListN.{length, getD, take, drop, set, drop-of-length-le}
 use lib.Seq.{drop-cons, getD-take, length-take-le}
 use borrow.Author.Tests.{eqb-true, eqb-false, eq-eqb, ne-eqb, lt-ltb, le-ltb}
 use Rattle.word.specs.Word.{choose, evalOf, arity}
 use Rattle.runs.specs.Runs.{Place, standing, halted, Configuration, startAt, answer, registersAfter}
-use Rattle.runs.specs.declared.RunAnswer.{RunAnswer}
-use Rattle.runs.specs.declared.RunAnswer.the-variants.{Refused, Halted, Spent}
+use Rattle.runs.specs.declared.RunAnswer.the-variants.{Refused}
 use Rattle.runs.proofs.RunLaws.{Reached, reached-step}
 use Rattle.cfg.specs.declared.Instruction.{Instruction}
 use Rattle.cfg.specs.declared.Ending.{Ending}
 use Rattle.cfg.specs.declared.Ending.the-variants.{Goto, Ite, Halt}
 use Rattle.cfg.specs.declared.Block.{Block}
-use Rattle.cfg.specs.Layout.{maxRegisters, maxInstructions, graphWords}
+use Rattle.cfg.specs.Layout.{maxRegisters, graphWords}
 use Rattle.cfg.specs.Graph.{CFG, noInstruction, blockOf, codeOf, valueOf, execute, executeAll, holds, leave, runBlock, step}
 use Rattle.cfg.specs.Table.{blockAt, graphOf, admitted}
 use Rattle.cfg.specs.Run.{refusal, runAnswer, runRegisters}
 use Rattle.cfg.specs.Steps.{Within, BlockWithin}
 use Rattle.cfg.proofs.Blocks.{instructions-length}
-use Rattle.cfg.proofs.Admitted.{Admitted, ValidInstruction, ValidBlock, ValidEnding, ValidIte, block-below}
+use Rattle.cfg.proofs.Admitted.{Admitted, ValidInstruction, ValidEnding, block-below}
 
 -- ---- one instruction
 
@@ -99,7 +97,9 @@ module _ (t : List ℕ) (a : Admitted t) (n : ℕ) (below : n < getD t 0 0) wher
 
 leave-below : (b r : ℕ) (e : Ending) (rs : List ℕ) (m : ℕ) → ValidEnding b r e → leave e rs ≡ standing m → m < b
 unfolding leave
-leave-below b r (Goto t) rs m v h = let e : t ≡ m = cc in omega arith
+leave-below b r (Goto t) rs m v h =
+    let e : t ≡ m = cc in
+    omega arith
 leave-below b r (Ite c t f) rs m v h = go (holds c rs) h
   where
     go : (p : Bool) → standing (choose p t f) ≡ standing m → m < b

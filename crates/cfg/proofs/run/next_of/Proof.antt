@@ -1,5 +1,6 @@
-use Rattle.cfg.specs.Graph.{leave}
+-- `cfg::run::next_of` meets its contract. Assumes nothing.
 use borrow.Author.Needs.{needs}
+use Rattle.cfg.specs.Graph.{leave}
 use Rattle.cfg.proofs.run.next_of.Statement.{statement}
 use Rattle.cfg.proofs.run.next_of.Tie as tie
 

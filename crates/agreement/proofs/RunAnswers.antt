@@ -3,22 +3,19 @@ use Prim.Native.Nat.{ℕ, zero, suc, _≤_, _<_}
 use native.Mathlib.Omega.{arith}
 use native.Mathlib.Decide.{decLt}
 use mathlib.Core.Path.{_≡_, refl, sym, ap, _∙_}
-use mathlib.Core.Logic.{_↔_, _≢_}
-use mathlib.Core.Bool.{Bool, true, false, not, _||_}
+use mathlib.Core.Logic.{_≢_}
+use mathlib.Core.Bool.{true}
 use mathlib.Core.List.{List, _++_}
 use lib.ListN.{length, getD, take, drop}
-use lib.Dec.{eqb, ltb}
 use borrow.Author.Tests.{lt-ltb, le-ltb}
-use Rattle.word.specs.Word.{choose}
 use Rattle.runs.specs.Runs.{Place, standing, halted, Configuration, startAt, times, stepsRun, outcome, answer, registersAfter, numberOf, haltedOf, countOf, nextOf}
-use Rattle.runs.specs.declared.RunAnswer.{RunAnswer}
-use Rattle.runs.specs.declared.RunAnswer.the-variants.{Refused, Halted, Spent}
+use Rattle.runs.specs.declared.RunAnswer.the-variants.{Refused}
 use Rattle.runs.proofs.RunLaws.{never-both, times-zero, times-suc, stepsRun-zero, stepsRun-standing, stepsRun-halted, stepsRun-all}
-use Rattle.fsmd.specs.Layout.{maxRegisters, machineWords, none}
-use Rattle.fsmd.specs.Machine.{FSMD, cycle}
+use Rattle.fsmd.specs.Layout.{maxRegisters, machineWords}
+use Rattle.fsmd.specs.Machine.{cycle}
 use Rattle.fsmd.specs.Table.{machineOf, admitted}
 use Rattle.fsmd.specs.Run.{refusal, runAnswer, runRegisters}
-use Rattle.agreement.specs.Agreement.{machineAfter, HaltingCycle, stoodIn, RunAgrees}
+use Rattle.agreement.specs.Agreement.{machineAfter, stoodIn, RunAgrees}
 use Rattle.agreement.proofs.WholeRun.{cycle-halted}
 
 -- ---- the steps that are run, of any run
@@ -111,16 +108,18 @@ module _ (t : List ℕ) (long : machineWords ≤ length t) (ok : admitted t ≡ 
         not9 = λ n. absurd (omega arith);
         not10 = λ n. absurd (omega arith);
         accepted = λ n. number;
-        halts = λ n. (λ d. outcome-halted place count (sym (ap haltedOf e) ∙ d), λ d. ap haltedOf e ∙ halted-outcome place count d);
-        registers = λ n. run-registers h;
-        next = λ n. ap nextOf e ∙ outcome-next place count;
-        spent = λ n d.
-            let p = outcome-standing place count (sym (ap haltedOf e) ∙ d) in
-            ap countOf e ∙ outcome-count place count ∙ stepsRun-all (cycle (machineOf t)) (cycle-halted (machineOf t)) k (p .0) (startAt 0 rs) (p .1);
-        ended = λ n d. rw (ap countOf e ∙ outcome-count place count) (record {
-          running = running-before (cycle (machineOf t)) k (startAt 0 rs);
-          stopped = halted-with (cycle (machineOf t)) k (startAt 0 rs) (outcome-halted place count (sym (ap haltedOf e) ∙ d));
-        });
+        answers = λ n. record {
+          halts = (λ d. outcome-halted place count (sym (ap haltedOf e) ∙ d), λ d. ap haltedOf e ∙ halted-outcome place count d);
+          registers = run-registers h;
+          next = ap nextOf e ∙ outcome-next place count;
+          spent = λ d.
+              let p = outcome-standing place count (sym (ap haltedOf e) ∙ d) in
+              ap countOf e ∙ outcome-count place count ∙ stepsRun-all (cycle (machineOf t)) (cycle-halted (machineOf t)) k (p .0) (startAt 0 rs) (p .1);
+          ended = λ d. rw (ap countOf e ∙ outcome-count place count) (record {
+            running = running-before (cycle (machineOf t)) k (startAt 0 rs);
+            stopped = halted-with (cycle (machineOf t)) k (startAt 0 rs) (outcome-halted place count (sym (ap haltedOf e) ∙ d));
+          });
+        };
       }
 
   too-short : length buffer < maxRegisters → RunAgrees t buffer k
@@ -130,11 +129,7 @@ module _ (t : List ℕ) (long : machineWords ≤ length t) (ok : admitted t ≡ 
         not9 = λ n. absurd (omega arith);
         not10 = λ n. absurd (omega arith);
         accepted = λ n. absurd (omega arith);
-        halts = λ n. absurd (omega arith);
-        registers = λ n. absurd (omega arith);
-        next = λ n. absurd (omega arith);
-        spent = λ n d. absurd (omega arith);
-        ended = λ n d. absurd (omega arith);
+        answers = λ n. absurd (omega arith);
       }
 
   pub run-agrees : RunAgrees t buffer k

@@ -4,12 +4,10 @@ use native.Mathlib.Omega.{arith}
 use native.Mathlib.Decide.{decLt}
 use mathlib.Core.Path.{_≡_, refl, sym, ap, _∙_}
 use mathlib.Core.Logic.{_⊎_, inl, inr}
-use mathlib.Core.Bool.{Bool, true, false}
-use mathlib.Core.List.{List, _++_, map}
+use mathlib.Core.Bool.{true}
+use mathlib.Core.List.{List}
 use lib.ListN.{length, getD, drop, length-append, length-map, length-drop}
-use lib.Dec.{ltb}
 use borrow.Author.Tests.{lt-ltb, le-ltb}
-use Rattle.word.specs.Word.{choose}
 use Rattle.runs.specs.Lists.{mem}
 use Rattle.runs.specs.Runs.{Place, standing, halted, Configuration, startAt, times}
 use Rattle.runs.proofs.RunLaws.{never-both, times-zero, times-add, times-last}
@@ -18,12 +16,12 @@ use Rattle.fsmd.specs.Layout.{none}
 use Rattle.fsmd.specs.Machine.{State, FSMD, stateOf as stateAt, worked, toState, clock, cycle}
 use Rattle.grouping.specs.Grouping.{Groups}
 use Rattle.synthesis.specs.Placement.{members}
-use Rattle.synthesis.specs.Wires.{leaves, nextStateOf, stateOf}
+use Rattle.synthesis.specs.Wires.{nextStateOf, stateOf}
 use Rattle.synthesis.specs.Synthesis.{machineFor}
 use Rattle.synthesis.proofs.GraphFacts.{GraphFits}
 use Rattle.synthesis.proofs.StateOrder.{Arranged}
-use Rattle.synthesis.proofs.MachineFacts.{states-count, state-at, registers-are}
-use Rattle.agreement.specs.Agreement.{haltedWith, graphAfter, atStarter, moves, arrivals, Arrival, HaltBefore, EndOfCycle, machineAfter, stateIn, AgreeAfter}
+use Rattle.synthesis.proofs.SynthesisedMachine.{states-count, state-at, registers-are}
+use Rattle.agreement.specs.Agreement.{haltedWith, graphAfter, moves, arrivals, Arrival, HaltBefore, EndOfCycle, machineAfter, stateIn, AgreeAfter}
 use Rattle.synthesis.proofs.Readings.{Reads}
 use Rattle.synthesis.proofs.OneCycle.{StateReads, CycleAgrees, cycle-agrees}
 use Rattle.agreement.proofs.Arrivals.{place-of, moves-zero, moves-add, trace-comes, trace-moves, arrival-once, arrival-or-halt, halted-once, standing-before, halting-step}

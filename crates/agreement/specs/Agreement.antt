@@ -9,6 +9,7 @@ use lib.ListN.{length, getD, take, drop}
 use Rattle.word.specs.Word.{truth}
 use Rattle.runs.specs.Lists.{mem}
 use Rattle.runs.specs.Runs.{Place, standing, halted, Configuration, startAt, times, numberOf, haltedOf, countOf, nextOf}
+use Rattle.runs.specs.declared.RunAnswer.{RunAnswer}
 use Rattle.cfg.specs.Graph.{CFG, step}
 use Rattle.cfg.specs.Table.{graphOf}
 use Rattle.fsmd.specs.Layout.{maxRegisters, none}
@@ -93,24 +94,24 @@ abbrev pub stoodIn : Place → ℕ
 stoodIn (standing k) = k
 stoodIn halted = none
 
+-- the answer a of k cycles from the buffer's registers, and the buffer after, where not refused
+pub record Answers (m : FSMD) (k : ℕ) (buffer after : List ℕ) (a : RunAnswer) : Type 0 where
+  -- halted exactly when the machine has halted after k cycles
+  pub halts : (haltedOf a ≡ 1) ↔ (machineAfter m (take maxRegisters buffer) k .place ≡ halted)
+  -- the registers of that moment, words past 16 as before
+  pub registers : after ≡ machineAfter m (take maxRegisters buffer) k .registers ++ drop maxRegisters buffer
+  -- the state then stood in, or 255
+  pub next : nextOf a ≡ stoodIn (machineAfter m (take maxRegisters buffer) k .place)
+  -- the count: k, or the halting cycle's number
+  pub spent : haltedOf a ≡ 0 → countOf a ≡ k
+  pub ended : haltedOf a ≡ 1 → HaltingCycle m (take maxRegisters buffer) (countOf a)
+
 pub record RunAgrees (table buffer : List ℕ) (k : ℕ) : Type 0 where
+  -- never refused 9 or 10, and not at all where the buffer has its 16 words
   pub not9 : numberOf (runAnswer table buffer 0 k) ≢ 9
   pub not10 : numberOf (runAnswer table buffer 0 k) ≢ 10
-  -- a buffer of 16 words is not refused
   pub accepted : maxRegisters ≤ length buffer → numberOf (runAnswer table buffer 0 k) ≡ 0
-  -- where not refused: halted exactly when the machine has halted after k cycles
-  pub halts : numberOf (runAnswer table buffer 0 k) ≡ 0
-      → (haltedOf (runAnswer table buffer 0 k) ≡ 1) ↔ (machineAfter (machineOf table) (take maxRegisters buffer) k .place ≡ halted)
-  -- the registers of that moment, words past 16 as before
-  pub registers : numberOf (runAnswer table buffer 0 k) ≡ 0
-      → runRegisters table buffer 0 k ≡ machineAfter (machineOf table) (take maxRegisters buffer) k .registers ++ drop maxRegisters buffer
-  -- the state then stood in, or 255
-  pub next : numberOf (runAnswer table buffer 0 k) ≡ 0
-      → nextOf (runAnswer table buffer 0 k) ≡ stoodIn (machineAfter (machineOf table) (take maxRegisters buffer) k .place)
-  -- the count: k, or the halting cycle's number
-  pub spent : numberOf (runAnswer table buffer 0 k) ≡ 0 → haltedOf (runAnswer table buffer 0 k) ≡ 0 → countOf (runAnswer table buffer 0 k) ≡ k
-  pub ended : numberOf (runAnswer table buffer 0 k) ≡ 0 → haltedOf (runAnswer table buffer 0 k) ≡ 1
-      → HaltingCycle (machineOf table) (take maxRegisters buffer) (countOf (runAnswer table buffer 0 k))
+  pub answers : numberOf (runAnswer table buffer 0 k) ≡ 0 → Answers (machineOf table) k buffer (runRegisters table buffer 0 k) (runAnswer table buffer 0 k)
 
 -- ---- demand 3, on the words of a graph table and a machine table
 

@@ -3,6 +3,7 @@ use word::Comparison;
 
 pub mod decode; // decode.rt: a table's words as blocks
 pub mod admission; // admission.rt: which tables are admitted
+pub mod run; // run.rt: a graph's run with a budget
 
 // The head of a graph table: how many blocks and registers the graph has.
 pub struct Graph {

@@ -1,16 +1,14 @@
 -- A line's form: what is written of a form is read as it, and what is read as a form was so written. Assumes nothing.
-use Prim.Native.Nat.{ℕ, zero, suc, _+_, _^_, _≤_, _<_}
+use Prim.Native.Nat.{ℕ, _^_, _≤_, _<_}
 use native.Mathlib.Omega.{arith}
 use mathlib.Core.Path.{_≡_, refl, sym, ap, ap₂, _∙_}
-use mathlib.Core.Bool.{Bool, true, false, not, _&&_, true≢false}
-use mathlib.Core.List.{List, [], _∷_, _++_}
+use mathlib.Core.Bool.{Bool, true, false, _&&_, true≢false}
+use mathlib.Core.List.{List, [], _∷_}
 use mathlib.Core.Option.{Option, none, some}
-use lib.Dec.{eqb, leb, ltb}
-use lib.ListN.{length, length-append}
-use borrow.Author.Tests.{leb-true, eqb-true, eqb-false, eq-eqb, ne-eqb, le-leb}
+use lib.Dec.{eqb, leb}
+use borrow.Author.Tests.{leb-true, eqb-true, le-leb}
 use Rattle.word.specs.Word.{choose, arity}
-use Rattle.runs.specs.Lists.{every}
-use Rattle.runs.proofs.ListLaws.{and-left, and-right, and-both}
+use Rattle.runs.proofs.ListLaws.{and-left, and-right}
 use Rattle.decimal.specs.Decimal.{decimalOf}
 use Rattle.cfg.specs.Layout.{maxBlocks, maxRegisters}
 use Rattle.cfg.specs.Table.{comparisonAt}
@@ -20,13 +18,12 @@ use Rattle.cfg_line.specs.declared.Keyword.{Keyword}
 use Rattle.cfg_line.specs.declared.Keyword.the-variants as keyword
 use Rattle.cfg_line.specs.declared.Line.{Line}
 use Rattle.cfg_line.specs.declared.Line.the-variants as line
-use Rattle.cfg_line.specs.Name.{bytes, instructionNames, comparisonNames, comparisonOf, keywordOf, operation}
-use Rattle.cfg_line.specs.Number.{digit, atMost, numberOf, literalOf}
-use Rattle.cfg_line.specs.Form.{Fields, splitAt, field, withValue, number, end, graphLine, instruction, iteLine, formOf, byName, lineOf}
-use Rattle.cfg_write.specs.Write.{instructionName, comparisonName, literalText, operandsOf, fieldsOf, parted, lineText}
-use Rattle.cfg_write.proofs.NumberLaws.{decimal-digits, number-read, number-written, literal-read, literal-written, number-length, literal-length}
-use Rattle.cfg_write.proofs.SplitLaws.{apart, split-parted, parted-split, apart-parted}
-use Rattle.cfg_write.proofs.NameLaws.{Code, Named, keyword-named, Codes, codes, name-read, arity-one-two, name-test, comparison-read, comparison-back, comparison-test, comparison-written}
+use Rattle.cfg_line.specs.Name.{bytes, comparisonOf, keywordOf, operation}
+use Rattle.cfg_line.specs.Number.{numberOf, literalOf}
+use Rattle.cfg_line.specs.Form.{Fields, field, withValue, number, end, graphLine, instruction, iteLine, formOf, byName}
+use Rattle.cfg_write.specs.Write.{comparisonName, literalText, operandsOf, fieldsOf}
+use Rattle.cfg_write.proofs.NumberLaws.{number-read, number-written, literal-read, literal-written}
+use Rattle.cfg_write.proofs.NameLaws.{Code, Named, keyword-named, codes, name-read, comparison-read, comparison-back, comparison-written}
 
 -- ---- the numbers that a line can hold
 

@@ -3,12 +3,12 @@ use Prim.Native.Nat.{ℕ, zero, suc, _+_, _-_, _*_, _/_, _%_, _^_, _≤_, _<_}
 use native.Mathlib.Omega.{arith}
 use native.Mathlib.Decide.{decLt}
 use mathlib.Core.Path.{_≡_, refl, sym, ap, _∙_}
-use mathlib.Core.Bool.{Bool, true, false, not, _&&_, true≢false, false≢true}
+use mathlib.Core.Bool.{Bool, true, false, not, _&&_, false≢true}
 use mathlib.Core.List.{List, [], _∷_, _++_, append-assoc, append-nil}
 use mathlib.Core.Option.{Option, none, some}
-use lib.Dec.{eqb, leb, ltb}
+use lib.Dec.{eqb, leb}
 use lib.ListN.{length, getD, List·getD-append}
-use borrow.Author.Tests.{leb-true, ltb-true, ltb-false, eqb-true, eqb-false, eq-eqb, ne-eqb, le-leb, lt-ltb, le-ltb, not-true}
+use borrow.Author.Tests.{leb-true, eqb-true, eqb-false, ne-eqb, le-leb, lt-ltb, le-ltb, not-true}
 use Rattle.word.specs.Word.{choose}
 use Rattle.runs.specs.Lists.{every}
 use Rattle.runs.proofs.ListLaws.{and-left, and-right, and-both}
@@ -16,6 +16,7 @@ use Rattle.decimal.specs.Decimal.{decimalOf}
 use Rattle.decimal.proofs.Laws.{decimal-one, decimal-last, decimal-some, decimal-short}
 use Rattle.cfg_line.specs.Number.{digit, decimal, valueFrom, atMost, negative, literalOf}
 use Rattle.cfg_write.specs.Write.{literalText}
+use Rattle.cfg_write.proofs.SnocLaws.{every-snoc}
 
 -- an option is not both none and some
 pub none-some {ℓ} : {X : Type ℓ} {Y : Type 0} (x : X) → _≡_ {A = Option X} none (some x) → Y
@@ -28,13 +29,6 @@ digit-is d l h = and-both (leb 48 d) (leb d 57) (le-leb 48 d l) (le-leb d 57 h)
 
 digit-one : (m : ℕ) → m < 10 → every digit ((48 + m) ∷ []) ≡ true
 digit-one m l = and-both (digit (48 + m)) true (digit-is (48 + m) (omega arith) (omega arith)) refl
-
-every-snoc : (xs : List ℕ) (d : ℕ) → every digit xs ≡ true → digit d ≡ true → every digit (xs ++ (d ∷ [])) ≡ true
-every-snoc [] d h k = and-both (digit d) true k refl
-every-snoc (x ∷ xs) d h k =
-    and-both (digit x) (every digit (xs ++ (d ∷ [])))
-    (and-left (digit x) (every digit xs) h)
-    (every-snoc xs d (and-right (digit x) (every digit xs) h) k)
 
 value-snoc : (v : ℕ) (xs : List ℕ) (d : ℕ) → valueFrom v (xs ++ (d ∷ [])) ≡ valueFrom v xs * 10 + (d - 48)
 unfolding valueFrom
@@ -63,7 +57,7 @@ digits-by (suc k) n h = go (decLt n 10) (digits-by k (n / 10))
         let some = decimal-some (n / 10) in
         rw (decimal-last n (omega arith))
         record {
-          digits = every-snoc (decimalOf (n / 10)) (48 + n % 10) (r .digits) (digit-is (48 + n % 10) (omega arith) (omega arith));
+          digits = every-snoc digit (decimalOf (n / 10)) (48 + n % 10) (r .digits) (digit-is (48 + n % 10) (omega arith) (omega arith));
           value = let s = value-snoc 0 (decimalOf (n / 10)) (48 + n % 10) in let v = r .value in omega arith;
           leading = λ p z. r .leading (omega arith) (sym (List·getD-append (decimalOf (n / 10)) ((48 + n % 10) ∷ []) 48 0 some) ∙ z);
         }

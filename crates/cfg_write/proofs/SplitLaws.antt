@@ -1,26 +1,19 @@
 -- Parts with a byte between them: put together and split again, both ways. Assumes nothing.
-use Prim.Native.Nat.{ℕ, _≤_}
-use mathlib.Core.Path.{_≡_, refl, sym, ap, _∙_}
-use mathlib.Core.Bool.{Bool, true, false, not, _&&_}
+use Prim.Native.Nat.{ℕ}
+use mathlib.Core.Path.{_≡_, refl, ap, _∙_}
+use mathlib.Core.Bool.{Bool, true, false, not}
 use mathlib.Core.List.{List, [], _∷_, _++_}
 use lib.Dec.{eqb}
 use borrow.Author.Tests.{eqb-true, eq-eqb, not-true}
 use Rattle.word.specs.Word.{choose}
 use Rattle.runs.specs.Lists.{every}
-use Rattle.runs.proofs.ListLaws.{and-left, and-right, and-both}
+use Rattle.runs.proofs.ListLaws.{and-left, and-right, and-both, every-append}
 use Rattle.cfg_line.specs.Form.{splitAt, onto}
 use Rattle.cfg_write.specs.Write.{parted}
 
 -- the byte c stands nowhere in the list
 abbrev pub apart : ℕ → List ℕ → Bool
 apart c = every (λ (x : ℕ). not (eqb x c))
-
-pub apart-append : (c : ℕ) (xs ys : List ℕ) → apart c xs ≡ true → apart c ys ≡ true → apart c (xs ++ ys) ≡ true
-apart-append c [] ys h k = k
-apart-append c (x ∷ xs) ys h k =
-    and-both (not (eqb x c)) (apart c (xs ++ ys))
-    (and-left (not (eqb x c)) (apart c xs) h)
-    (apart-append c xs ys (and-right (not (eqb x c)) (apart c xs) h) k)
 
 -- ---- split what was put together
 
@@ -92,6 +85,7 @@ unfolding parted
 apart-parted c d [] n h = refl
 apart-parted c d (f ∷ []) n h = and-left (apart c f) true h
 apart-parted c d (f ∷ g ∷ fs) n h =
-    apart-append c f (d ∷ parted d (g ∷ fs)) (and-left (apart c f) (every (apart c) (g ∷ fs)) h)
+    every-append (λ (x : ℕ). not (eqb x c)) f (d ∷ parted d (g ∷ fs))
+    ∙ and-both (apart c f) (apart c (d ∷ parted d (g ∷ fs))) (and-left (apart c f) (every (apart c) (g ∷ fs)) h)
     (and-both (not (eqb d c)) (apart c (parted d (g ∷ fs))) n
     (apart-parted c d (g ∷ fs) n (and-right (apart c f) (every (apart c) (g ∷ fs)) h)))

@@ -1,9 +1,9 @@
 -- The bytes of a line and of several: they are read again as the forms they were written of, a line is short, and lines that are
 -- read were so written. Assumes nothing.
-use Prim.Native.Nat.{ℕ, zero, suc, _+_, _-_, _*_, _^_, _≤_, _<_}
+use Prim.Native.Nat.{ℕ, _+_, _-_, _*_, _^_, _≤_, _<_}
 use native.Mathlib.Omega.{arith}
 use mathlib.Core.Path.{_≡_, refl, sym, ap, _∙_}
-use mathlib.Core.Bool.{Bool, true, false, not, _&&_}
+use mathlib.Core.Bool.{Bool, true, false, not}
 use mathlib.Core.List.{List, [], _∷_, _++_, map, append-assoc}
 use lib.Dec.{eqb, leb, ltb}
 use lib.ListN.{length, length-append}
@@ -15,14 +15,14 @@ use Rattle.decimal.specs.Decimal.{decimalOf}
 use Rattle.cfg.specs.declared.Instruction.{Instruction}
 use Rattle.cfg_line.specs.declared.Line.{Line}
 use Rattle.cfg_line.specs.declared.Line.the-variants as line
-use Rattle.cfg_line.specs.Name.{bytes, instructionNames, comparisonNames}
+use Rattle.cfg_line.specs.Name.{instructionNames, comparisonNames}
 use Rattle.cfg_line.specs.Number.{digit}
 use Rattle.cfg_line.specs.Form.{Fields, splitAt, byName, lineOf}
 use Rattle.cfg_write.specs.Write.{instructionName, comparisonName, literalText, operandsOf, fieldsOf, parted, lineText}
 use Rattle.cfg_write.proofs.NumberLaws.{decimal-digits, number-length, literal-length}
 use Rattle.cfg_write.proofs.SplitLaws.{apart, split-part, split-parted, parted-split, parted-more, apart-parted}
 use Rattle.cfg_write.proofs.NameLaws.{name-test, comparison-test}
-use Rattle.cfg_write.proofs.LineLaws.{Formed, FormedInstruction, Fielded, operands-set, operands-one, operands-two, fields-read, fields-back}
+use Rattle.cfg_write.proofs.LineLaws.{Formed, FormedInstruction, operands-set, operands-one, operands-two, fields-read, fields-back}
 
 -- a line without its line feed
 abbrev pub lineBytes : Line → List ℕ

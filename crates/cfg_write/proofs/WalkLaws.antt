@@ -1,35 +1,34 @@
 -- Reading's walk over lines: where the lines of a valid graph lead, and which lines led to where it stands. Assumes nothing.
-use Prim.Native.Nat.{ℕ, zero, suc, _+_, _*_, _^_, _≤_, _<_}
+use Prim.Native.Nat.{ℕ, suc, _+_, _*_, _^_, _≤_, _<_}
 use native.Mathlib.Omega.{arith}
-use native.Mathlib.Nat.{add-zero, add-suc}
-use mathlib.Core.Path.{_≡_, refl, sym, ap, ap₂, _∙_}
-use mathlib.Core.Bool.{Bool, true, false, not, _&&_, _||_}
+use mathlib.Core.Path.{_≡_, refl, sym, ap₂, _∙_}
+use mathlib.Core.Bool.{Bool, true, false, _&&_}
 use mathlib.Core.List.{List, [], _∷_, _++_, map, append-assoc, append-nil}
 use mathlib.Core.Logic.{_⊎_, inl, inr}
 use lib.Dec.{eqb, leb, ltb}
-use lib.ListN.{length, getD, take, drop, length-append, length-map, List·getD-eq-default}
+use lib.ListN.{length, getD, drop, length-append, length-map, List·getD-eq-default}
 use lib.Seq.{length-take-le, getD-take, ext-getD}
 use native.Mathlib.Decide.{decLt}
-use borrow.Author.Tests.{leb-true, ltb-true, eqb-true, eqb-false, eq-eqb, le-leb, lt-ltb}
+use borrow.Author.Tests.{ltb-true, eqb-true, eqb-false, eq-eqb, lt-ltb}
 use Rattle.word.specs.Word.{choose, arity}
 use Rattle.runs.specs.Lists.{every, padded}
 use Rattle.runs.proofs.ListLaws.{and-left, and-right, and-both, length-padded, getD-padded}
 use Rattle.cfg.specs.Layout.{maxBlocks, maxRegisters, maxInstructions}
-use Rattle.cfg.specs.Graph.{CFG, noInstruction, codeOf, targets, validInstruction, validEnding, unused, validBlock, validGraph}
-use Rattle.cfg.proofs.Admitted.{ValidInstruction, ValidIte, ValidEnding, ValidBlock, valid-instruction, valid-block, targets-below}
+use Rattle.cfg.specs.Graph.{CFG, noInstruction, codeOf, validInstruction, validEnding, unused, validBlock}
+use Rattle.cfg.proofs.Admitted.{ValidInstruction, ValidEnding, ValidBlock, valid-instruction, valid-block, targets-below}
 use Rattle.cfg.specs.declared.Instruction.{Instruction}
-use Rattle.cfg.specs.declared.Condition.{Condition}
 use Rattle.cfg.specs.declared.Ending.{Ending}
 use Rattle.cfg.specs.declared.Ending.the-variants as ending
 use Rattle.cfg.specs.declared.Block.{Block}
 use Rattle.cfg_line.specs.declared.Line.{Line}
 use Rattle.cfg_line.specs.declared.Line.the-variants as line
 use Rattle.cfg_line.specs.Form.{lineOf}
-use Rattle.cfg_text.specs.Walk.{Progress, start, between, inside, Next, go, refuse, Reading, refused, read, atStart, atBlock, inBlock, allBelow, instructionRegisters, endingRegisters, opened, joined, blockWith, closed, next, finish, proceed, walk}
-use Rattle.cfg_write.specs.Write.{endingLine, blockLines, linesFrom, linesOf}
-use Rattle.cfg_write.proofs.NameLaws.{Codes, codes, arity-one-two}
-use Rattle.cfg_write.proofs.LineLaws.{Formed, FormedInstruction, FormedGraph, FormedIte}
-use Rattle.cfg_write.proofs.TextLaws.{lineBytes, AllFormed, line-read, LineWritten, line-written}
+use Rattle.cfg_text.specs.Walk.{Progress, between, inside, go, read, allBelow, instructionRegisters, endingRegisters, blockWith, closed, next, finish, proceed, walk}
+use Rattle.cfg_write.specs.Write.{endingLine, blockLines, linesFrom}
+use Rattle.cfg_write.proofs.Whole.{proper}
+use Rattle.cfg_write.proofs.NameLaws.{codes, arity-one-two}
+use Rattle.cfg_write.proofs.LineLaws.{Formed, FormedInstruction}
+use Rattle.cfg_write.proofs.TextLaws.{lineBytes, AllFormed, line-read}
 
 -- ---- one line after another
 
@@ -59,10 +58,6 @@ walk-goes {p} g (step {m = m} {l = l} {ls = ls} e k) h f n =
     ∙ rw (line-read l (h .0), e) (walk-goes g k (h .1) f (suc n))
 
 -- ---- the lines of a valid graph
-
--- what a block of a table has beside being valid: eight instructions, and words for literals
-abbrev pub proper : Block → Bool
-proper b = eqb (length (b .instructions)) maxInstructions && every (λ (i : Instruction). ltb (i .a) (2 ^ 32)) (codeOf b)
 
 module _ (r : ℕ) (i : Instruction) (v : ValidInstruction r i) where
   -- one operand where the code does not read two
@@ -174,7 +169,7 @@ valid-code b r k h =
     let rest = every unused (drop (k .count) (k .instructions)) in
     and-right few code (and-left (few && code) rest (and-left (few && code && rest) (validEnding b r (k .ending)) h))
 
-proper-eight : (k : Block) → proper k ≡ true → length (k .instructions) ≡ maxInstructions
+pub proper-eight : (k : Block) → proper k ≡ true → length (k .instructions) ≡ maxInstructions
 proper-eight k h =
     eqb-true (length (k .instructions)) maxInstructions
     (and-left (eqb (length (k .instructions)) maxInstructions) (every (λ (i : Instruction). ltb (i .a) (2 ^ 32)) (codeOf k)) h)

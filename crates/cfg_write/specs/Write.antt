@@ -1,6 +1,6 @@
 -- A graph's text, and "Write graph table as text" of paper 01: its answer and the bytes it leaves, on all inputs. Assumes nothing.
 use Prim.Native.Nat.{ℕ, suc, _-_, _^_}
-use mathlib.Core.Bool.{Bool, true, false, not}
+use mathlib.Core.Bool.{not}
 use mathlib.Core.List.{List, [], _∷_, _++_, map}
 use lib.ListN.{length, getD, drop}
 use lib.Dec.{eqb, ltb}
@@ -12,7 +12,6 @@ use Rattle.cfg.specs.Layout.{graphWords}
 use Rattle.cfg.specs.Graph.{CFG, codeOf}
 use Rattle.cfg.specs.Table.{graphOf, admitted}
 use Rattle.cfg.specs.declared.Instruction.{Instruction}
-use Rattle.cfg.specs.declared.Condition.{Condition}
 use Rattle.cfg.specs.declared.Ending.{Ending}
 use Rattle.cfg.specs.declared.Ending.the-variants as ending
 use Rattle.cfg.specs.declared.Block.{Block}

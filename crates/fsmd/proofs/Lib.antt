@@ -2,4 +2,5 @@ pub mod Windows
 pub mod Environment
 pub mod Machines
 pub mod Steps
+pub mod WrittenTable
 pub mod ReadBack

@@ -39,7 +39,7 @@ fn operand(words: &[u32], n: usize, w: Wire) -> u32
     requires { ⌜ n ≤ length (now words) ⌝ }
     ensures { λ v. ⌜ v ≡ choose (eqb (w .code) 1) (w .a) (getD (take n (now (words .entry))) (w .a) 0) ⌝ }
 {
-    if w.code == 1 {
+    if w.code == Wire::SET {
         w.a
     } else {
         read(words, n, w.a)

@@ -57,6 +57,7 @@ pub fn run_machine(table: &[u32], registers: &mut [u32], start: u32, budget: u32
     ensures { λ r. ⌜ r ≡ runAnswer (now (table .entry)) (now (registers .entry)) start budget ⌝ }
     ensures { λ _. ⌜ now (registers .exit) ≡ runRegisters (now (table .entry)) (now (registers .entry)) start budget ⌝ }
 {
+    // The refusals of paper 01, in its order: 7 short tables, 10 not admitted, 9 no such start.
     if table.len() < Machine::WORDS {
         return RunAnswer::Refused(7);
     }

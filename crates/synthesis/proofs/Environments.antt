@@ -4,7 +4,7 @@ use native.Mathlib.Omega.{arith}
 use mathlib.Core.Path.{_≡_, refl, sym, ap, ap₂, _∙_}
 use mathlib.Core.Bool.{Bool, true, false}
 use mathlib.Core.List.{List, [], _∷_, _++_, map, append-assoc, append-nil}
-use lib.ListN.{length, getD, set, take, drop, length-append, List·getD-append, length-map, take-append-drop}
+use lib.ListN.{length, getD, set, take, drop, length-append, List·getD-append, take-append-drop}
 use lib.Seq.{append-snoc, getD-append-seam, length-take-le}
 use Rattle.word.specs.Word.{choose, truth}
 use Rattle.runs.specs.Lists.{upFrom}
@@ -69,11 +69,6 @@ wires-grow rs ws vs = rw (worked-append rs ws vs) (worked-grows (worked rs ws) v
 pub below-mono : (n m : ℕ) (vs : List ℕ) → n ≤ m → Below n vs → Below m vs
 below-mono n m [] h b = tt
 below-mono n m (v ∷ vs) h b = (let k = b .0 in omega arith, below-mono n m vs h (b .1))
-
-pub below-at : (n : ℕ) (vs : List ℕ) (i : ℕ) → Below n vs → i < length vs → getD vs i 0 < n
-below-at n [] i b h = omega arith
-below-at n (v ∷ vs) zero b h = b .0
-below-at n (v ∷ vs) (suc i) b h = below-at n vs i (b .1) (omega arith)
 
 pub below-set : (n : ℕ) (vs : List ℕ) (i a : ℕ) → Below n vs → a < n → Below n (set vs i a)
 below-set n [] i a b h = tt

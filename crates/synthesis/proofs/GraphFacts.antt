@@ -2,7 +2,7 @@
 use Prim.Native.Nat.{ℕ, zero, suc, _≤_, _<_}
 use native.Mathlib.Omega.{arith}
 use native.Mathlib.Decide.{decLt}
-use mathlib.Core.Path.{_≡_, refl, sym, _∙_}
+use mathlib.Core.Path.{_≡_, refl}
 use mathlib.Core.Bool.{true}
 use mathlib.Core.List.{List, [], _∷_}
 use lib.ListN.{length, getD, take, length-take, List·getD-eq-default}
@@ -17,7 +17,7 @@ use Rattle.cfg.specs.declared.Ending.{Ending}
 use Rattle.cfg.specs.declared.Ending.the-variants.{Goto, Ite, Halt}
 use Rattle.cfg.specs.declared.Block.{Block}
 use Rattle.cfg.specs.Graph.{CFG, noInstruction, emptyBlock, blockOf, codeOf}
-use Rattle.cfg.proofs.Admitted.{ValidInstruction, ValidIte, ValidEnding, ValidBlock, ValidGraph}
+use Rattle.cfg.proofs.Admitted.{ValidInstruction, ValidEnding, ValidBlock, ValidGraph}
 
 abbrev pub ValidCode : ℕ → List Instruction → Type 0
 ValidCode R [] = Unit {0}

@@ -7,6 +7,8 @@ pub mod Readings
 pub mod TakenEdges
 pub mod OneCycle
 pub mod SelectionCount
-pub mod Validity
+pub mod FoundEdges
+pub mod WireValidity
+pub mod StateValidity
 pub mod WireCount
-pub mod MachineFacts
+pub mod SynthesisedMachine

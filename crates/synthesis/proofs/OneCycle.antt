@@ -1,14 +1,13 @@
 -- One cycle of a state: its references read what the graph's run from the state's starter comes to at its first step that moves to a starter or halts.
 -- A token walks the edges as the blocks are placed: it is on the one that is taken. Assumes nothing.
-use Prim.Native.Nat.{ℕ, zero, suc, _+_, _≤_, _<_}
+use Prim.Native.Nat.{ℕ, suc, _+_, _≤_}
 use native.Mathlib.Omega.{arith}
 use native.Mathlib.Nat.{add-zero, add-suc, suc-add}
-use mathlib.Core.Path.{_≡_, refl, sym, ap, _∙_}
+use mathlib.Core.Path.{_≡_, refl, ap}
 use mathlib.Core.Logic.{_⊎_, inl, inr}
-use mathlib.Core.Bool.{Bool, true, false, not, _||_}
-use mathlib.Core.List.{List, [], _∷_, _++_}
-use lib.ListN.{length, getD, drop}
-use lib.Dec.{eqb}
+use mathlib.Core.Bool.{Bool, true, false, not}
+use mathlib.Core.List.{List, [], _∷_}
+use lib.ListN.{length, drop}
 use borrow.Author.Tests.{eqb-true}
 use Rattle.word.specs.Word.{choose}
 use Rattle.runs.specs.Lists.{mem}
@@ -19,12 +18,11 @@ use Rattle.cfg.specs.Graph.{CFG, blockOf, codeOf, targets, successors, executeA
 use Rattle.fsmd.specs.Machine.{State, worked}
 use Rattle.grouping.specs.Grouping.{Groups}
 use Rattle.synthesis.specs.Placement.{order}
-use Rattle.synthesis.specs.Wires.{set-wire, towards, leadsTo, Edge, Point, Build, arrive, start, enter, after, put, build, leaves, nextStateOf, closeState, stateOf}
-use Rattle.synthesis.proofs.GraphFacts.{BlockFits, GraphFits}
+use Rattle.synthesis.specs.Wires.{towards, leadsTo, Build, arrive, start, enter, after, put, build, leaves, nextStateOf, closeState, stateOf}
+use Rattle.synthesis.proofs.GraphFacts.{GraphFits}
 use Rattle.synthesis.proofs.StateOrder.{Ahead, Ordered, StateOrder}
-use Rattle.synthesis.proofs.Environments.{wires-grow}
-use Rattle.synthesis.proofs.Readings.{Reads, PointReads, start-reads}
-use Rattle.synthesis.proofs.TakenEdges.{NoneTaken, OneTaken, none-grow, one-grow, none-towards, one-towards, one-away, arrive-grow, arrive-none, arrive-one}
+use Rattle.synthesis.proofs.Readings.{Reads, start-reads}
+use Rattle.synthesis.proofs.TakenEdges.{OneTaken, none-grow, one-grow, one-towards, one-away, arrive-grow, arrive-none, arrive-one}
 use Rattle.synthesis.proofs.TakenEdges.{blockMade, made-reached, made-passed, close-state-one}
 
 -- The graph's run from block b with registers r: in j steps it comes to c, and no step but the last moves to one of the blocks st.

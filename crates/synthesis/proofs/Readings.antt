@@ -1,5 +1,5 @@
 -- What a point of the builder reads: its arrival's word, and the words of the registers. What each of the builder's steps does to that. Assumes nothing.
-use Prim.Native.Nat.{ℕ, zero, suc, _+_, _≤_, _<_}
+use Prim.Native.Nat.{ℕ, suc, _+_, _≤_, _<_}
 use native.Mathlib.Omega.{arith}
 use mathlib.Core.Path.{_≡_, refl, sym, ap, _∙_}
 use mathlib.Core.Bool.{Bool, true, false, not, _&&_, _||_}
@@ -18,7 +18,7 @@ use Rattle.runs.proofs.ListLaws.{length-upFrom}
 use Rattle.cfg.proofs.Admitted.{ValidInstruction}
 use Rattle.synthesis.proofs.WireValues.{set-value, and-value, or-value, and-not-value, select-value, comparison-value, instruction-value}
 use Rattle.synthesis.proofs.Environments.{at, Below, worked-append, worked-nil, worked-cons, worked-selects, snoc-length, length-worked, Grows, worked-grows}
-use Rattle.synthesis.proofs.Environments.{below-mono, below-at, below-set, below-upFrom, map-append, map-set, getD-map, map-behind, map-registers}
+use Rattle.synthesis.proofs.Environments.{below-mono, below-set, below-upFrom, map-append, map-set, getD-map, map-behind, map-registers}
 
 -- In the environment E reference t reads v, and the references vs, one for each of R registers, read q; q's words from R up are `high`.
 pub record Reads (R : ℕ) (high : List ℕ) (E : List ℕ) (t : ℕ) (vs : List ℕ) (v : ℕ) (q : List ℕ) : Type 0 where

@@ -1,24 +1,24 @@
 -- Of the edges that lead to no placed block, one is taken and the others are not. What joins, blocks and exits do to that. Assumes nothing.
-use Prim.Native.Nat.{ℕ, zero, suc, _+_, _≤_, _<_}
+use Prim.Native.Nat.{ℕ, _+_, _≤_, _<_}
 use mathlib.Core.Path.{_≡_, refl, ap, _∙_}
 use mathlib.Core.Logic.{_⊎_, inl, inr}
 use mathlib.Core.Bool.{Bool, true, false, not, _&&_, _||_}
 use mathlib.Core.List.{List, [], _∷_, _++_}
-use lib.ListN.{length, getD, drop}
-use Rattle.word.specs.Word.{choose, truth, codeOf as comparisonCode}
+use lib.ListN.{length, drop}
+use Rattle.word.specs.Word.{choose, truth}
 use Rattle.runs.specs.Lists.{keep}
-use Rattle.runs.specs.Runs.{Place, standing, halted, Configuration}
+use Rattle.runs.specs.Runs.{Place, standing, Configuration}
 use Rattle.cfg.specs.declared.Instruction.{Instruction}
 use Rattle.cfg.specs.declared.Condition.{Condition}
 use Rattle.cfg.specs.declared.Ending.{Ending}
 use Rattle.cfg.specs.declared.Ending.the-variants.{Goto, Ite, Halt}
 use Rattle.cfg.specs.declared.Block.{Block}
-use Rattle.cfg.specs.Graph.{codeOf, execute, executeAll, holds, leave, runBlock}
+use Rattle.cfg.specs.Graph.{codeOf, executeAll, holds, leave, runBlock}
 use Rattle.fsmd.specs.declared.Wire.{Wire}
 use Rattle.fsmd.specs.Machine.{worked}
 use Rattle.grouping.specs.Grouping.{Groups}
-use Rattle.synthesis.specs.Wires.{wire, set-wire, and-wire, or-wire, and-not-wire, select-wire, selects, Edge, Point, Build, fresh, join, joins, arrive}
-use Rattle.synthesis.specs.Wires.{instructionWire, assign, assigns, edge, close, towards, after, exit, exits, closeState, nextStateOf}
+use Rattle.synthesis.specs.Wires.{set-wire, Edge, Point, Build, fresh, join, joins, arrive}
+use Rattle.synthesis.specs.Wires.{assign, assigns, edge, close, towards, after, exit, exits, closeState, nextStateOf}
 use Rattle.synthesis.proofs.GraphFacts.{ValidCode, Compares, BlockFits}
 use Rattle.synthesis.proofs.WireValues.{set-value}
 use Rattle.synthesis.proofs.Environments.{at, worked-append, worked-nil, worked-cons, Grows, grows-refl, grows-trans, wires-grow}
@@ -96,7 +96,7 @@ or-none false = refl
 module _ (rs : List ℕ) (size : length rs ≡ 16) (R : ℕ) where
   join-grow : (e : Edge) (p : Point) → Grows (worked rs (p .wires)) (worked rs (join e p .wires))
   unfolding join
-  join-grow e p = wires-grow rs (p .wires) (or-wire (p .arrival) (e .taken) ∷ selects (e .taken) (e .values) (p .values))
+  join-grow e p = wires-grow rs (p .wires) _
 
   joins-grow : (es : List Edge) (p : Point) → Grows (worked rs (p .wires)) (worked rs (joins es p .wires))
   unfolding joins
@@ -143,7 +143,7 @@ module _ (rs : List ℕ) (size : length rs ≡ 16) (R : ℕ) where
 
   assign-grow : (i : Instruction) (p : Point) → Grows (worked rs (p .wires)) (worked rs (assign i p .wires))
   unfolding assign
-  assign-grow i p = wires-grow rs (p .wires) (instructionWire (λ r. getD (p .values) r 0) i ∷ [])
+  assign-grow i p = wires-grow rs (p .wires) _
 
   assigns-grow : (is : List Instruction) (p : Point) → Grows (worked rs (p .wires)) (worked rs (assigns is p .wires))
   unfolding assigns
@@ -161,9 +161,7 @@ module _ (rs : List ℕ) (size : length rs ≡ 16) (R : ℕ) where
   close-grow : (e : Ending) (p : Point) → Grows (worked rs (p .wires)) (worked rs (close e p .wires))
   unfolding close
   close-grow (Goto t) p = grows-refl (worked rs (p .wires))
-  close-grow (Ite c t f) p =
-      wires-grow rs (p .wires) (wire (comparisonCode (c .comparison)) (getD (p .values) (c .a) 0) (getD (p .values) (c .b) 0) 0
-      ∷ and-wire (p .arrival) (fresh (p .wires)) ∷ and-not-wire (p .arrival) (fresh (p .wires)) ∷ [])
+  close-grow (Ite c t f) p = wires-grow rs (p .wires) _
   close-grow Halt p = grows-refl (worked rs (p .wires))
 
   ite-reads : (c : Condition) (t f : ℕ) (p : Point) (s : Bool) {q : List ℕ} → c .a < R → c .b < R → PointReads rs R p (truth s) q
@@ -229,8 +227,7 @@ module _ (rs : List ℕ) (size : length rs ≡ 16) (R : ℕ) (b : Block) (f : Bl
 module _ (rs : List ℕ) (size : length rs ≡ 16) (R : ℕ) (s : Groups) where
   exit-grow : (e : Edge) (p : Point) → Grows (worked rs (p .wires)) (worked rs (exit s e p .wires))
   unfolding exit
-  exit-grow e p =
-      wires-grow rs (p .wires) (set-wire (nextStateOf s (e .target)) ∷ select-wire (e .taken) (fresh (p .wires)) (p .arrival) ∷ selects (e .taken) (e .values) (p .values))
+  exit-grow e p = wires-grow rs (p .wires) _
 
   exit-reads : (e : Edge) (p : Point) (b : Bool) {v : ℕ} {q q′ : List ℕ} → PointReads rs R p v q
       → Reads R (drop R rs) (worked rs (p .wires)) (e .taken) (e .values) (truth b) q′

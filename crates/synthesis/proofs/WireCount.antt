@@ -1,5 +1,5 @@
 -- How many wires synthesis makes: at most 48 for each block, 3,072 in all. Assumes nothing.
-use Prim.Native.Nat.{ℕ, zero, suc, _+_, _*_, _≤_, _<_}
+use Prim.Native.Nat.{ℕ, zero, suc, _+_, _*_, _≤_}
 use native.Mathlib.Omega.{arith}
 use mathlib.Core.Path.{_≡_, refl}
 use mathlib.Core.Bool.{Bool, true, false, not}
@@ -17,7 +17,7 @@ use Rattle.cfg.specs.declared.Ending.the-variants.{Goto, Ite, Halt}
 use Rattle.cfg.specs.Graph.{CFG, blockOf, codeOf}
 use Rattle.fsmd.specs.declared.Wire.{Wire}
 use Rattle.fsmd.specs.Layout.{none}
-use Rattle.fsmd.specs.Machine.{State}
+use Rattle.fsmd.proofs.WrittenTable.{wireCount}
 use Rattle.grouping.specs.Grouping.{Groups}
 use Rattle.synthesis.specs.Placement.{members, order}
 use Rattle.synthesis.specs.Synthesis.{machineFor}
@@ -26,7 +26,7 @@ use Rattle.synthesis.specs.Wires.{instructionWire, assign, assigns, clos
 use Rattle.synthesis.proofs.GraphFacts.{GraphFits}
 use Rattle.synthesis.proofs.PlacementLaws.{order-length}
 use Rattle.synthesis.proofs.SelectionCount.{selects-short}
-use Rattle.synthesis.proofs.Validity.{EdgesValid, BuildValid, edges-towards, put-valid, build-valid, empty-valid}
+use Rattle.synthesis.proofs.StateValidity.{EdgesValid, BuildValid, edges-towards, put-valid, build-valid, empty-valid}
 
 -- edges of at most 16 registers
 abbrev Narrow : List Edge → Type 0
@@ -191,11 +191,6 @@ only-short p (x ∷ l) = go (p x) (only-short p l)
     go : (b : Bool) → length (only p l) ≤ length l → length (keep b x (only p l)) ≤ suc (length l)
     go true h = omega arith
     go false h = omega arith
-
--- the wires of a list of states
-unfoldable pub wireCount : List State → ℕ
-wireCount [] = 0
-wireCount (q ∷ qs) = length (q .wires) + wireCount qs
 
 module _ (g : CFG) (s : Groups) (f : GraphFits g) where
   count-from : (a n : ℕ) → wireCount (map (stateOf g s) (upFrom a n)) ≤ 48 * spread (λ x. getD (s .states) x none) (upFrom 0 (length (g .blocks))) a n

@@ -1,27 +1,27 @@
 -- The machine of a valid graph: its limits, its states valid, and room for its wires. Assumes nothing.
-use Prim.Native.Nat.{ℕ, suc, _≤_, _<_}
+use Prim.Native.Nat.{ℕ, _≤_, _<_}
 use native.Mathlib.Omega.{arith}
 use mathlib.Core.Path.{_≡_, refl, sym, ap, _∙_}
 use mathlib.Core.Bool.{true}
-use mathlib.Core.List.{List, map}
 use lib.ListN.{length, getD, length-map}
-use Rattle.runs.specs.Lists.{upFrom, mem}
+use Rattle.runs.specs.Lists.{upFrom}
 use Rattle.runs.proofs.ListLaws.{length-upFrom, getD-map-upFrom}
 use Rattle.runs.proofs.Sets.{In→mem, getD-in}
 use Rattle.cfg.specs.Graph.{CFG}
 use Rattle.cfg.proofs.Admitted.{ValidGraph}
 use Rattle.fsmd.specs.Layout.{none}
-use Rattle.fsmd.specs.Machine.{State, FSMD, emptyState, stateOf as stateAt}
+use Rattle.fsmd.specs.Machine.{FSMD, emptyState, stateOf as stateAt}
 use Rattle.fsmd.specs.Table.{validState}
+use Rattle.fsmd.proofs.WrittenTable.{wireCount}
 use Rattle.grouping.specs.Grouping.{Groups, groups}
 use Rattle.grouping.proofs.Reach.{Closed, valid-closed}
-use Rattle.grouping.proofs.GroupingLaws.{Grouped, grouped}
+use Rattle.grouping.proofs.GroupingLaws.{grouped}
 use Rattle.synthesis.specs.Wires.{stateOf}
 use Rattle.synthesis.specs.Synthesis.{machineFor, machine}
-use Rattle.synthesis.proofs.GraphFacts.{GraphFits, graph-fits}
+use Rattle.synthesis.proofs.GraphFacts.{graph-fits}
 use Rattle.synthesis.proofs.StateOrder.{StateOrder, groups-arranged}
-use Rattle.synthesis.proofs.Validity.{StateValid, state-valid}
-use Rattle.synthesis.proofs.WireCount.{wireCount, machine-count}
+use Rattle.synthesis.proofs.StateValidity.{StateValid, state-valid}
+use Rattle.synthesis.proofs.WireCount.{machine-count}
 
 -- ---- the states of a machine that is made for a grouping
 

@@ -1,3 +1,5 @@
 mod Puts
 mod Counts
+mod TableListings
+mod TextListings
 mod Examples

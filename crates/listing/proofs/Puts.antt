@@ -1,12 +1,12 @@
 -- One piece written behind another is the two as one piece. Assumes nothing.
-use Prim.Native.Nat.{ℕ, zero, suc, _+_, _<_}
-use native.Mathlib.Nat.{add-zero, zero-add, add-suc, suc-add, add-assoc}
+use Prim.Native.Nat.{ℕ, zero, suc, _+_, _≤_, _<_}
+use native.Mathlib.Nat.{add-zero, zero-add, add-suc, suc-add}
 use native.Mathlib.Numerals.{add-one}
 use native.Mathlib.Omega.{arith}
 use mathlib.Core.Path.{_≡_, refl, sym, ap, _∙_}
 use mathlib.Core.List.{List, [], _∷_, _++_, append-assoc, append-nil}
-use lib.ListN.{length, getD, set, take, length-append}
-use lib.Seq.{sets, length-sets, take-suc}
+use lib.ListN.{length, getD, set, take, drop, length-append}
+use lib.Seq.{sets, length-sets, sets-eq, length-take-le, take-suc, take-at}
 use Rattle.runs.specs.Lists.{upFrom, concatMap}
 use Rattle.decimal.specs.Decimal.{decimalOf}
 use Rattle.cfg_write.specs.Write.{parted}
@@ -62,6 +62,18 @@ module _ {before : List ℕ} {at : ℕ} where
   pub put-each : (f : ℕ → List ℕ) (k : ℕ) {middle after : List ℕ} {i j : ℕ} → Put before at (concatMap f (upFrom 0 k)) middle i → Put middle i (f k) after j
       → Put before at (concatMap f (upFrom 0 (k + 1))) after j
   put-each f k p q = put-as (rw add-one (sym (rw zero-add at (concat-snoc f 0 k)))) (put-then p q)
+
+-- the place behind what was written, as a length
+pub put-taken : {before new after : List ℕ} {end : ℕ} → Put before 0 new after end → end ≤ length before → end ≡ length (take end after)
+put-taken {before} {new} {after} {end} p h = sym (length-take-le end after (rw (put-length p) h))
+
+-- what was written from the start on stands in front
+pub put-front : {before new after : List ℕ} {end : ℕ} → Put before 0 new after end → end ≤ length before → take end after ≡ new
+put-front {before} {new} {after} {end} p h =
+    let n = p .place in
+    let e : end ≡ length new = omega arith in
+    let w : after ≡ new ++ drop (0 + length new) before = p .bytes ∙ sets-eq new before 0 (omega arith) in
+    rw w (take-at new (drop (0 + length new) before) end (sym e))
 
 -- lines by their fields
 pub line-of-three : (x y z : List ℕ) → ((x ++ (44 ∷ [])) ++ (y ++ (44 ∷ []))) ++ (z ++ (10 ∷ [])) ≡ lineOf (x ∷ y ∷ z ∷ [])

@@ -57,16 +57,22 @@ unfoldable pub listing : List ℕ → List ℕ
 unfolding readText refusedLine machineListing machine
 listing text = listingOf (choose (ltb maxText (length text)) (refused 1 0) (readText text))
 
--- its length, which is what is needed where the output is shorter
+-- ---- bytes for an output: all of them where they fit, else none
+
+-- their number, which is what is needed where the output is shorter
+abbrev pub answerFor : List ℕ → List ℕ → ListAnswer
+answerFor new out = choose (ltb (length out) (length new)) (Short (length new)) (Listed (length new))
+
+-- bytes past them stay
+abbrev pub outputFor : List ℕ → List ℕ → List ℕ
+outputFor new out = choose (ltb (length out) (length new)) out (new ++ drop (length new) out)
+
+-- ---- the operation
+
 unfoldable pub listAnswer : List ℕ → List ℕ → ListAnswer
 unfolding listing
-listAnswer text out = let n = length (listing text) in choose (ltb (length out) n) (Short n) (Listed n)
-
--- bytes past the listing stay; where the output is short all do
-abbrev pub bytesAfter : ListAnswer → List ℕ → List ℕ → List ℕ
-bytesAfter (Listed n) new out = new ++ drop n out
-bytesAfter (Short n) new out = out
+listAnswer text out = answerFor (listing text) out
 
 unfoldable pub listBytes : List ℕ → List ℕ → List ℕ
-unfolding listAnswer listing
-listBytes text out = bytesAfter (listAnswer text out) (listing text) out
+unfolding listing
+listBytes text out = outputFor (listing text) out

@@ -2,9 +2,50 @@
 pub mod lines; // lines.rt: the lines of a listing in a buffer
 pub mod table; // table.rt: the listing that a machine table's words give
 
+ghost use mathlib.Core.Path.{_≡_};
+ghost use Prim.Native.Nat.{_≤_};
+ghost use lib.ListN.{length};
+ghost use Rattle.listing.specs.Listing.{refusedLine, answerFor, outputFor};
+ghost use Rattle.listing.specs.Words.{tableListing, Listable};
+
 pub enum ListAnswer {
     // The bytes of the listing.
     Listed(u32),
     // The bytes that the output would have to hold.
     Short(u32),
+}
+
+// Bytes into an output that may be too short for them.
+fn hand_over(new: &[u8], out: &mut [u8]) -> ListAnswer
+    requires { ⌜ length (now new) ≤ 4096 ⌝ }
+    ensures { λ r. ⌜ r ≡ answerFor (now (new .entry)) (now (out .entry)) ⌝ }
+    ensures { λ _. ⌜ now (out .exit) ≡ outputFor (now (new .entry)) (now (out .entry)) ⌝ }
+{
+    let n = new.len();
+    if out.len() < n {
+        return ListAnswer::Short(n as u32);
+    }
+    bytes::copy(new, out);
+    ListAnswer::Listed(n as u32)
+}
+
+// The line of a refused text.
+fn list_refusal(number: u32, line: u32, out: &mut [u8]) -> ListAnswer
+    ensures { λ r. ⌜ r ≡ answerFor (refusedLine number line) (now (out .entry)) ⌝ }
+    ensures { λ _. ⌜ now (out .exit) ≡ outputFor (refusedLine number line) (now (out .entry)) ⌝ }
+{
+    let mut new = [0u8; 32];
+    let n = lines::put_refused(&mut new, number, line);
+    hand_over(&new[..n], out)
+}
+
+// The lines of a machine.
+fn list_machine(machine: &[u32], out: &mut [u8]) -> ListAnswer
+    requires { ⌜ Listable (now machine) ⌝ }
+    ensures { λ r. ⌜ r ≡ answerFor (tableListing (now (machine .entry))) (now (out .entry)) ⌝ }
+    ensures { λ _. ⌜ now (out .exit) ≡ outputFor (tableListing (now (machine .entry))) (now (out .entry)) ⌝ }
+{
+    let mut new = [0u8; 4096];
+    let n = table::put_listing(machine, &mut new);
+    hand_over(&new[..n], out)
 }

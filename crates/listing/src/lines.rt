@@ -53,7 +53,14 @@ pub fn put_head(out: &mut [u8], states: u32, wires: u32) -> usize
 }
 
 // The line of a state.
-pub fn put_state(out: &mut [u8], at: usize, state: u32, starter: u32, blocks: u32, wires: u32) -> usize
+pub fn put_state(
+    out: &mut [u8],
+    at: usize,
+    state: u32,
+    starter: u32,
+    blocks: u32,
+    wires: u32,
+) -> usize
     requires { ⌜ at < 2 ^ 30 ⌝ }
     ensures { λ r. ⌜ Put (now (out .entry)) at (lineOf (decimalOf state ∷ decimalOf starter ∷ decimalOf blocks ∷ decimalOf wires ∷ [])) (now (out .exit)) r ⌝ }
     ensures { λ r. ⌜ r ≤ at + 44 ⌝ }

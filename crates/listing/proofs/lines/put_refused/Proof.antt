@@ -7,35 +7,10 @@ use Rattle.listing.proofs.Puts.{put-then, put-as, line-of-three}
 use borrow.Author.Needs.{needs}
 use Rattle.listing.proofs.lines.put_refused.Statement.{statement}
 use Rattle.listing.proofs.lines.put_refused.Tie as tie
-use Rattle.listing.proofs.lines.put_refused.Reads as reads
-use Rattle.listing.proofs.lines.put_refused.Lts as lts
-use Rattle.listing.proofs.lines.put_bytes.Reads as put-bytes-reads
-use Rattle.listing.proofs.lines.put_field.Reads as put-field-reads
 
--- src/lines.rt:40:32
-slice-aggregate-put-bytes : tie.Need-slice-aggregate-put-bytes
-slice-aggregate-put-bytes c = search needs
-
--- src/lines.rt:40:9
-put-bytes-requires : tie.Need-put-bytes-requires
-put-bytes-requires c κs = search needs
-
--- src/lines.rt:41:9
-put-field-requires : tie.Need-put-field-requires
-put-field-requires c κs = search needs
-
--- src/lines.rt:42:5
-put-field-requires-2 : tie.Need-put-field-requires-2
-put-field-requires-2 c κs = search needs
-
--- src/lines.rt:36:1
-same-length : tie.Need-same-length
-same-length c = search needs
-
--- src/lines.rt:36:1
 returns : tie.Need-returns
 unfolding refusedLine
-returns c = 
+returns c =
     let args = c .before .before .before .before .before .before .before .before .before .before .before .before .before .before .args in
     let name = c .before .before .before .before .before .before .before .before .before .before .put-bytes .ensures in
     let first = c .before .before .before .before .before .before .put-field .ensures in
@@ -46,9 +21,9 @@ pub put-refused-spec : {M : Type 1} → statement M
 put-refused-spec =
     tie.close
     (tie.spec
-    slice-aggregate-put-bytes
-    put-bytes-requires
-    put-field-requires
-    put-field-requires-2
-    same-length
+    (λ c. search needs)
+    (λ c κs. search needs)
+    (λ c κs. search needs)
+    (λ c κs. search needs)
+    (λ c. search needs)
     returns)

@@ -10,9 +10,6 @@ use Rattle.listing.proofs.Puts.{put-none, put-each, put-length}
 use borrow.Author.Needs.{needs}
 use Rattle.listing.proofs.table.put_lines.Statement.{statement}
 use Rattle.listing.proofs.table.put_lines.Tie as tie
-use Rattle.listing.proofs.table.put_lines.Reads as reads
-use Rattle.listing.proofs.table.put_lines.Lts as lts
-use Rattle.listing.proofs.table.put_line.Reads as put-line-reads
 
 abbrev Inv-loop : tie.InvT-loop
 Inv-loop machine out₀ at n end₀ k₀ out end k = (k ≤ n) × Put out₀ at (concatMap (stateLineAt machine) (upFrom 0 k)) out end × (end ≤ 64 + 44 * k)
@@ -20,39 +17,19 @@ Inv-loop machine out₀ at n end₀ k₀ out end k = (k ≤ n) × Put out₀ at 
 abbrev μ-loop : tie.MeasureT-loop
 μ-loop machine out₀ at n end₀ k₀ out end k = n - k
 
--- src/table.rt:67:13
-shared-slice-read-n : tie.Need-shared-slice-read-n Inv-loop μ-loop
-shared-slice-read-n c = search needs
-
--- src/table.rt:70:5
 loop-holds : tie.Need-loop-holds Inv-loop μ-loop
 unfolding concatMap
 loop-holds c = (omega arith, put-none, omega arith)
 
--- src/table.rt:71:9
-put-line-requires : tie.Need-put-line-requires Inv-loop μ-loop
-put-line-requires c κs = search needs
-
--- src/table.rt:72:9
-add-k : tie.Need-add-k Inv-loop μ-loop
-add-k c = search needs
-
--- src/table.rt:70:5
-loop-less : tie.Need-loop-less Inv-loop μ-loop
-loop-less c = search needs
-
--- src/table.rt:70:5
 loop-again : tie.Need-loop-again Inv-loop μ-loop
 loop-again c = (omega arith, put-each (stateLineAt (c .before .before .before .before .before .before .before .before .before .args .machine .now)) _ (c .before .before .before .before .before .loop .inv .1) (c .before .before .put-line .ensures .0), omega arith)
 
--- src/table.rt:61:1
 same-length : tie.Need-same-length Inv-loop μ-loop
 same-length c = put-length (c .before .loop .inv .1)
 
--- src/table.rt:61:1
 returns : tie.Need-returns Inv-loop μ-loop
 unfolding stateLinesAt
-returns c = 
+returns c =
     let inv = c .before .loop .inv in
     let all : c .before .loop .k ≡ getD (c .before .before .before .before .before .args .machine .now) 0 0 = omega arith in
     (rw all at (inv .1), omega arith)
@@ -63,11 +40,11 @@ put-lines-spec =
     (tie.spec
     Inv-loop
     μ-loop
-    shared-slice-read-n
+    (λ c. search needs)
     loop-holds
-    put-line-requires
-    add-k
-    loop-less
+    (λ c κs. search needs)
+    (λ c. search needs)
+    (λ c. search needs)
     loop-again
     same-length
     returns)

@@ -1,0 +1,139 @@
+-- The listing by a machine table's words is that of the machine whose table it is. Assumes nothing.
+use Prim.Native.Nat.{ℕ, zero, suc, _+_, _-_, _*_, _≤_, _<_}
+use native.Mathlib.Omega.{arith}
+use mathlib.Core.Path.{_≡_, refl, sym, ap, ap₂, _∙_}
+use mathlib.Core.Bool.{Bool, true, false}
+use mathlib.Core.List.{List, [], _∷_, _++_, append-assoc, append-nil}
+use lib.ListN.{length, getD, take, drop, replicate, length-append, List·getD-append}
+use lib.Seq.{take-at, drop-at}
+use lib.Dec.{eqb}
+use borrow.Author.Tests.{ne-eqb}
+use Rattle.runs.specs.Lists.{upFrom, keep, only, padded, concatMap}
+use Rattle.runs.proofs.ListLaws.{padded-append, length-padded, getD-padded}
+use Rattle.fsmd.specs.Layout.{maxStates, maxBlocks, maxWires, recordWords, wireWords, startersOffset, blockStatesOffset, none}
+use Rattle.fsmd.specs.Machine.{State, FSMD, stateOf, emptyState}
+use Rattle.fsmd.specs.Table.{wireWordsOf, recordsOf, tableOf, wireCountAt}
+use Rattle.fsmd.proofs.WrittenTable.{wireCount, wiresBefore, count-is, back-first, back-count, table-length}
+use Rattle.synthesis.proofs.SynthesisedMachine.{MachineFits}
+use Rattle.listing.specs.Listing.{blocksIn, wiresIn, headLine, stateLine, machineListing}
+use Rattle.listing.specs.Words.{occurrences, starterAt, blocksAt, wiresAt, headLineAt, stateLineAt, stateLinesAt, tableListing, Listable}
+
+-- ---- counting
+
+only-append : (p : ℕ → Bool) (xs ys : List ℕ) → only p (xs ++ ys) ≡ only p xs ++ only p ys
+only-append p [] ys = refl
+only-append p (x ∷ xs) ys = kept (p x) (only-append p xs ys)
+  where
+    kept : (b : Bool) → only p (xs ++ ys) ≡ only p xs ++ only p ys → keep b x (only p (xs ++ ys)) ≡ keep b x (only p xs) ++ only p ys
+    kept true e = ap (λ (l : List ℕ). x ∷ l) e
+    kept false e = e
+
+-- no word of a list of one word that is another
+no-other : (k n x : ℕ) → eqb k x ≡ false → only (eqb k) (replicate n x) ≡ []
+no-other k zero x e = refl
+no-other k (suc n) x e = rw e (no-other k n x e)
+
+-- padding is no block of a state
+padded-blocks : (k : ℕ) (l : List ℕ) → k < maxStates → length l ≤ maxBlocks → occurrences k (padded maxBlocks none l) ≡ occurrences k l
+padded-blocks k l h few =
+    let n = maxBlocks - length l in
+    let pad = no-other k n none (ne-eqb k none (λ q. absurd (omega arith))) in
+    ap (occurrences k) (padded-append maxBlocks none l few)
+    ∙ (ap length (only-append (eqb k) l (replicate n none)) ∙ rw (pad, append-nil) refl)
+
+-- the wires of all states, and those of all but the last
+wires-all : (qs : List State) → length (concatMap (λ (q : State). q .wires) qs) ≡ wireCount qs
+unfolding concatMap wireCount
+wires-all [] = refl
+wires-all (q ∷ qs) = length-append (q .wires) (concatMap (λ (q : State). q .wires) qs) ∙ rw (wires-all qs) refl
+
+wires-last : (qs : List State) (k : ℕ) → length qs ≡ suc k → wiresBefore qs k + length (getD qs k emptyState .wires) ≡ wireCount qs
+unfolding wireCount wiresBefore
+wires-last [] k e = absurd (omega arith)
+wires-last (q ∷ []) zero e = omega arith
+wires-last (q ∷ []) (suc k) e = absurd (omega arith)
+wires-last (q ∷ r ∷ qs) zero e = absurd (omega arith)
+wires-last (q ∷ r ∷ qs) (suc k) e = let i = wires-last (r ∷ qs) k (omega arith) in omega arith
+
+concat-same : (f g : ℕ → List ℕ) (j n : ℕ) → ((k : ℕ) → j ≤ k → k < j + n → f k ≡ g k) → concatMap f (upFrom j n) ≡ concatMap g (upFrom j n)
+unfolding concatMap
+concat-same f g j zero e = refl
+concat-same f g j (suc n) e =
+    ap₂ {C = List ℕ} (λ (x y : List ℕ). x ++ y) (e j (omega arith) (omega arith)) (concat-same f g (suc j) n (λ k p h. e k (omega arith) (omega arith)))
+
+-- ---- the words of a machine's table
+
+module _ (m : FSMD) (rest : List ℕ) (f : MachineFits m) where
+  abbrev table : List ℕ
+  table = tableOf m ++ rest
+
+  abbrev starterWords : List ℕ
+  starterWords = padded maxStates 0 (m .starters)
+
+  abbrev blockWords : List ℕ
+  blockWords = padded maxBlocks none (m .blockStates)
+
+  abbrev behind : List ℕ
+  behind =
+      (padded (maxStates * recordWords) 0 (recordsOf 0 (m .states))
+      ++ padded (maxWires * wireWords) 0 (concatMap (λ (q : State). concatMap wireWordsOf (q .wires)) (m .states)))
+      ++ rest
+
+  parts : table ≡ length (m .states) ∷ m .registers ∷ (starterWords ++ (blockWords ++ behind))
+  unfolding tableOf
+  parts = simp append-assoc
+
+  starter-back : (k : ℕ) → k < length (m .states) → starterAt table k ≡ getD (m .starters) k 0
+  starter-back k h =
+      let few = f .fewStates in
+      let e : startersOffset + k ≡ suc (suc k) = omega arith in
+      let n = length-padded maxStates 0 (m .starters) in
+      ap₂ (λ (l : List ℕ) (i : ℕ). getD l i 0) parts e
+      ∙ (List·getD-append starterWords (blockWords ++ behind) 0 k (omega arith) ∙ getD-padded maxStates 0 (m .starters) k (omega arith))
+
+  blocks-back : (k : ℕ) → k < length (m .states) → blocksAt table k ≡ blocksIn m k
+  blocks-back k h =
+      let few = f .fewStates in
+      let n = length-padded maxStates 0 (m .starters) in
+      let front = length (m .states) ∷ m .registers ∷ starterWords in
+      ap (λ (l : List ℕ). occurrences k (take maxBlocks (drop blockStatesOffset l))) parts
+      ∙ (ap (λ (l : List ℕ). occurrences k (take maxBlocks l)) (drop-at front (blockWords ++ behind) blockStatesOffset (omega arith))
+      ∙ (ap (occurrences k) (take-at blockWords behind maxBlocks (length-padded maxBlocks none (m .blockStates)))
+      ∙ padded-blocks k (m .blockStates) (omega arith) (f .fewBlocks)))
+
+  wires-back : (k : ℕ) → k < length (m .states) → wireCountAt table k ≡ length (stateOf m k .wires)
+  wires-back k h = back-count m rest (f .fewStates) (f .room) k h
+
+  all-wires : wiresAt table ≡ wiresIn m
+  all-wires =
+      let some = f .someState in
+      let last = length (m .states) - 1 in
+      let h : last < length (m .states) = omega arith in
+      let n = count-is m rest in
+      rw n (rw (back-first m rest (f .fewStates) (f .room) last h, back-count m rest (f .fewStates) (f .room) last h)
+      (wires-last (m .states) last (omega arith) ∙ sym (wires-all (m .states))))
+
+  state-line : (k : ℕ) → k < length (m .states) → stateLineAt table k ≡ stateLine m k
+  unfolding stateLineAt stateLine
+  state-line k h = rw (starter-back k h, blocks-back k h, wires-back k h) refl
+
+  head-line : headLineAt table ≡ headLine m
+  unfolding headLineAt headLine
+  head-line = rw (all-wires, count-is m rest) refl
+
+  pub table-listing : tableListing table ≡ machineListing m
+  unfolding tableListing machineListing stateLinesAt
+  table-listing =
+      ap₂ {C = List ℕ} (λ (x y : List ℕ). x ++ y) head-line
+      (ap (λ (n : ℕ). concatMap (stateLineAt table) (upFrom 0 n)) (count-is m rest)
+      ∙ concat-same (stateLineAt table) (stateLine m) 0 (length (m .states)) (λ k p h. state-line k (omega arith)))
+
+  pub table-listable : Listable table
+  table-listable =
+      let n = count-is m rest in
+      record {
+        long = omega (arith, length-append (tableOf m) rest, table-length m);
+        someState = rw n (f .someState);
+        fewStates = rw n (f .fewStates);
+        fewWires = rw (all-wires, wires-all (m .states)) (f .room);
+      }

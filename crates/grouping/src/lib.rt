@@ -22,14 +22,14 @@ pub struct Grouping {
 }
 
 // The starters in order, and a mark at each of them.
-pub struct Starters {
+struct Starters {
     pub count: usize,
     pub list: [u8; 64],
     pub marks: [u8; 64],
 }
 
 // What detection finds: the target of an illegal edge, or none.
-pub enum Detected {
+enum Detected {
     IllegalTo(u8),
     Legal,
 }

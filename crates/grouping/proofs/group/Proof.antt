@@ -1,13 +1,13 @@
 -- `grouping::group` meets its contract: each turn of its loop is a round of `GroupingRounds`. Assumes nothing.
-use mathlib.Core.Path.{_≡_, refl, sym, ap, _∙_}
-use Prim.Native.Nat.{ℕ, _+_, _-_, _≤_, _<_}
+use mathlib.Core.Path.{sym, _∙_}
+use Prim.Native.Nat.{_-_, _<_}
 use native.Mathlib.Omega.{arith}
 use denote.Ref.{now}
 use lib.ListN.{length}
 use Rattle.cfg.specs.Table.{graphOf}
 use Rattle.grouping.specs.Answer.{groupingOf}
 use Rattle.grouping.specs.Bytes.{startersOf}
-use Rattle.grouping.proofs.Reach.{Closed, admitted-closed}
+use Rattle.grouping.proofs.Reach.{admitted-closed}
 use Rattle.grouping.proofs.GroupingRounds.{Round, round-few, round-first, illegal-low, round-on, round-last}
 use borrow.Author.Needs.{needs}
 use Rattle.grouping.proofs.group.Statement.{statement}

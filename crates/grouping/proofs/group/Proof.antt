@@ -54,9 +54,6 @@ with-requires c κs =
     let l = c .before .before .before .before .before .before .loop in
     (l .inv .0 .listed, illegal-low (graphOf (now (c .before .before .before .before .before .before .before .before .before .before .before .before .before .args .table))) (admitted-closed (now (c .before .before .before .before .before .before .before .before .before .before .before .before .before .args .table)) (c .before .before .before .before .before .before .before .before .before .before .before .before .before .pre)) (c .before .before .before .before .before .before .before .before .before .before .before .edges-of .result) (c .before .before .before .before .before .before .before .before .before .before .before .edges-of .ensures) (l .starters) (l .inv .0) (l .states) (l .inv .1) (c .before .found .given .0 .0) (sym (c .before .before .before .detect .ensures) ∙ c .before .found .given .1))
 
-populate-requires-2 : tie.Need-populate-requires-2 Inv-loop μ-loop
-populate-requires-2 c κs = c .before .with .ensures .0
-
 loop-less : tie.Need-loop-less Inv-loop μ-loop
 loop-less c = let n = on (c .before .before) in omega (arith, n .1, round-few (admitted-closed (now (c .before .before .before .before .before .before .before .before .before .before .before .before .before .before .before .before .args .table)) (c .before .before .before .before .before .before .before .before .before .before .before .before .before .before .before .before .pre)) (n .0))
 
@@ -83,6 +80,6 @@ group-spec =
     returns
     with-requires
     (λ c. search needs)
-    populate-requires-2
+    (λ c κs. search needs)
     loop-less
     loop-again)

@@ -1,5 +1,5 @@
 -- Laws of a graph's run: instructions, blocks, steps, and the answers of "Run graph". Assumes nothing.
-use Prim.Native.Nat.{ℕ, suc, _+_, _-_, _≤_, _<_}
+use Prim.Native.Nat.{ℕ, suc, _+_, _%_, _≤_, _<_}
 use native.Mathlib.Numerals.{add-one}
 use native.Mathlib.Omega.{arith}
 use mathlib.Core.Path.{_≡_, refl, ap, _∙_}
@@ -18,32 +18,44 @@ use Rattle.cfg.specs.declared.Ending.{Ending}
 use Rattle.cfg.specs.declared.Ending.the-variants.{Goto, Ite, Halt}
 use Rattle.cfg.specs.declared.Block.{Block}
 use Rattle.cfg.specs.Layout.{maxRegisters, graphWords}
-use Rattle.cfg.specs.Graph.{CFG, noInstruction, blockOf, codeOf, valueOf, execute, executeAll, holds, leave, runBlock, step}
+use Rattle.cfg.specs.Graph.{CFG, noInstruction, blockOf, codeOf, execute, executeAll, holds, leave, runBlock, step}
 use Rattle.cfg.specs.Table.{blockAt, graphOf, admitted}
 use Rattle.cfg.specs.Run.{refusal, runAnswer, runRegisters}
-use Rattle.cfg.specs.Steps.{Within, BlockWithin}
+use Rattle.cfg.specs.Steps.{Within, EndingWithin, BlockWithin}
 use Rattle.cfg.proofs.Blocks.{instructions-length}
 use Rattle.cfg.proofs.Admitted.{Admitted, ValidInstruction, ValidEnding, block-below}
 
 -- ---- one instruction
 
-value-of : (at : ℕ → ℕ) (k a b : ℕ) → (k ≡ 1 → ⊥) → valueOf at k a b ≡ evalOf k (at a) (at b) 0
-value-of at k a b h = rw (ne-eqb k 1 h)
+module _ (k a x y : ℕ) where
+  -- a set's value is its literal
+  pub value-set : k ≡ 1 → evalOf k (choose (eqb k 1) a x) y 0 ≡ a
+  unfolding evalOf
+  value-set h =
+      let first : choose (eqb k 1) a x ≡ a = rw (eq-eqb k 1 h) in
+      ap (λ (z : ℕ). evalOf k z y 0) first ∙ rw h
 
-value-set : (at : ℕ → ℕ) (k a b : ℕ) → k ≡ 1 → valueOf at k a b ≡ a
-unfolding evalOf
-value-set at k a b h =
-    let first : choose (eqb k 1) a (at a) ≡ a = rw (eq-eqb k 1 h) in
-    ap (λ (x : ℕ). evalOf k x (at b) 0) first ∙ rw h
+  pub value-other : (k ≡ 1 → ⊥) → evalOf k (choose (eqb k 1) a x) y 0 ≡ evalOf k x y 0
+  value-other h = rw (ne-eqb k 1 h)
 
-module _ (i : Instruction) (rs : List ℕ) where
-  pub execute-set : i .code ≡ 1 → execute i rs ≡ set rs (i .d) (i .a)
-  unfolding execute
-  execute-set h = ap (set rs (i .d)) (value-set (λ r. getD rs r 0) (i .code) (i .a) (i .b) h)
+execute-opens : (i : Instruction) (rs : List ℕ)
+    → execute i rs ≡ set rs (i .d) (evalOf (i .code) (choose (eqb (i .code) 1) (i .a) (getD rs (i .a) 0)) (getD rs (i .b) 0) 0)
+unfolding execute
+execute-opens i rs = refl
 
-  pub execute-other : (i .code ≡ 1 → ⊥) → execute i rs ≡ set rs (i .d) (evalOf (i .code) (getD rs (i .a) 0) (getD rs (i .b) 0) 0)
-  unfolding execute
-  execute-other h = ap (set rs (i .d)) (value-of (λ r. getD rs r 0) (i .code) (i .a) (i .b) h)
+-- only registers of the file are read, so their numbers may be taken modulo 16
+pub execute-is : (i : Instruction) (rs : List ℕ) → Within i
+    → execute i rs ≡ set rs (i .d) (evalOf (i .code) (choose (eqb (i .code) 1) (i .a) (getD rs (i .a % 16) 0)) (getD rs (i .b % 16) 0) 0)
+execute-is i rs w =
+    let second : i .b % 16 ≡ i .b = (let l = w .second in omega arith) in
+    execute-opens i rs ∙ rw second (ap (λ (z : ℕ). set rs (i .d) (evalOf (i .code) z (getD rs (i .b) 0) 0)) (first (eqb (i .code) 1) refl))
+  where
+    first : (t : Bool) → eqb (i .code) 1 ≡ t → choose t (i .a) (getD rs (i .a) 0) ≡ choose t (i .a) (getD rs (i .a % 16) 0)
+    first true e = refl
+    first false e =
+        let l = w .first (eqb-false (i .code) 1 e) in
+        let m : i .a % 16 ≡ i .a = omega arith in
+        rw m
 
 -- ---- a block's instructions, one after another
 
@@ -94,6 +106,18 @@ module _ (t : List ℕ) (a : Admitted t) (n : ℕ) (below : n < getD t 0 0) wher
         each = λ i h.
             within-valid (getD t 1 0) (getD (blockAt t n .instructions) i noInstruction) (a .someRegister) (a .fewRegisters) (v .instruction i h (omega arith));
       }
+
+  pub ending-within : EndingWithin (blockAt t n .ending)
+  ending-within = go (blockAt t n .ending) (a .block n below .ended)
+    where
+      go : (e : Ending) → ValidEnding (getD t 0 0) (getD t 1 0) e → EndingWithin e
+      go (Goto m) v = tt
+      go (Ite c m f) v =
+          let r = a .fewRegisters in
+          let p = v .first in
+          let q = v .second in
+          record { first = omega arith; second = omega arith }
+      go Halt v = tt
 
 leave-below : (b r : ℕ) (e : Ending) (rs : List ℕ) (m : ℕ) → ValidEnding b r e → leave e rs ≡ standing m → m < b
 unfolding leave

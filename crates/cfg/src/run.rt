@@ -10,11 +10,13 @@ use word::Registers;
 ghost use mathlib.Core.Bool.{true};
 ghost use mathlib.Core.Path.{_≡_};
 ghost use Prim.Native.Nat.{_<_};
+ghost use lib.Dec.{eqb};
 ghost use lib.ListN.{getD};
+ghost use Rattle.word.specs.Word.{choose, evalOf};
 ghost use Rattle.runs.specs.Runs.{startAt, answer, registersAfter};
-ghost use Rattle.cfg.specs.Graph.{codeOf, execute as executeOf, executeAll, leave, step};
+ghost use Rattle.cfg.specs.Graph.{codeOf, executeAll, leave, step};
 ghost use Rattle.cfg.specs.Table.{graphOf, admitted};
-ghost use Rattle.cfg.specs.Steps.{Within, BlockWithin, placeOf};
+ghost use Rattle.cfg.specs.Steps.{EndingWithin, BlockWithin, placeOf};
 ghost use Rattle.cfg.specs.Run.{runAnswer, runRegisters};
 
 // The block that comes next.
@@ -29,18 +31,14 @@ pub struct Ran {
     pub registers: Registers,
 }
 
-fn execute(i: Instruction, file: Registers) -> Registers
-    requires { ⌜ Within i ⌝ }
-    ensures { λ r. ⌜ r .words ≡ executeOf i (file .words) ⌝ }
+// What the instruction writes, of the words in the registers that its operands name.
+fn value_of(i: Instruction, x: u32, y: u32) -> u32
+    ensures { λ r. ⌜ r ≡ evalOf (i .code) (choose (eqb (i .code) 1) (i .a) x) y 0 ⌝ }
 {
-    let d = i.d as usize;
     if i.code == 1 {
-        return file.put(d, i.a);
+        return i.a;
     }
-    let a = i.a as usize;
-    let b = i.b as usize;
-    let value = word::eval(i.code, file.words[a], file.words[b], 0);
-    file.put(d, value)
+    word::eval(i.code, x, y, 0)
 }
 
 // The block's instructions in order, each seeing the one before.
@@ -53,7 +51,11 @@ fn execute_all(block: Block, file: Registers) -> Registers
     let mut i = 0;
     while i < count {
         let next = block.instructions[i];
-        let after = execute(next, current);
+        // A set's literal names no register: whatever is read there is not used.
+        let a = next.a as usize % Registers::COUNT;
+        let b = next.b as usize % Registers::COUNT;
+        let value = value_of(next, current.words[a], current.words[b]);
+        let after = current.put(next.d as usize, value);
         current = after;
         i += 1;
     }
@@ -61,15 +63,16 @@ fn execute_all(block: Block, file: Registers) -> Registers
 }
 
 fn next_of(ending: Ending, file: Registers) -> Next
+    requires { ⌜ EndingWithin ending ⌝ }
     ensures { λ r. ⌜ placeOf r ≡ leave ending (file .words) ⌝ }
 {
     match ending {
         Ending::Goto(t) => Next::To(t),
         Ending::Ite(c, t, f) => {
-            let a = file.get(c.a as usize);
-            let b = file.get(c.b as usize);
+            let a = c.a as usize;
+            let b = c.b as usize;
             let comparison = c.comparison;
-            if word::compare(comparison, a, b) {
+            if word::compare(comparison, file.words[a], file.words[b]) {
                 Next::To(t)
             } else {
                 Next::To(f)

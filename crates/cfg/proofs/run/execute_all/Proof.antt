@@ -1,11 +1,12 @@
 -- `cfg::run::execute_all` meets its contract. Assumes nothing.
-use Prim.Native.Nat.{_-_, _≤_}
+use Prim.Native.Nat.{_+_, _-_, _≤_}
 use native.Mathlib.Omega.{arith}
-use mathlib.Core.Path.{_≡_, refl, sym, _∙_}
-use lib.ListN.{drop}
+use mathlib.Core.Path.{_≡_, refl, sym, ap, _∙_}
+use lib.ListN.{getD, set, drop}
 use borrow.Author.Needs.{needs}
-use Rattle.cfg.specs.Graph.{codeOf, executeAll}
-use Rattle.cfg.proofs.Running.{code-next, code-done}
+use Rattle.word.specs.declared.Registers.{Registers}
+use Rattle.cfg.specs.Graph.{noInstruction, codeOf, executeAll}
+use Rattle.cfg.proofs.Running.{execute-is, code-next, code-done}
 use Rattle.cfg.proofs.run.execute_all.Statement.{statement}
 use Rattle.cfg.proofs.run.execute_all.Tie as tie
 
@@ -18,14 +19,15 @@ abbrev μ-loop : tie.MeasureT-loop
 loop-holds : tie.Need-loop-holds Inv-loop μ-loop
 loop-holds c = (omega arith, refl)
 
-execute-requires : tie.Need-execute-requires Inv-loop μ-loop
-execute-requires c κs = c .before .before .before .pre .each (c .before .before .loop .i) (c .before .loop-test .taken)
-
 loop-again : tie.Need-loop-again Inv-loop μ-loop
 loop-again c =
-    let k = c .before .before .before .before in
-    let l = c .before .before .before .loop in
-    (omega arith, l .inv .1 ∙ code-next (k .args .t1) (k .pre .fits) (l .i) (l .current .words) (c .before .before .loop-test .taken) ∙ rw (← c .execute .ensures))
+    let k = c .before .before .before .before .before .before .before .before .before .before in
+    let l = c .before .before .before .before .before .before .before .before .before .loop in
+    let below = c .before .before .before .before .before .before .before .before .loop-test .taken in
+    let i = getD (k .args .t1 .instructions) (l .i) noInstruction in
+    let rs = l .current .words in
+    let written = ap (λ (f : Registers). f .words) (c .put .ensures) ∙ ap (set rs (i .d)) (c .before .before .value-of .ensures) in
+    (omega (arith, c .before .before .before .before .before .before .before .before), l .inv .1 ∙ code-next (k .args .t1) (k .pre .fits) (l .i) rs below ∙ ap (executeAll (drop (l .i + 1) (codeOf (k .args .t1)))) (execute-is i rs (k .pre .each (l .i) below) ∙ sym written))
 
 returns : tie.Need-returns Inv-loop μ-loop
 returns c =
@@ -43,7 +45,15 @@ execute-all-spec =
     loop-holds
     (λ c. search needs)
     (λ c. search needs)
-    execute-requires
+    (λ c. search needs)
+    (λ c. search needs)
+    (λ c. search needs)
+    (λ c. search needs)
+    (λ c. search needs)
+    (λ c. search needs)
+    (λ c κs. search needs)
+    (λ c. search needs)
+    (λ c κs. search needs)
     (λ c. search needs)
     (λ c. search needs)
     loop-again

@@ -9,7 +9,7 @@ use Rattle.runs.specs.Runs.{standing, halted, Configuration, startAt}
 use Rattle.cfg.specs.Steps.{placeOf}
 use Rattle.cfg.specs.Table.{blockAt, graphOf}
 use Rattle.cfg.specs.Graph.{leave, step}
-use Rattle.cfg.proofs.Running.{block-within, next-below, halted-stays, turn}
+use Rattle.cfg.proofs.Running.{block-within, ending-within, next-below, halted-stays, turn}
 use Rattle.cfg.proofs.Admitted.{admitted-facts}
 use Rattle.cfg.proofs.run.run_blocks.Statement.{statement}
 use Rattle.cfg.proofs.run.run_blocks.Tie as tie
@@ -47,6 +47,13 @@ execute-all-requires c κs =
 
 add-count : tie.Need-add-count Inv-loop μ-loop
 add-count c = omega arith
+
+next-of-requires : tie.Need-next-of-requires Inv-loop μ-loop
+next-of-requires c κs =
+    let k = c .before .before .before .before .before in
+    let t = k .args .table .now in
+    let l = c .before .before .before .loop in
+    rw (c .before .block-at .ensures) (ending-within t (admitted-facts t (k .pre .0)) (l .at) (l .inv .0))
 
 loop-less : tie.Need-loop-less Inv-loop μ-loop
 loop-less c = omega (arith, c .before .before .before .before .before .before)
@@ -104,7 +111,7 @@ run-blocks-spec =
     block-at-requires
     execute-all-requires
     add-count
-    (λ c κs. search needs)
+    next-of-requires
     (λ c. search needs)
     loop-less
     loop-again

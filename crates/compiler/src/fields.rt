@@ -1,0 +1,97 @@
+// The numbers that an answer stands for: the refusal's number, 0 for success, and its other values.
+ghost use mathlib.Core.Path.{_≡_};
+ghost use Rattle.runs.specs.Runs.{numberOf as runNumber, haltedOf, countOf, nextOf};
+use cfg_text::ReadAnswer;
+use cfg_write::WriteAnswer;
+use runs::RunAnswer;
+use synthesis::SynthesisAnswer;
+ghost use Rattle.cfg_text.specs.Read.{numberOf as readNumber, lineOf};
+ghost use Rattle.cfg_write.specs.Write.{numberOf as writeNumber, lengthOf};
+ghost use Rattle.compiler.specs.Answers.{synthesisNumber};
+
+pub fn read_number(answer: ReadAnswer) -> u32
+    ensures { λ r. ⌜ r ≡ readNumber answer ⌝ }
+{
+    match answer {
+        ReadAnswer::Refused(number, _) => number,
+        ReadAnswer::Read => 0,
+    }
+}
+
+pub fn read_line(answer: ReadAnswer) -> u32
+    ensures { λ r. ⌜ r ≡ lineOf answer ⌝ }
+{
+    match answer {
+        ReadAnswer::Refused(_, line) => line,
+        ReadAnswer::Read => 0,
+    }
+}
+
+pub fn write_number(answer: WriteAnswer) -> u32
+    ensures { λ r. ⌜ r ≡ writeNumber answer ⌝ }
+{
+    match answer {
+        WriteAnswer::Refused(number, _) => number,
+        WriteAnswer::Written(_) => 0,
+    }
+}
+
+pub fn write_length(answer: WriteAnswer) -> u32
+    ensures { λ r. ⌜ r ≡ lengthOf answer ⌝ }
+{
+    match answer {
+        WriteAnswer::Refused(_, length) => length,
+        WriteAnswer::Written(length) => length,
+    }
+}
+
+pub fn synthesis_number(answer: SynthesisAnswer) -> u32
+    ensures { λ r. ⌜ r ≡ synthesisNumber answer ⌝ }
+{
+    match answer {
+        SynthesisAnswer::Refused(number) => number,
+        SynthesisAnswer::Made => 0,
+    }
+}
+
+pub fn run_number(answer: RunAnswer) -> u32
+    ensures { λ r. ⌜ r ≡ runNumber answer ⌝ }
+{
+    match answer {
+        RunAnswer::Refused(number) => number,
+        RunAnswer::Halted(_) => 0,
+        RunAnswer::Spent(_, _) => 0,
+    }
+}
+
+// 1 where the run halted, else 0.
+pub fn run_halted(answer: RunAnswer) -> u32
+    ensures { λ r. ⌜ r ≡ haltedOf answer ⌝ }
+{
+    match answer {
+        RunAnswer::Refused(_) => 0,
+        RunAnswer::Halted(_) => 1,
+        RunAnswer::Spent(_, _) => 0,
+    }
+}
+
+pub fn run_count(answer: RunAnswer) -> u32
+    ensures { λ r. ⌜ r ≡ countOf answer ⌝ }
+{
+    match answer {
+        RunAnswer::Refused(_) => 0,
+        RunAnswer::Halted(count) => count,
+        RunAnswer::Spent(count, _) => count,
+    }
+}
+
+// The next block or state; 255 where the run halted.
+pub fn run_next(answer: RunAnswer) -> u32
+    ensures { λ r. ⌜ r ≡ nextOf answer ⌝ }
+{
+    match answer {
+        RunAnswer::Refused(_) => 0,
+        RunAnswer::Halted(_) => 255,
+        RunAnswer::Spent(_, next) => next,
+    }
+}

@@ -1,0 +1,24 @@
+// The five operations, on buffers that the caller lends. Each contract says the whole of what an operation does, on all inputs: its
+// answer, and what every buffer holds at the end. A refused operation leaves its buffers as they were.
+pub mod fields; // fields.rt: the numbers and values of an answer
+
+ghost use mathlib.Core.Path.{_≡_};
+ghost use Rattle.cfg.specs.Run.{runAnswer as graphAnswer, runRegisters as graphRegisters};
+ghost use Rattle.fsmd.specs.Run.{runAnswer as machineAnswer, runRegisters as machineRegisters};
+use runs::RunAnswer;
+
+// "Run graph": so many blocks from a start block on.
+pub fn run_graph(graph: &[u32], registers: &mut [u32], start: u32, budget: u32) -> RunAnswer
+    ensures { λ r. ⌜ r ≡ graphAnswer (now (graph .entry)) (now (registers .entry)) start budget ⌝ }
+    ensures { λ _. ⌜ now (registers .exit) ≡ graphRegisters (now (graph .entry)) (now (registers .entry)) start budget ⌝ }
+{
+    cfg::run::run_graph(graph, registers, start, budget)
+}
+
+// "Run machine": so many cycles from a start state on.
+pub fn run_machine(machine: &[u32], registers: &mut [u32], start: u32, budget: u32) -> RunAnswer
+    ensures { λ r. ⌜ r ≡ machineAnswer (now (machine .entry)) (now (registers .entry)) start budget ⌝ }
+    ensures { λ _. ⌜ now (registers .exit) ≡ machineRegisters (now (machine .entry)) (now (registers .entry)) start budget ⌝ }
+{
+    fsmd::run::run_machine(machine, registers, start, budget)
+}

@@ -1,0 +1,12 @@
+-- What a C function returns and sets, from the answer of its operation. Assumes nothing.
+use Prim.Native.Nat.{ℕ}
+use mathlib.Core.Path.{_≡_}
+use Rattle.runs.specs.declared.RunAnswer.{RunAnswer}
+use Rattle.runs.specs.Runs.{numberOf, haltedOf, countOf, nextOf}
+
+-- of a run: the number returned, and the three fields set
+pub record RunFields (answer : RunAnswer) (number halted count next : ℕ) : Type 0 where
+  pub returned : number ≡ numberOf answer
+  pub hasHalted : halted ≡ haltedOf answer
+  pub counted : count ≡ countOf answer
+  pub following : next ≡ nextOf answer

@@ -15,7 +15,7 @@ ghost use Rattle.cfg_text.specs.Read.{maxText};
 ghost use Rattle.cfg_write.specs.Put.{Put, codeText, linesText};
 ghost use Rattle.cfg_write.specs.Write.{blockLines, linesFrom, textOf, writeAnswer, writeBytes};
 
-mod line; // line.rt: the bytes of one line
+pub mod line; // line.rt: the bytes of one line
 
 pub enum WriteAnswer {
     // The refusal's number, and the length needed where the output is short, else 0.

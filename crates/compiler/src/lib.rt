@@ -3,9 +3,29 @@
 pub mod fields; // fields.rt: the numbers and values of an answer
 
 ghost use mathlib.Core.Path.{_≡_};
+ghost use Rattle.cfg_text.specs.Read.{readAnswer, readWords};
+ghost use Rattle.cfg_write.specs.Write.{writeAnswer, writeBytes};
 ghost use Rattle.cfg.specs.Run.{runAnswer as graphAnswer, runRegisters as graphRegisters};
 ghost use Rattle.fsmd.specs.Run.{runAnswer as machineAnswer, runRegisters as machineRegisters};
+use cfg_text::ReadAnswer;
+use cfg_write::WriteAnswer;
 use runs::RunAnswer;
+
+// "Read text into graph table".
+pub fn read_text(text: &[u8], table: &mut [u32]) -> ReadAnswer
+    ensures { λ r. ⌜ r ≡ readAnswer (now (text .entry)) (now (table .entry)) ⌝ }
+    ensures { λ _. ⌜ now (table .exit) ≡ readWords (now (text .entry)) (now (table .entry)) ⌝ }
+{
+    cfg_text::read_text(text, table)
+}
+
+// "Write graph table as text".
+pub fn write_text(table: &[u32], out: &mut [u8]) -> WriteAnswer
+    ensures { λ r. ⌜ r ≡ writeAnswer (now (table .entry)) (now (out .entry)) ⌝ }
+    ensures { λ _. ⌜ now (out .exit) ≡ writeBytes (now (table .entry)) (now (out .entry)) ⌝ }
+{
+    cfg_write::write_text(table, out)
+}
 
 // "Run graph": so many blocks from a start block on.
 pub fn run_graph(graph: &[u32], registers: &mut [u32], start: u32, budget: u32) -> RunAnswer

@@ -3,9 +3,33 @@
 use compiler::fields;
 use runs::RunAnswer;
 ghost use mathlib.Core.Path.{_≡_};
+ghost use Rattle.cfg_text.specs.Read.{readAnswer, readWords, numberOf as readNumber, lineOf};
+ghost use Rattle.cfg_write.specs.Write.{writeAnswer, writeBytes, numberOf as writeNumber, lengthOf};
 ghost use Rattle.cfg.specs.Run.{runAnswer as graphAnswer, runRegisters as graphRegisters};
 ghost use Rattle.fsmd.specs.Run.{runAnswer as machineAnswer, runRegisters as machineRegisters};
 ghost use Rattle.host.specs.Fields.{RunFields};
+
+#[no_mangle]
+pub extern "C" fn gutkavu_read(text: &[u8], table: &mut [u32], line: &mut u32) -> u32
+    ensures { λ r. ⌜ r ≡ readNumber (readAnswer (now (text .entry)) (now (table .entry))) ⌝ }
+    ensures { λ _. ⌜ now (line .exit) ≡ lineOf (readAnswer (now (text .entry)) (now (table .entry))) ⌝ }
+    ensures { λ _. ⌜ now (table .exit) ≡ readWords (now (text .entry)) (now (table .entry)) ⌝ }
+{
+    let answer = compiler::read_text(text, table);
+    *line = fields::read_line(answer);
+    fields::read_number(answer)
+}
+
+#[no_mangle]
+pub extern "C" fn gutkavu_write(table: &[u32], out: &mut [u8], length: &mut u32) -> u32
+    ensures { λ r. ⌜ r ≡ writeNumber (writeAnswer (now (table .entry)) (now (out .entry))) ⌝ }
+    ensures { λ _. ⌜ now (length .exit) ≡ lengthOf (writeAnswer (now (table .entry)) (now (out .entry))) ⌝ }
+    ensures { λ _. ⌜ now (out .exit) ≡ writeBytes (now (table .entry)) (now (out .entry)) ⌝ }
+{
+    let answer = compiler::write_text(table, out);
+    *length = fields::write_length(answer);
+    fields::write_number(answer)
+}
 
 // The fields of a run's answer.
 fn set_run(answer: RunAnswer, halted: &mut u32, count: &mut u32, next: &mut u32) -> u32

@@ -5,7 +5,7 @@ ghost use mathlib.Core.Path.{_≡_};
 ghost use Prim.Native.Nat.{_+_, _≤_, _<_};
 ghost use lib.ListN.{length, getD};
 ghost use Rattle.fsmd.specs.Table.{wireCountAt};
-ghost use Rattle.listing.specs.Put.{Put};
+ghost use Rattle.cfg_write.specs.Put.{Put};
 ghost use Rattle.listing.specs.Words.{occurrences, starterAt, blocksAt, wiresAt, stateLineAt, stateLinesAt, tableListing, Listable};
 
 // How often k stands in some words.
@@ -48,8 +48,7 @@ fn wires_of(machine: &[u32]) -> u32
 fn put_line(machine: &[u32], k: u32, out: &mut [u8], at: usize) -> usize
     requires { ⌜ Listable (now machine) ⌝ }
     requires { ⌜ (k < getD (now machine) 0 0) × (at < 65536) ⌝ }
-    ensures { λ r. ⌜ Put (now (out .entry)) at (stateLineAt (now (machine .entry)) k) (now (out .exit)) r ⌝ }
-    ensures { λ r. ⌜ r ≤ at + 44 ⌝ }
+    ensures { λ r. ⌜ Put 44 (now (out .entry)) (now (out .exit)) at (stateLineAt (now (machine .entry)) k) r ⌝ }
 {
     let i = k as usize;
     let starter = machine[Machine::STARTERS + i];
@@ -61,8 +60,7 @@ fn put_line(machine: &[u32], k: u32, out: &mut [u8], at: usize) -> usize
 fn put_lines(machine: &[u32], out: &mut [u8], at: usize) -> usize
     requires { ⌜ Listable (now machine) ⌝ }
     requires { ⌜ at ≤ 64 ⌝ }
-    ensures { λ r. ⌜ Put (now (out .entry)) at (stateLinesAt (now (machine .entry))) (now (out .exit)) r ⌝ }
-    ensures { λ r. ⌜ r ≤ 4096 ⌝ }
+    ensures { λ r. ⌜ Put 2816 (now (out .entry)) (now (out .exit)) at (stateLinesAt (now (machine .entry))) r ⌝ }
 {
     let n = machine[0];
     let mut end = at;
@@ -77,8 +75,7 @@ fn put_lines(machine: &[u32], out: &mut [u8], at: usize) -> usize
 // The whole listing of a machine table, from the start of the buffer on.
 pub fn put_listing(machine: &[u32], out: &mut [u8]) -> usize
     requires { ⌜ Listable (now machine) ⌝ }
-    ensures { λ r. ⌜ Put (now (out .entry)) 0 (tableListing (now (machine .entry))) (now (out .exit)) r ⌝ }
-    ensures { λ r. ⌜ r ≤ 4096 ⌝ }
+    ensures { λ r. ⌜ Put 4096 (now (out .entry)) (now (out .exit)) 0 (tableListing (now (machine .entry))) r ⌝ }
 {
     let at = lines::put_head(out, machine[0], wires_of(machine));
     put_lines(machine, out, at)

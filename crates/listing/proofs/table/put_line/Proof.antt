@@ -6,9 +6,7 @@ use Rattle.listing.proofs.table.put_line.Tie as tie
 
 returns : tie.Need-returns
 unfolding stateLineAt
-returns c =
-    let p = c .before .before .put-state .ensures in
-    (rw (c .before .before .before .blocks-of .ensures) at (p .0), p .1)
+returns c = rw (c .before .before .before .blocks-of .ensures) at (c .before .before .put-state .ensures)
 
 pub put-line-spec : {M : Type 1} → statement M
 put-line-spec =

@@ -1,6 +1,8 @@
 -- `listing::table::put_listing` meets its contract: the first line, then those of the states. Assumes nothing.
+use native.Mathlib.Omega.{arith}
+use mathlib.Core.Path.{refl}
+use Rattle.cfg_write.proofs.PutLaws.{put-then, put-as}
 use Rattle.listing.specs.Words.{tableListing, headLineAt}
-use Rattle.listing.proofs.Puts.{put-then}
 use borrow.Author.Needs.{needs}
 use Rattle.listing.proofs.table.put_listing.Statement.{statement}
 use Rattle.listing.proofs.table.put_listing.Tie as tie
@@ -8,9 +10,8 @@ use Rattle.listing.proofs.table.put_listing.Tie as tie
 returns : tie.Need-returns
 unfolding tableListing headLineAt
 returns c =
-    let head = c .before .before .before .before .before .before .put-head .ensures in
-    let states = c .before .before .put-lines .ensures in
-    (put-then (rw (c .before .before .before .before .before .before .before .wires-of .ensures) at (head .0)) (states .0), states .1)
+    let head = rw (c .before .before .before .before .before .before .before .wires-of .ensures) at (c .before .before .before .before .before .before .put-head .ensures) in
+    put-as 4096 (tableListing (c .before .before .before .before .before .before .before .before .before .before .before .before .args .machine .now)) (omega arith) refl (put-then head (c .before .before .put-lines .ensures))
 
 pub put-listing-spec : {M : Type 1} → statement M
 put-listing-spec =

@@ -1,0 +1,55 @@
+/* A compiler of control-flow graphs into state machines: five operations on buffers that the caller lends.
+ *
+ * Every function returns the number of a refusal, or 0. On a refusal no buffer is changed, and every other field is set
+ * to 0 unless its comment says otherwise. Words of a buffer past the length of its table are neither read nor changed.
+ * The buffers and fields of one call must not overlap, and no pointer may be null.
+ *
+ * The refusals:
+ *   1  text too long                        6  table not one that reading makes
+ *   2  no line form, or no line feed        7  table or register buffer short
+ *   3  a form not due here                  8  output short
+ *   4  register not below R                 9  start is no block or no state
+ *   5  target not below B                  10  no machine table
+ */
+#ifndef GUTKAVU_H
+#define GUTKAVU_H
+
+#include <stddef.h>
+#include <stdint.h>
+
+#ifdef __cplusplus
+extern "C" {
+#endif
+
+enum {
+    GUTKAVU_TEXT_BYTES = 16384,    /* of a text, at most */
+    GUTKAVU_GRAPH_WORDS = 2562,    /* of a graph table */
+    GUTKAVU_MACHINE_WORDS = 13634, /* of a machine table */
+    GUTKAVU_REGISTER_WORDS = 16,   /* of a register buffer, at least */
+    GUTKAVU_NONE = 255             /* no block, or no state */
+};
+
+/* Reads a graph's text into a graph table. Refusals 1, 7, then 2 to 5 of the first faulty line, whose number is set in
+ * line, counted from 1. */
+uint32_t gutkavu_read(const uint8_t *text, size_t text_len, uint32_t *table, size_t table_len, uint32_t *line);
+
+/* Writes a graph table as text, and sets the text's length. Refusals 7, 6, 8; with 8 the length needed is set.
+ * Bytes of the output past the text stay. */
+uint32_t gutkavu_write(const uint32_t *table, size_t table_len, uint8_t *out, size_t out_len, uint32_t *length);
+
+/* Runs a graph from a start block on, at most budget blocks. Refusals 7, 6, 9. Sets halted to 1 or 0, the count of blocks
+ * run, the halting one included, and the next block, GUTKAVU_NONE where it halted. Registers from R up keep their words. */
+uint32_t gutkavu_run_graph(const uint32_t *graph, size_t graph_len, uint32_t *registers, size_t registers_len,
+                           uint32_t start, uint32_t budget, uint32_t *halted, uint32_t *count, uint32_t *next);
+
+/* Runs a machine from a start state on, at most budget cycles. Refusals 7, 10, 9. Sets halted to 1 or 0, the count of
+ * cycles run, the halting one included, and the next state, GUTKAVU_NONE where it halted. Registers from R up keep
+ * their words. */
+uint32_t gutkavu_run_machine(const uint32_t *machine, size_t machine_len, uint32_t *registers, size_t registers_len,
+                             uint32_t start, uint32_t budget, uint32_t *halted, uint32_t *count, uint32_t *next);
+
+#ifdef __cplusplus
+}
+#endif
+
+#endif

@@ -1,3 +1,4 @@
 pub mod Placement
 pub mod Wires
+pub mod Making
 pub mod Synthesis

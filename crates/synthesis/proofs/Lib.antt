@@ -1,3 +1,4 @@
 pub mod Counting
 pub mod StoredWires
 pub mod Selections
+pub mod UsedUp

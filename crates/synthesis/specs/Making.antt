@@ -1,6 +1,7 @@
 -- How a state in the making lies in words, which the contracts of the code that makes it cite: its wires from the front of some
 -- words, and the edges out of its placed blocks in two lists. Assumes nothing.
-use Prim.Native.Nat.{ℕ, zero, suc, _+_, _*_, _≤_}
+use Prim.Native.Nat.{ℕ, zero, suc, _+_, _*_, _≤_, _<_}
+use mathlib.Core.Path.{_≡_}
 use mathlib.Core.Bool.{Bool, not}
 use mathlib.Core.List.{List, [], _∷_, _++_, map}
 use lib.ListN.{length, getD, take, drop}
@@ -11,7 +12,9 @@ use Rattle.runs.specs.Runs.{Place, standing, halted}
 use Rattle.fsmd.specs.declared.Wire.{Wire}
 use Rattle.fsmd.specs.Layout.{maxWires, wireWords, none}
 use Rattle.fsmd.specs.Table.{wireWordsOf}
-use Rattle.synthesis.specs.Wires.{wire, Edge, leadsTo, towards}
+use Rattle.synthesis.specs.Wires.{wire, Edge, Point, leadsTo, towards}
+
+-- ---- wires
 
 -- the first n wires of some words
 unfoldable pub wiresIn : ℕ → List ℕ → List Wire
@@ -31,3 +34,59 @@ appended n ws t = stored (wiresIn n t ++ ws) t
 pub record Room (n : ℕ) (t : List ℕ) : Type 0 where
   pub fits : wireWords * n ≤ length t
   pub few : n ≤ maxWires
+
+-- the block in the making of whose state n wires stand in words t
+abbrev pub pointIn : ℕ → List ℕ → ℕ → List ℕ → Point
+pointIn arrival values n t = record { arrival = arrival; values = values; wires = wiresIn n t }
+
+-- it is p, and past its wires the words are those of t₀
+pub record Held (p : Point) (t₀ : List ℕ) (arrival : ℕ) (values : List ℕ) (n : ℕ) (t : List ℕ) : Type 0 where
+  pub point : pointIn arrival values n t ≡ p
+  pub rest : t ≡ stored (wiresIn n t) t₀
+
+-- ---- edges: a list of targets, and rows of the taken reference and 16 values
+
+-- a target that is a halt is 255, and one that is used up 254
+abbrev pub used : ℕ
+used = 254
+
+abbrev pub placeOf : ℕ → Place
+placeOf t = choose (eqb t none) halted (standing t)
+
+abbrev pub maxEdges : ℕ
+maxEdges = 128
+
+abbrev pub rowWords : ℕ
+rowWords = 17
+
+-- edge i, where a state has r registers
+unfoldable pub edgeIn : ℕ → List ℕ → List ℕ → ℕ → Edge
+edgeIn r targets rows i =
+    record {
+      target = placeOf (getD targets i 0);
+      taken = getD rows (rowWords * i) 0;
+      values = take r (drop (rowWords * i + 1) rows);
+    }
+
+-- the first n edges, with those used up
+unfoldable pub edgesIn : ℕ → List ℕ → List ℕ → ℕ → List Edge
+unfolding edgeIn
+edgesIn r targets rows n = map (edgeIn r targets rows) (upFrom 0 n)
+
+-- the first n edges without those used up
+unfoldable pub pending : ℕ → List ℕ → List ℕ → ℕ → List Edge
+unfolding edgesIn
+pending r targets rows n = towards (λ p. not (leadsTo used p)) (edgesIn r targets rows n)
+
+-- the first n targets that are x used up
+abbrev pub usedUp : ℕ → ℕ → List ℕ → List ℕ
+usedUp x zero ts = ts
+usedUp x (suc n) [] = []
+usedUp x (suc n) (t ∷ ts) = choose (eqb t x) used t ∷ usedUp x n ts
+
+-- r is the first of `from` to n at which the targets have x, or n
+pub record NextAt (targets : List ℕ) (from n x r : ℕ) : Type 0 where
+  pub low : from ≤ r
+  pub high : r ≤ n
+  pub passed : (j : ℕ) → j < r → from ≤ j → getD targets j 0 ≡ x → ⊥
+  pub found : r < n → getD targets r 0 ≡ x

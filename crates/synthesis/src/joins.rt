@@ -1,0 +1,1 @@
+// How a block's arrival and values come about: joins of its incoming edges.

@@ -4,16 +4,16 @@ use native.Mathlib.Nat.{add-zero, add-assoc}
 use native.Mathlib.Numerals.{add-one}
 use native.Mathlib.Omega.{arith}
 use mathlib.Core.Path.{_≡_, refl, sym, ap, _∙_}
-use mathlib.Core.List.{List, [], _∷_, _++_, append-assoc, append-nil}
-use lib.ListN.{length, getD, take, drop, set, length-append, length-set, length-drop, drop-of-length-le}
-use lib.Seq.{take-suc, drop-cons, set-at, getD-at, take-length, append-snoc, length-take-le, take-all}
+use mathlib.Core.List.{List, [], _∷_, _++_, append-assoc}
+use lib.ListN.{length, getD, take, drop, set, length-append, length-set, length-drop}
+use lib.Seq.{take-suc, drop-cons, getD-at, length-take-le, take-all}
 use Rattle.runs.specs.Lists.{upFrom}
 use Rattle.runs.proofs.ListLaws.{length-upFrom}
 use Rattle.fsmd.specs.declared.Wire.{Wire}
 use Rattle.fsmd.specs.Layout.{maxRegisters, wireWords}
 use Rattle.synthesis.specs.Wires.{select-wire, selects}
 use Rattle.synthesis.specs.Making.{wiresIn, stored, appended, Room}
-use Rattle.synthesis.proofs.Counting.{upFrom-more}
+use Rattle.synthesis.proofs.Counting.{counted-more, counted-all}
 use Rattle.synthesis.proofs.StoredWires.{length-wiresIn, length-stored, stored-more, appended-none}
 
 pub length-selects : (t : ℕ) (vs ss : List ℕ) → length vs ≡ length ss → length (selects t vs ss) ≡ length vs
@@ -74,11 +74,9 @@ module _ (t₀ : List ℕ) (at taken : ℕ) (source values₀ : List ℕ) (same 
           kept = ap length tb ∙ length-stored (wiresIn at t₀ ++ (front ++ (w ∷ []))) t₀ (omega (arith, length-append (wiresIn at t₀) (front ++ (w ∷ [])), length-append front (w ∷ []), e, length-append (wiresIn at t₀) front));
           table = rw (add-one r) (rw s tb);
           filled = rw (add-one r)
-              (ap (λ (l : List ℕ). set l r v) (h .filled ∙ ap (λ (l : List ℕ). upFrom (maxRegisters + at) r ++ l) (drop-cons values₀ r 0 lt))
-              ∙ set-at (upFrom (maxRegisters + at) r) (getD values₀ r 0) (drop (suc r) values₀) v r (length-upFrom (maxRegisters + at) r)
-              ∙ sym (append-snoc (upFrom (maxRegisters + at) r) v (drop (suc r) values₀))
-              ∙ ap (λ (m : ℕ). (upFrom (maxRegisters + at) r ++ (m ∷ [])) ++ drop (suc r) values₀) (ev ∙ sym (add-assoc maxRegisters at r))
-              ∙ ap (λ (l : List ℕ). l ++ drop (suc r) values₀) (sym (upFrom-more (maxRegisters + at) r)));
+              (ap (λ (l : List ℕ). set l r v) (h .filled)
+              ∙ ap (set (upFrom (maxRegisters + at) r ++ drop r values₀) r) (ev ∙ sym (add-assoc maxRegisters at r))
+              ∙ counted-more (maxRegisters + at) r values₀ lt);
         }
 
     pub selected-table : length values₀ ≤ r → t ≡ appended at (selects taken source values₀) t₀
@@ -90,7 +88,4 @@ module _ (t₀ : List ℕ) (at taken : ℕ) (source values₀ : List ℕ) (same 
     pub selected-values : length values₀ ≤ r → values ≡ upFrom (maxRegisters + at) (length source)
     selected-values le =
         let e : r ≡ length source = omega arith in
-        h .filled
-        ∙ ap (λ (l : List ℕ). upFrom (maxRegisters + at) r ++ l) (drop-of-length-le values₀ le)
-        ∙ append-nil (upFrom (maxRegisters + at) r)
-        ∙ ap (upFrom (maxRegisters + at)) e
+        h .filled ∙ counted-all (maxRegisters + at) r values₀ le ∙ ap (upFrom (maxRegisters + at)) e

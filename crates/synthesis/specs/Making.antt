@@ -44,6 +44,10 @@ pub record Held (p : Point) (t₀ : List ℕ) (arrival : ℕ) (values : List ℕ
   pub point : pointIn arrival values n t ≡ p
   pub rest : t ≡ stored (wiresIn n t) t₀
 
+-- an edge whose target is of no matter
+abbrev pub along : ℕ → List ℕ → Edge
+along taken values = record { target = halted; taken = taken; values = values }
+
 -- ---- edges: a list of targets, and rows of the taken reference and 16 values
 
 -- a target that is a halt is 255, and one that is used up 254
@@ -68,15 +72,15 @@ edgeIn r targets rows i =
       values = take r (drop (rowWords * i + 1) rows);
     }
 
--- the first n edges, with those used up
-unfoldable pub edgesIn : ℕ → List ℕ → List ℕ → ℕ → List Edge
+-- k edges from number `from` up, with those used up
+unfoldable pub edgesIn : ℕ → List ℕ → List ℕ → ℕ → ℕ → List Edge
 unfolding edgeIn
-edgesIn r targets rows n = map (edgeIn r targets rows) (upFrom 0 n)
+edgesIn r targets rows from k = map (edgeIn r targets rows) (upFrom from k)
 
 -- the first n edges without those used up
 unfoldable pub pending : ℕ → List ℕ → List ℕ → ℕ → List Edge
 unfolding edgesIn
-pending r targets rows n = towards (λ p. not (leadsTo used p)) (edgesIn r targets rows n)
+pending r targets rows n = towards (λ p. not (leadsTo used p)) (edgesIn r targets rows 0 n)
 
 -- the first n targets that are x used up
 abbrev pub usedUp : ℕ → ℕ → List ℕ → List ℕ

@@ -14,9 +14,10 @@ use Rattle.fsmd.specs.declared.Wire.{Wire}
 use Rattle.fsmd.specs.Layout.{maxRegisters, maxBlocks, wireWords}
 use Rattle.synthesis.specs.Wires.{or-wire, selects, Edge, Point, join, joins, leadsTo, towards}
 use Rattle.synthesis.specs.Making.{wiresIn, stored, appended, Room, pointIn, Held, along, edgeIn, edgesIn, rowWords, NextAt}
-use Rattle.synthesis.proofs.StoredWires.{length-wiresIn, length-stored, stored-more, stored-none}
+use Rattle.synthesis.proofs.StoredWires.{length-wiresIn, length-stored, stored-more}
 use Rattle.synthesis.proofs.Selections.{length-selects}
-use Rattle.synthesis.proofs.Points.{held-by, held-count, held-on}
+use Rattle.synthesis.proofs.Points.{held-by}
+use Rattle.synthesis.proofs.Folds.{fold, Folding, folding-start, folding-room, folding-next, folding-done}
 use Rattle.synthesis.proofs.EdgeLaws.{leads-same, leads-other, towards-passed, towards-found}
 
 -- ---- one join
@@ -48,96 +49,70 @@ pub grow-join : (e : Edge) (p : Point) → length (p .wires) ≤ length (join e 
 unfolding join
 grow-join e p = omega (arith, length-append (p .wires) (or-wire (p .arrival) (e .taken) ∷ selects (e .taken) (e .values) (p .values)))
 
-pub grow-joins : (es : List Edge) (p : Point) → length (p .wires) ≤ length (joins es p .wires)
+joins-fold : (es : List Edge) (p : Point) → joins es p ≡ fold join es p
 unfolding joins
-grow-joins [] p = omega arith
-grow-joins (e ∷ es) p = omega (arith, grow-join e p, grow-joins es (join e p))
+joins-fold [] p = refl
+joins-fold (e ∷ es) p = joins-fold es (join e p)
 
 -- ---- joins one after another
 
-abbrev incoming : ℕ → List ℕ → List ℕ → ℕ → ℕ → ℕ → List Edge
+abbrev pub incoming : ℕ → List ℕ → List ℕ → ℕ → ℕ → ℕ → List Edge
 incoming r ts rows x count i = towards (leadsTo x) (edgesIn r ts rows i (count - i))
 
 -- the edges before number i are joined, and edge i is the next to be
 pub record Joining (r : ℕ) (ts rows : List ℕ) (x count : ℕ) (final : Point) (n₀ : ℕ) (t₀ : List ℕ) (a : ℕ) (vs : List ℕ) (n : ℕ) (t : List ℕ) (i : ℕ) : Type 0 where
   pub reached : i ≤ count
   pub found : i < count → getD ts i 0 ≡ x
-  pub left : joins (incoming r ts rows x count i) (pointIn a vs n t) ≡ final
-  pub rest : t ≡ stored (wiresIn n t) t₀
-  pub grown : n₀ ≤ n
+  pub folding : Folding join (incoming r ts rows x count i) final n₀ t₀ a vs n t
   pub sized : length vs ≡ r
-  pub long : length t ≡ length t₀
 
-module _ (r : ℕ) (ts rows : List ℕ) (x count from : ℕ) (a₀ : ℕ) (vs₀ : List ℕ) (n₀ : ℕ) (t₀ : List ℕ)
-    (few : r ≤ maxRegisters) (fits : rowWords * count ≤ length rows) (some : x < maxBlocks) where
-  abbrev Final : Point
-  Final = joins (incoming r ts rows x count from) (pointIn a₀ vs₀ n₀ t₀)
-
-  abbrev Now : ℕ → List ℕ → ℕ → List ℕ → ℕ → Type 0
-  Now a vs n t i = Joining r ts rows x count Final n₀ t₀ a vs n t i
-
+module _ (r : ℕ) (ts rows : List ℕ) (x count : ℕ) (few : r ≤ maxRegisters) (fits : rowWords * count ≤ length rows) (some : x < maxBlocks) where
   passed : (i j : ℕ) → NextAt ts i count x j → incoming r ts rows x count i ≡ incoming r ts rows x count j
   passed i j h = towards-passed r ts rows (leadsTo x) count i j (h .low) (h .high) (λ m lo hi. leads-other x (getD ts m 0) (h .passed m hi lo))
 
-  pub joining-start : (i : ℕ) → NextAt ts from count x i → length vs₀ ≡ r → wireWords * n₀ ≤ length t₀ → Now a₀ vs₀ n₀ t₀ i
-  joining-start i h e w =
+  pub joining-start : (a : ℕ) (vs : List ℕ) (n : ℕ) (t : List ℕ) (from i : ℕ) → NextAt ts from count x i → length vs ≡ r → wireWords * n ≤ length t
+      → Joining r ts rows x count (joins (incoming r ts rows x count from) (pointIn a vs n t)) n t a vs n t i
+  joining-start a vs n t from i h e w =
       record {
         reached = h .high;
         found = h .found;
-        left = ap (λ (es : List Edge). joins es (pointIn a₀ vs₀ n₀ t₀)) (sym (passed from i h));
-        rest = sym (stored-none n₀ t₀ w);
-        grown = omega arith;
+        folding = rw (← passed from i h, joins-fold) (folding-start join (incoming r ts rows x count from) a vs n t w);
         sized = e;
-        long = refl;
       }
 
-  module _ (a : ℕ) (vs : List ℕ) (n : ℕ) (t : List ℕ) (i : ℕ) (h : Now a vs n t i) where
-    source : i < count → length (take r (drop (rowWords * i + 1) rows)) ≡ r
-    source lt = length-take-le r (drop (rowWords * i + 1) rows) (omega (arith, length-drop (rowWords * i + 1) rows))
-
-    next : i < count → joins (incoming r ts rows x count (suc i)) (join (edgeIn r ts rows i) (pointIn a vs n t)) ≡ Final
-    unfolding joins
-    next lt =
-        ap (λ (es : List Edge). joins es (pointIn a vs n t)) (sym (towards-found r ts rows (leadsTo x) count i lt (rw (h .found lt) (leads-same x some))))
-        ∙ h .left
-
+  module _ {final : Point} {n₀ : ℕ} {t₀ : List ℕ} {a : ℕ} {vs : List ℕ} {n : ℕ} {t : List ℕ} {i : ℕ} (h : Joining r ts rows x count final n₀ t₀ a vs n t i) where
     edge-length : i < count → length (edgeIn r ts rows i .values) ≡ r
     unfolding edgeIn
-    edge-length lt = source lt
+    edge-length lt = length-take-le r (drop (rowWords * i + 1) rows) (omega (arith, length-drop (rowWords * i + 1) rows))
+
+    next : i < count → Folding join (edgeIn r ts rows i ∷ incoming r ts rows x count (suc i)) final n₀ t₀ a vs n t
+    next lt = rw (towards-found r ts rows (leadsTo x) count i lt (rw (h .found lt) (leads-same x some))) at (h .folding)
 
     -- room for the next join
-    pub joining-room : i < count → Room (length (Final .wires)) t₀ → Room (n + 1 + length vs) t
+    pub joining-room : i < count → Room (length (final .wires)) t₀ → Room (n + 1 + length vs) t
     joining-room lt room =
-        let e = edgeIn r ts rows i in
-        let p = pointIn a vs n t in
-        let long = h .long in
-        let l : n + 1 + length vs ≤ length (Final .wires) =
-            omega (arith, length-join e p (edge-length lt ∙ sym (h .sized)), length-wiresIn n t, grow-joins (incoming r ts rows x count (suc i)) (join e p), ap (λ (q : Point). length (q .wires)) (next lt)) in
+        let long = h .folding .long in
+        let l : n + 1 + length vs ≤ length (final .wires) =
+            omega (arith, length-join (edgeIn r ts rows i) (pointIn a vs n t) (edge-length lt ∙ sym (h .sized)), length-wiresIn n t, folding-room join grow-join (edgeIn r ts rows i) (next lt)) in
         record { fits = omega arith; few = omega arith }
 
     pub joining-next : (taken : ℕ) (src : List ℕ) (a′ : ℕ) (vs′ : List ℕ) (n′ : ℕ) (t′ : List ℕ) (j : ℕ) → i < count
         → taken ≡ getD rows (rowWords * i) 0 → src ≡ take r (drop (rowWords * i + 1) rows)
         → Held (join (along taken src) (pointIn a vs n t)) t a′ vs′ n′ t′ → NextAt ts (i + 1) count x j
-        → length vs′ ≡ length vs → length t′ ≡ length t → Now a′ vs′ n′ t′ j
+        → length vs′ ≡ length vs → length t′ ≡ length t → Joining r ts rows x count final n₀ t₀ a′ vs′ n′ t′ j
     unfolding edgeIn join
-    joining-next taken src a′ vs′ n′ t′ j lt et es k m lv lt′ =
-        let e = edgeIn r ts rows i in
-        let q : pointIn a′ vs′ n′ t′ ≡ join e (pointIn a vs n t) =
-            k .point ∙ ap (λ (y : ℕ). join (along y src) (pointIn a vs n t)) et ∙ ap (λ (y : List ℕ). join (along (getD rows (rowWords * i) 0) y) (pointIn a vs n t)) es in
-        let g : Held (pointIn a vs n t) t₀ a vs n t = record { point = refl; rest = h .rest } in
-        let le : n ≤ n′ = omega (arith, length-wiresIn n t, grow-join (along taken src) (pointIn a vs n t), held-count k) in
+    joining-next taken src a′ vs′ n′ t′ j lt et es k m lv l =
+        let k′ : Held (join (edgeIn r ts rows i) (pointIn a vs n t)) t a′ vs′ n′ t′ = rw (et, es) at k in
         record {
           reached = m .high;
           found = m .found;
-          left = rw (q) (ap (λ (fs : List Edge). joins fs (join e (pointIn a vs n t))) (sym (passed (suc i) j (rw add-one at m))) ∙ next lt);
-          rest = held-on g le k .rest;
-          grown = omega (arith, h .grown);
+          folding = rw (passed (suc i) j (rw add-one at m)) at (folding-next join grow-join (edgeIn r ts rows i) a′ vs′ n′ t′ (next lt) k′ l);
           sized = lv ∙ h .sized;
-          long = lt′ ∙ h .long;
         }
 
-    pub joining-done : count ≤ i → Held Final t₀ a vs n t
-    unfolding joins edgesIn
+    pub joining-done : count ≤ i → Held final t₀ a vs n t
+    unfolding edgesIn
     joining-done le =
         let z : count - i ≡ 0 = omega arith in
-        record { point = rw z at (h .left); rest = h .rest }
+        let f : Folding join [] final n₀ t₀ a vs n t = rw z at (h .folding) in
+        folding-done join f

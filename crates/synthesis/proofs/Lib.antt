@@ -4,4 +4,5 @@ pub mod Selections
 pub mod UsedUp
 pub mod Points
 pub mod EdgeLaws
+pub mod Folds
 pub mod JoinLaws

@@ -3,13 +3,13 @@ use Prim.Native.Nat.{ℕ, zero, suc, _+_, _-_, _*_, _≤_, _<_}
 use native.Mathlib.Nat.{add-zero, add-suc, suc-add}
 use native.Mathlib.Omega.{arith}
 use mathlib.Core.Path.{_≡_, refl, sym, ap, _∙_}
-use mathlib.Core.Bool.{Bool, true, false, not}
+use mathlib.Core.Bool.{Bool, true, false, not, false≢true}
 use mathlib.Core.List.{List, [], _∷_, _++_}
 use lib.ListN.{length, getD}
 use lib.Dec.{eqb}
 use borrow.Author.Tests.{eq-eqb, ne-eqb, eqb-true}
 use Rattle.word.specs.Word.{choose}
-use Rattle.runs.specs.Lists.{keep, upFrom}
+use Rattle.runs.specs.Lists.{keep, only, upFrom}
 use Rattle.runs.specs.Runs.{Place, standing, halted}
 use Rattle.fsmd.specs.Layout.{maxBlocks, none}
 use Rattle.synthesis.specs.Wires.{Edge, leadsTo, towards}
@@ -64,3 +64,24 @@ module _ (r : ℕ) (ts rows : List ℕ) (p : Place → Bool) (n : ℕ) where
   towards-passed i j lo hi h =
       let e : i + (j - i) ≡ j = omega arith in
       far (j - i) i (omega arith) (λ m a b. h m a (omega arith)) ∙ ap (λ (k : ℕ). towards p (edgesIn r ts rows k (n - k))) e
+
+-- ---- edges used up
+
+step : (p q : Edge → Bool) (e : Edge) (es : List Edge) → ((e : Edge) → p e ≡ true → q e ≡ true) → only p (only q es) ≡ only p es
+    → (b c : Bool) → q e ≡ b → p e ≡ c → only p (keep b e (only q es)) ≡ keep c e (only p es)
+step p q e es h ih true c eb ec = rw ec (ap (keep c e) ih)
+step p q e es h ih false true eb ec = absurd (false≢true (sym eb ∙ h e ec))
+step p q e es h ih false false eb ec = ih
+
+only-within : (p q : Edge → Bool) → ((e : Edge) → p e ≡ true → q e ≡ true) → (es : List Edge) → only p (only q es) ≡ only p es
+only-within p q h [] = refl
+only-within p q h (e ∷ es) = step p q e es h (only-within p q h es) (q e) (p e) refl refl
+
+leads-unused : (x : ℕ) → x < maxBlocks → (p : Place) → leadsTo x p ≡ true → not (leadsTo used p) ≡ true
+leads-unused x h (standing y) e = ap not (ne-eqb y used (λ k. omega (arith, eqb-true y x e)))
+leads-unused x h halted e = absurd (false≢true e)
+
+pub towards-pending : (r : ℕ) (ts rows : List ℕ) (n x : ℕ) → x < maxBlocks → towards (leadsTo x) (pending r ts rows n) ≡ towards (leadsTo x) (edgesIn r ts rows 0 n)
+unfolding pending
+towards-pending r ts rows n x h =
+    only-within (λ e. leadsTo x (e .target)) (λ e. not (leadsTo used (e .target))) (λ e k. leads-unused x h (e .target) k) (edgesIn r ts rows 0 n)

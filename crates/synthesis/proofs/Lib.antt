@@ -6,3 +6,4 @@ pub mod Points
 pub mod EdgeLaws
 pub mod Folds
 pub mod JoinLaws
+pub mod EnterLaws

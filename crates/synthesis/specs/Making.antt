@@ -12,7 +12,7 @@ use Rattle.runs.specs.Runs.{Place, standing, halted}
 use Rattle.fsmd.specs.declared.Wire.{Wire}
 use Rattle.fsmd.specs.Layout.{maxWires, wireWords, none}
 use Rattle.fsmd.specs.Table.{wireWordsOf}
-use Rattle.synthesis.specs.Wires.{wire, Edge, Point, leadsTo, towards}
+use Rattle.synthesis.specs.Wires.{wire, Edge, Point, Build, leadsTo, towards}
 
 -- ---- wires
 
@@ -81,6 +81,16 @@ edgesIn r targets rows from k = map (edgeIn r targets rows) (upFrom from k)
 unfoldable pub pending : ℕ → List ℕ → List ℕ → ℕ → List Edge
 unfolding edgesIn
 pending r targets rows n = towards (λ p. not (leadsTo used p)) (edgesIn r targets rows 0 n)
+
+-- the two lists have room for the most edges of a state, and hold n
+pub record Edged (targets rows : List ℕ) (n : ℕ) : Type 0 where
+  pub all : length targets ≡ maxEdges
+  pub each : length rows ≡ rowWords * maxEdges
+  pub few : n ≤ maxEdges
+
+-- the state in the making of which n edges stand in the two lists, and k wires in words t
+abbrev pub buildIn : ℕ → List ℕ → List ℕ → ℕ → ℕ → List ℕ → Build
+buildIn r targets rows n k t = record { wires = wiresIn k t; edges = pending r targets rows n }
 
 -- the first n targets that are x used up
 abbrev pub usedUp : ℕ → ℕ → List ℕ → List ℕ

@@ -9,8 +9,8 @@ ghost use Prim.Native.Nat.{_+_, _-_, _*_, _≤_, _<_};
 ghost use lib.ListN.{length};
 ghost use Rattle.runs.specs.Lists.{upFrom};
 ghost use Rattle.fsmd.specs.Layout.{maxRegisters, maxBlocks};
-ghost use Rattle.synthesis.specs.Wires.{«set-wire», Point, joins, join as joined, leadsTo, towards};
-ghost use Rattle.synthesis.specs.Making.{appended, Room, pointIn, Held, along, edgesIn, maxEdges, rowWords};
+ghost use Rattle.synthesis.specs.Wires.{«set-wire», join as joined, joins, enter as entered, leadsTo, towards};
+ghost use Rattle.synthesis.specs.Making.{appended, Room, pointIn, Held, along, edgesIn, Edged, buildIn};
 
 // Each register's value is the one at the start of the cycle.
 fn number(values: &mut [u32])
@@ -57,7 +57,8 @@ pub fn join(wires: &mut [u32], values: &mut [u32], front: Front, taken: u32, sou
 
 // The edges to `x` from number `from` up joined to what stands there.
 fn join_all(wires: &mut [u32], values: &mut [u32], front: Front, targets: &[u32], rows: &[u32], from: usize, count: usize, x: u32) -> Front
-    requires { ⌜ (from ≤ count) × (count ≤ maxEdges) × (length (now targets) ≡ maxEdges) × (length (now rows) ≡ rowWords * maxEdges) × (length (now values) ≤ maxRegisters) × (x < maxBlocks) ⌝ }
+    requires { ⌜ Edged (now targets) (now rows) count ⌝ }
+    requires { ⌜ (from ≤ count) × (length (now values) ≤ maxRegisters) × (x < maxBlocks) ⌝ }
     requires { ⌜ Room (front .wires) (now wires) ⌝ }
     requires { ⌜ Room (length (joins (towards (leadsTo x) (edgesIn (length (now values)) (now targets) (now rows) from (count - from))) (pointIn (front .arrival) (now values) (front .wires) (now wires)) .wires)) (now wires) ⌝ }
     ensures { λ r. ⌜ Held (joins (towards (leadsTo x) (edgesIn (length (now (values .entry))) (now (targets .entry)) (now (rows .entry)) from (count - from))) (pointIn (front .arrival) (now (values .entry)) (front .wires) (now (wires .entry)))) (now (wires .entry)) (r .arrival) (now (values .exit)) (r .wires) (now (wires .exit)) ⌝ }
@@ -71,4 +72,30 @@ fn join_all(wires: &mut [u32], values: &mut [u32], front: Front, targets: &[u32]
         i = edges::next_edge(targets, i + 1, count, x);
     }
     made
+}
+
+// A starter's arrival and values, or those of the edges that lead to block `x`.
+pub fn enter(wires: &mut [u32], values: &mut [u32], targets: &[u32], rows: &[u32], made: Progress, x: u32, starter: bool) -> Front
+    requires { ⌜ Edged (now targets) (now rows) (made .edges) ⌝ }
+    requires { ⌜ (length (now values) ≤ maxRegisters) × (x < maxBlocks) ⌝ }
+    requires { ⌜ Room (made .wires) (now wires) ⌝ }
+    requires { ⌜ Room (length (entered (length (now values)) starter x (buildIn (length (now values)) (now targets) (now rows) (made .edges) (made .wires) (now wires)) .wires)) (now wires) ⌝ }
+    ensures { λ r. ⌜ Held (entered (length (now (values .entry))) starter x (buildIn (length (now (values .entry))) (now (targets .entry)) (now (rows .entry)) (made .edges) (made .wires) (now (wires .entry)))) (now (wires .entry)) (r .arrival) (now (values .exit)) (r .wires) (now (wires .exit)) ⌝ }
+{
+    let at = made.wires;
+    let count = made.edges;
+    if starter {
+        return begin(wires, values, at, 1);
+    }
+    let i = edges::next_edge(targets, 0, count, x);
+    if i == count {
+        return begin(wires, values, at, 0);
+    }
+    let row = Progress::ROW * i;
+    edges::copy(values, 0, &rows[row + 1..row + 1 + values.len()]);
+    let front = Front {
+        arrival: rows[row],
+        wires: at,
+    };
+    join_all(wires, values, front, targets, rows, i + 1, count, x)
 }

@@ -36,7 +36,7 @@ loop-holds c =
     let a = c .before .before .before .before .before .args in
     let p = c .before .before .before .before .before .pre in
     joining-start (length (now (a .values))) (now (a .targets)) (now (a .rows)) (a .x) (a .count)
-    (p .0 .4) (omega arith) (p .0 .5) (a .front .arrival) (now (a .values)) (a .front .wires) (now (a .wires)) (a .from) (c .next-edge .result) (c .next-edge .ensures) refl (p .1 .0 .fits)
+    (p .1 .0 .1) (omega arith) (p .1 .0 .2) (a .front .arrival) (now (a .values)) (a .front .wires) (now (a .wires)) (a .from) (c .next-edge .result) (c .next-edge .ensures) refl (p .1 .1 .0 .fits)
 
 -- src/joins.rt:68:19
 mul-row : tie.Need-mul-row Inv-loop μ-loop
@@ -88,8 +88,8 @@ join-requires c κs =
     let e : 17 * l .i + 1 + length (l .values) - (17 * l .i + 1) ≡ length (l .values) = omega arith in
     let s = l .inv .sized in (
       ap (λ (k : ℕ). length (take k (drop (17 * l .i + 1) rows))) e
-          ∙ length-take-le (length (l .values)) (drop (17 * l .i + 1) rows) (omega (arith, length-drop (17 * l .i + 1) rows, s, p .0)),
-      joining-room (length (now (a .values))) (now (a .targets)) (now (a .rows)) (a .x) (a .count) (p .0 .4) (omega (arith, p .0)) (p .0 .5) (l .inv) (c .before .before .before .before .loop-test .taken) (p .1 .1),
+          ∙ length-take-le (length (l .values)) (drop (17 * l .i + 1) rows) (omega (arith, length-drop (17 * l .i + 1) rows, s, p .0, p .1 .0)),
+      joining-room (length (now (a .values))) (now (a .targets)) (now (a .rows)) (a .x) (a .count) (p .1 .0 .1) (omega (arith, p .0, p .1 .0)) (p .1 .0 .2) (l .inv) (c .before .before .before .before .loop-test .taken) (p .1 .1 .1),
     )
 
 -- src/joins.rt:71:39
@@ -114,7 +114,7 @@ loop-again c =
     let rows = now (a .rows) in
     let e : 17 * l .i + 1 + length (l .values) - (17 * l .i + 1) ≡ length (now (a .values)) = omega (arith, l .inv .sized) in
     joining-next (length (now (a .values))) (now (a .targets)) (now (a .rows)) (a .x) (a .count)
-    (p .0 .4) (omega (arith, p .0)) (p .0 .5) (l .inv)
+    (p .1 .0 .1) (omega (arith, p .0, p .1 .0)) (p .1 .0 .2) (l .inv)
     (getD rows (17 * l .i) 0) (take (17 * l .i + 1 + length (l .values) - (17 * l .i + 1)) (drop (17 * l .i + 1) rows))
     (j .result .arrival) (j .last .1 .0) (j .result .wires) (j .last .0) (c .next-edge2 .result)
     (c .before .before .before .before .before .before .before .before .before .before .loop-test .taken) refl (ap (λ (k : ℕ). take k (drop (17 * l .i + 1) rows)) e) (j .ensures) (c .next-edge2 .ensures) (j .kept .1 .0) (j .kept .0)
@@ -134,7 +134,7 @@ returns c =
     let a = c .before .before .before .before .before .before .before .args in
     let p = c .before .before .before .before .before .before .before .pre in
     joining-done (length (now (a .values))) (now (a .targets)) (now (a .rows)) (a .x) (a .count)
-    (p .0 .4) (omega arith) (p .0 .5) (l .inv) (omega arith)
+    (p .1 .0 .1) (omega arith) (p .1 .0 .2) (l .inv) (omega arith)
 
 pub join-all-spec : {M : Type 1} → statement M
 join-all-spec =

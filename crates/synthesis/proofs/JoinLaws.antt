@@ -93,7 +93,7 @@ module _ (r : ℕ) (ts rows : List ℕ) (x count : ℕ) (few : r ≤ maxRegister
     joining-room lt room =
         let long = h .folding .long in
         let l : n + 1 + length vs ≤ length (final .wires) =
-            omega (arith, length-join (edgeIn r ts rows i) (pointIn a vs n t) (edge-length lt ∙ sym (h .sized)), length-wiresIn n t, folding-room join grow-join (edgeIn r ts rows i) (next lt)) in
+        omega (arith, length-join (edgeIn r ts rows i) (pointIn a vs n t) (edge-length lt ∙ sym (h .sized)), length-wiresIn n t, folding-room join grow-join (edgeIn r ts rows i) (next lt)) in
         record { fits = omega arith; few = omega arith }
 
     pub joining-next : (taken : ℕ) (src : List ℕ) (a′ : ℕ) (vs′ : List ℕ) (n′ : ℕ) (t′ : List ℕ) (j : ℕ) → i < count

@@ -4,6 +4,8 @@ pub mod Selections
 pub mod UsedUp
 pub mod Points
 pub mod EdgeLaws
+pub mod AddedEdge
 pub mod Folds
 pub mod JoinLaws
 pub mod EnterLaws
+pub mod AssignLaws

@@ -58,16 +58,16 @@ module _ (t₀ : List ℕ) (at taken : ℕ) (source values₀ : List ℕ) (same 
     selected-more w t₁ v lt ew et ev =
         let front = selects taken (take r source) (take r values₀) in
         let e : length (wiresIn at t₀ ++ front) ≡ at + r =
-            omega (arith, length-append (wiresIn at t₀) front, length-wiresIn at t₀, length-selects taken (take r source) (take r values₀) (length-take-le r source (omega arith) ∙ sym (length-take-le r values₀ (omega arith))), length-take-le r source (omega arith)) in
+        omega (arith, length-append (wiresIn at t₀) front, length-wiresIn at t₀, length-selects taken (take r source) (take r values₀) (length-take-le r source (omega arith) ∙ sym (length-take-le r values₀ (omega arith))), length-take-le r source (omega arith)) in
         let s : selects taken (take (suc r) source) (take (suc r) values₀) ≡ front ++ (w ∷ []) =
-            rw (take-suc source r 0 (omega arith), take-suc values₀ r 0 lt, ew, selected-value lt)
-            (selects-more taken (getD source r 0) (getD values₀ r 0) (take r source) (take r values₀) (length-take-le r source (omega arith) ∙ sym (length-take-le r values₀ (omega arith)))) in
+        rw (take-suc source r 0 (omega arith), take-suc values₀ r 0 lt, ew, selected-value lt)
+        (selects-more taken (getD source r 0) (getD values₀ r 0) (take r source) (take r values₀) (length-take-le r source (omega arith) ∙ sym (length-take-le r values₀ (omega arith)))) in
         let tb : t₁ ≡ appended at (front ++ (w ∷ [])) t₀ =
-            et
-            ∙ ap (λ (l : List ℕ). appended (at + r) (w ∷ []) l) (h .table)
-            ∙ ap (λ (n : ℕ). appended n (w ∷ []) (stored (wiresIn at t₀ ++ front) t₀)) (sym e)
-            ∙ stored-more (wiresIn at t₀ ++ front) (w ∷ []) t₀
-            ∙ ap (λ (l : List Wire). stored l t₀) (append-assoc (wiresIn at t₀) front (w ∷ [])) in
+        et
+        ∙ ap (λ (l : List ℕ). appended (at + r) (w ∷ []) l) (h .table)
+        ∙ ap (λ (n : ℕ). appended n (w ∷ []) (stored (wiresIn at t₀ ++ front) t₀)) (sym e)
+        ∙ stored-more (wiresIn at t₀ ++ front) (w ∷ []) t₀
+        ∙ ap (λ (l : List Wire). stored l t₀) (append-assoc (wiresIn at t₀) front (w ∷ [])) in
         record {
           small = omega arith;
           sized = length-set values r v ∙ h .sized;

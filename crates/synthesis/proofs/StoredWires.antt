@@ -90,7 +90,7 @@ unfolding stored concatMap
 emitted n w t h =
     let e : wireWords * length (wiresIn n t ++ (w ∷ [])) ≡ wireWords * n + 4 = omega (arith, length-append (wiresIn n t) (w ∷ []), length-wiresIn n t) in
     let front : take (wireWords * n) t ≡ words (wiresIn n t) =
-        sym (ap (take (wireWords * n)) (words-wiresIn n t (omega arith)))
-        ∙ take-at (words (wiresIn n t)) (drop (wireWords * n) t) (wireWords * n) (length-words (wiresIn n t) ∙ ap (λ (k : ℕ). wireWords * k) (length-wiresIn n t)) in
+    sym (ap (take (wireWords * n)) (words-wiresIn n t (omega arith)))
+    ∙ take-at (words (wiresIn n t)) (drop (wireWords * n) t) (wireWords * n) (length-words (wiresIn n t) ∙ ap (λ (k : ℕ). wireWords * k) (length-wiresIn n t)) in
     sets-eq (wireWordsOf w) t (wireWords * n) (omega arith)
     ∙ rw (front, e, words-append (wiresIn n t) (w ∷ []))

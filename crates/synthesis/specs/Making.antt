@@ -9,8 +9,10 @@ use lib.Dec.{eqb}
 use Rattle.word.specs.Word.{choose}
 use Rattle.runs.specs.Lists.{upFrom, concatMap}
 use Rattle.runs.specs.Runs.{Place, standing, halted}
+use Rattle.cfg.specs.declared.Ending.{Ending}
+use Rattle.cfg.specs.declared.Ending.the-variants.{Goto, Ite, Halt}
 use Rattle.fsmd.specs.declared.Wire.{Wire}
-use Rattle.fsmd.specs.Layout.{maxWires, wireWords, none}
+use Rattle.fsmd.specs.Layout.{maxBlocks, maxWires, wireWords, none}
 use Rattle.fsmd.specs.Table.{wireWordsOf}
 use Rattle.synthesis.specs.Wires.{wire, Edge, Point, Build, leadsTo, towards}
 
@@ -57,6 +59,9 @@ used = 254
 abbrev pub placeOf : ℕ → Place
 placeOf t = choose (eqb t none) halted (standing t)
 
+abbrev pub edgeTo : ℕ → ℕ → List ℕ → Edge
+edgeTo target taken values = record { target = placeOf target; taken = taken; values = values }
+
 abbrev pub maxEdges : ℕ
 maxEdges = 128
 
@@ -91,6 +96,17 @@ pub record Edged (targets rows : List ℕ) (n : ℕ) : Type 0 where
 -- the state in the making of which n edges stand in the two lists, and k wires in words t
 abbrev pub buildIn : ℕ → List ℕ → List ℕ → ℕ → ℕ → List ℕ → Build
 buildIn r targets rows n k t = record { wires = wiresIn k t; edges = pending r targets rows n }
+
+-- it is b, and past its wires the words are those of t₀
+pub record Built (b : Build) (t₀ : List ℕ) (r : ℕ) (targets rows : List ℕ) (n k : ℕ) (t : List ℕ) : Type 0 where
+  pub build : buildIn r targets rows n k t ≡ b
+  pub rest : t ≡ stored (wiresIn k t) t₀
+
+-- the targets of an ending are blocks
+abbrev pub Aims : Ending → Type 0
+Aims (Goto t) = t < maxBlocks
+Aims (Ite c t f) = (t < maxBlocks) × (f < maxBlocks)
+Aims Halt = Unit {0}
 
 -- the first n targets that are x used up
 abbrev pub usedUp : ℕ → ℕ → List ℕ → List ℕ

@@ -8,7 +8,7 @@ ghost use lib.Dec.{eqb};
 ghost use lib.Seq.{paste};
 ghost use Rattle.word.specs.Word.{choose};
 ghost use Rattle.fsmd.specs.Layout.{maxRegisters};
-ghost use Rattle.synthesis.specs.Making.{used, usedUp, maxEdges, rowWords, placeOf, edgesIn, NextAt};
+ghost use Rattle.synthesis.specs.Making.{used, usedUp, edgeTo, pending, Edged, NextAt};
 
 // The first of `from` to `count` whose target is `x`, or `count`.
 pub fn next_edge(targets: &[u32], from: usize, count: usize, x: u32) -> usize
@@ -53,4 +53,23 @@ pub fn copy(to: &mut [u32], at: usize, from: &[u32])
         to[at + i] = from[i];
         i += 1;
     }
+}
+
+// One more edge after the first `count`.
+pub fn add(
+    targets: &mut [u32],
+    rows: &mut [u32],
+    count: usize,
+    target: u32,
+    taken: u32,
+    values: &[u32],
+)
+    requires { ⌜ Edged (now targets) (now rows) (count + 1) ⌝ }
+    requires { ⌜ (length (now values) ≤ maxRegisters) × (target ≡ used → ⊥) ⌝ }
+    ensures { λ _. ⌜ pending (length (now (values .entry))) (now (targets .exit)) (now (rows .exit)) (count + 1) ≡ pending (length (now (values .entry))) (now (targets .entry)) (now (rows .entry)) count ++ (edgeTo target taken (now (values .entry)) ∷ []) ⌝ }
+{
+    let row = Progress::ROW * count;
+    targets[count] = target;
+    rows[row] = taken;
+    copy(rows, row + 1, values);
 }

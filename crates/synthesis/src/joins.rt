@@ -41,7 +41,13 @@ pub fn begin(wires: &mut [u32], values: &mut [u32], at: usize, arrival: u32) -> 
 }
 
 // A further incoming edge: an `or` for the arrival, then a 19 for each register.
-pub fn join(wires: &mut [u32], values: &mut [u32], front: Front, taken: u32, source: &[u32]) -> Front
+pub fn join(
+    wires: &mut [u32],
+    values: &mut [u32],
+    front: Front,
+    taken: u32,
+    source: &[u32],
+) -> Front
     requires { ⌜ length (now source) ≡ length (now values) ⌝ }
     requires { ⌜ Room (front .wires + 1 + length (now values)) (now wires) ⌝ }
     ensures { λ r. ⌜ Held (joined (along taken (now (source .entry))) (pointIn (front .arrival) (now (values .entry)) (front .wires) (now (wires .entry)))) (now (wires .entry)) (r .arrival) (now (values .exit)) (r .wires) (now (wires .exit)) ⌝ }
@@ -56,7 +62,16 @@ pub fn join(wires: &mut [u32], values: &mut [u32], front: Front, taken: u32, sou
 }
 
 // The edges to `x` from number `from` up joined to what stands there.
-fn join_all(wires: &mut [u32], values: &mut [u32], front: Front, targets: &[u32], rows: &[u32], from: usize, count: usize, x: u32) -> Front
+fn join_all(
+    wires: &mut [u32],
+    values: &mut [u32],
+    front: Front,
+    targets: &[u32],
+    rows: &[u32],
+    from: usize,
+    count: usize,
+    x: u32,
+) -> Front
     requires { ⌜ Edged (now targets) (now rows) count ⌝ }
     requires { ⌜ (from ≤ count) × (length (now values) ≤ maxRegisters) × (x < maxBlocks) ⌝ }
     requires { ⌜ Room (front .wires) (now wires) ⌝ }
@@ -67,7 +82,13 @@ fn join_all(wires: &mut [u32], values: &mut [u32], front: Front, targets: &[u32]
     let mut i = edges::next_edge(targets, from, count, x);
     while i < count {
         let row = Progress::ROW * i;
-        let next = join(wires, values, made, rows[row], &rows[row + 1..row + 1 + values.len()]);
+        let next = join(
+            wires,
+            values,
+            made,
+            rows[row],
+            &rows[row + 1..row + 1 + values.len()],
+        );
         made = next;
         i = edges::next_edge(targets, i + 1, count, x);
     }
@@ -75,7 +96,15 @@ fn join_all(wires: &mut [u32], values: &mut [u32], front: Front, targets: &[u32]
 }
 
 // A starter's arrival and values, or those of the edges that lead to block `x`.
-pub fn enter(wires: &mut [u32], values: &mut [u32], targets: &[u32], rows: &[u32], made: Progress, x: u32, starter: bool) -> Front
+pub fn enter(
+    wires: &mut [u32],
+    values: &mut [u32],
+    targets: &[u32],
+    rows: &[u32],
+    made: Progress,
+    x: u32,
+    starter: bool,
+) -> Front
     requires { ⌜ Edged (now targets) (now rows) (made .edges) ⌝ }
     requires { ⌜ (length (now values) ≤ maxRegisters) × (x < maxBlocks) ⌝ }
     requires { ⌜ Room (made .wires) (now wires) ⌝ }

@@ -1,5 +1,6 @@
 // Synthesis: the machine of a graph.
 
+pub mod blocks; // blocks.rt: what a block adds to its state
 pub mod edges; // edges.rt: the edges out of placed blocks
 pub mod joins; // joins.rt: how a block's arrival and values come about
 pub mod wires; // wires.rt: one wire, the selections of a join

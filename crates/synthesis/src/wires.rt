@@ -58,12 +58,7 @@ pub fn and_not_wire(a: u32, b: u32) -> Wire
 pub fn select_wire(a: u32, b: u32, c: u32) -> Wire
     ensures { λ r. ⌜ r ≡ «select-wire» a b c ⌝ }
 {
-    Wire {
-        code: 19,
-        a,
-        b,
-        c,
-    }
+    Wire { code: 19, a, b, c }
 }
 
 // The reference of wire `at` of the state.

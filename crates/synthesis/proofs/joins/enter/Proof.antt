@@ -39,7 +39,7 @@ further c =
     let l = source-length r i (a .made .edges) rows (p .1 .0 .0) lt (omega (arith, p .0)) in
     let es : take (17 * i + 1 + r - (17 * i + 1)) (drop (17 * i + 1) rows) ≡ take r (drop (17 * i + 1) rows) = ap (λ (k : ℕ). take k (drop (17 * i + 1) rows)) e in
     let ev : c .copy .last .0 ≡ take r (drop (17 * i + 1) rows) =
-        c .copy .ensures ∙ paste-whole vs (take (17 * i + 1 + r - (17 * i + 1)) (drop (17 * i + 1) rows)) (ap length es ∙ l) ∙ es in
+    c .copy .ensures ∙ paste-whole vs (take (17 * i + 1 + r - (17 * i + 1)) (drop (17 * i + 1) rows)) (ap length es ∙ l) ∙ es in
     enter-first r (now (a .targets)) rows (a .made .edges) (a .x) (a .made .wires) (now (a .wires)) i (p .1 .0 .1) (c .before .before .before .before .next-edge .ensures) lt (c .copy .last .0) ev (ap length ev ∙ l)
 
 -- src/joins.rt:88:9
@@ -49,7 +49,7 @@ begin-requires c κs =
     let p = c .before .before .before .before .before .before .before .pre in
     let r = length (now (a .values)) in
     let room : Room (length (enter r true (a .x) (buildIn r (now (a .targets)) (now (a .rows)) (a .made .edges) (a .made .wires) (now (a .wires))) .wires)) (now (a .wires)) =
-        rw (c .before .before .if1 .taken) at (p .1 .1 .1) in
+    rw (c .before .before .if1 .taken) at (p .1 .1 .1) in
     let e = enter-start-length r (now (a .targets)) (now (a .rows)) (a .made .edges) (a .x) (a .made .wires) (now (a .wires)) in
     (rw e at room, p .1 .0 .0)
 
@@ -82,7 +82,7 @@ begin-requires-2 c κs =
     let p = c .before .before .before .before .before .before .before .before .before .pre in
     let r = length (now (a .values)) in
     let room : Room (length (enter r false (a .x) (buildIn r (now (a .targets)) (now (a .rows)) (a .made .edges) (a .made .wires) (now (a .wires))) .wires)) (now (a .wires)) =
-        rw (c .before .before .before .before .if1 .left) at (p .1 .1 .1) in
+    rw (c .before .before .before .before .if1 .left) at (p .1 .1 .1) in
     let e = enter-none-length r (now (a .targets)) (now (a .rows)) (a .made .edges) (a .x) (a .made .wires) (now (a .wires)) (c .before .before .before .next-edge .result) (p .1 .0 .1) (c .before .before .before .next-edge .ensures) (c .before .before .if2 .taken) in
     (rw e at room, p .1 .0 .0)
 
@@ -160,7 +160,7 @@ join-all-requires c κs =
     let p = c .before .before .before .before .before .before .before .before .before .before .before .before .before .before .before .pre in
     let r = length (now (a .values)) in
     let room : Room (length (enter r false (a .x) (buildIn r (now (a .targets)) (now (a .rows)) (a .made .edges) (a .made .wires) (now (a .wires))) .wires)) (now (a .wires)) =
-        rw (c .before .before .before .before .before .before .before .before .before .before .if1 .left) at (p .1 .1 .1) in
+    rw (c .before .before .before .before .before .before .before .before .before .before .if1 .left) at (p .1 .1 .1) in
     let i = c .before .before .before .before .before .before .before .before .before .next-edge in
     let lt : i .result < a .made .edges = omega (arith, i .ensures .high, c .before .before .before .before .before .before .before .before .if2 .left) in
     (p .0, ((omega arith, omega (arith, c .before .before .before .before .before .copy .kept .0, p .1 .0), p .1 .0 .1), (p .1 .1 .0, rw (further (c .before .before .before .before .before)) at room)))

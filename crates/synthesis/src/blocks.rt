@@ -1,0 +1,122 @@
+// What a block adds to its state: its instructions, its ending.
+use crate::Front;
+use crate::Progress;
+use crate::edges;
+use crate::wires;
+use cfg::Block;
+use cfg::Condition;
+use cfg::Ending;
+use cfg::Graph;
+use cfg::Instruction;
+use cfg::decode;
+use fsmd::Wire;
+ghost use mathlib.Core.Path.{_≡_};
+ghost use mathlib.Core.List.{List, [], _∷_};
+ghost use Prim.Native.Nat.{_+_, _-_, _*_, _≤_, _<_};
+ghost use lib.ListN.{length, getD, set};
+ghost use lib.Dec.{eqb, ltb};
+ghost use Rattle.word.specs.Word.{choose, arity as arityOf};
+ghost use Rattle.fsmd.specs.Layout.{maxRegisters, maxBlocks};
+ghost use Rattle.cfg.specs.Layout.{blockOffset, graphWords, maxInstructions};
+ghost use Rattle.cfg.specs.Graph.{codeOf};
+ghost use Rattle.cfg.specs.Table.{blockAt};
+ghost use Rattle.synthesis.specs.Wires.{instructionWire, assign as assigned, assigns};
+ghost use Rattle.synthesis.specs.Making.{Room, pointIn, Held};
+
+// How many operands each code reads, from code 0.
+const ARITIES: [u32; 20] = [0, 1, 1, 2, 2, 2, 2, 2, 2, 2, 2, 1, 2, 2, 2, 2, 2, 2, 2, 3];
+
+fn arity(code: u32) -> u32
+    ensures { λ r. ⌜ r ≡ arityOf code ⌝ }
+{
+    let i = code as usize;
+    if i < 20 { ARITIES[i] } else { 0 }
+}
+
+// The reference of a register's value; 0 of none.
+fn value_of(values: &[u32], register: u32) -> u32
+    ensures { λ r. ⌜ r ≡ getD (now (values .entry)) register 0 ⌝ }
+{
+    let i = register as usize;
+    if i < values.len() { values[i] } else { 0 }
+}
+
+fn set_value(values: &mut [u32], register: u32, reference: u32)
+    ensures { λ _. ⌜ now (values .exit) ≡ set (now (values .entry)) register reference ⌝ }
+{
+    let i = register as usize;
+    if i < values.len() {
+        values[i] = reference;
+    }
+}
+
+// A set's is its literal.
+fn first_operand(values: &[u32], i: Instruction) -> u32
+    ensures { λ r. ⌜ r ≡ choose (eqb (i .code) 1) (i .a) (getD (now (values .entry)) (i .a) 0) ⌝ }
+{
+    if i.code == 1 {
+        return i.a;
+    }
+    value_of(values, i.a)
+}
+
+fn second_operand(values: &[u32], i: Instruction) -> u32
+    ensures { λ r. ⌜ r ≡ choose (ltb (arityOf (i .code)) 2) 0 (getD (now (values .entry)) (i .b) 0) ⌝ }
+{
+    if arity(i.code) < 2 {
+        return 0;
+    }
+    value_of(values, i.b)
+}
+
+// The same code over references.
+fn instruction_wire(values: &[u32], i: Instruction) -> Wire
+    ensures { λ r. ⌜ r ≡ instructionWire (λ x. getD (now (values .entry)) x 0) i ⌝ }
+{
+    let a = first_operand(values, i);
+    let b = second_operand(values, i);
+    Wire {
+        code: i.code,
+        a,
+        b,
+        c: 0,
+    }
+}
+
+fn assign(wires: &mut [u32], values: &mut [u32], front: Front, i: Instruction) -> Front
+    requires { ⌜ Room (front .wires + 1) (now wires) ⌝ }
+    ensures { λ r. ⌜ Held (assigned i (pointIn (front .arrival) (now (values .entry)) (front .wires) (now (wires .entry)))) (now (wires .entry)) (r .arrival) (now (values .exit)) (r .wires) (now (wires .exit)) ⌝ }
+{
+    let at = front.wires;
+    wires::emit(wires, at, instruction_wire(values, i));
+    set_value(values, i.d, wires::reference(at));
+    Front {
+        arrival: front.arrival,
+        wires: at + 1,
+    }
+}
+
+// The instructions of block `x`, in order.
+pub fn assign_all(
+    graph: &[u32],
+    x: usize,
+    wires: &mut [u32],
+    values: &mut [u32],
+    front: Front,
+) -> Front
+    requires { ⌜ (x < maxBlocks) × (graphWords ≤ length (now graph)) × (getD (now graph) (blockOffset x) 0 ≤ maxInstructions) ⌝ }
+    requires { ⌜ Room (front .wires) (now wires) ⌝ }
+    requires { ⌜ Room (length (assigns (codeOf (blockAt (now graph) x)) (pointIn (front .arrival) (now values) (front .wires) (now wires)) .wires)) (now wires) ⌝ }
+    ensures { λ r. ⌜ Held (assigns (codeOf (blockAt (now (graph .entry)) x)) (pointIn (front .arrival) (now (values .entry)) (front .wires) (now (wires .entry)))) (now (wires .entry)) (r .arrival) (now (values .exit)) (r .wires) (now (wires .exit)) ⌝ }
+{
+    let start = Graph::HEAD + Block::WORDS * x;
+    let count = graph[start] as usize;
+    let mut made = front;
+    let mut i = 0;
+    while i < count {
+        let next = assign(wires, values, made, decode::instruction_at(graph, start, i));
+        made = next;
+        i += 1;
+    }
+    made
+}

@@ -9,3 +9,4 @@ pub mod Folds
 pub mod JoinLaws
 pub mod EnterLaws
 pub mod AssignLaws
+pub mod CloseLaws

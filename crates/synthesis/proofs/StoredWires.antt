@@ -77,6 +77,12 @@ stored-more ws vs t =
     ap (λ (r : List Wire). stored (r ++ vs) (stored ws t)) (wiresIn-stored ws t)
     ∙ stored-again ws (ws ++ vs) t (omega (arith, length-append ws vs))
 
+pub appended-more : (n : ℕ) (ws vs : List Wire) (t : List ℕ) → appended (n + length ws) vs (appended n ws t) ≡ appended n (ws ++ vs) t
+appended-more n ws vs t =
+    ap (λ (k : ℕ). appended k vs (appended n ws t)) (omega (arith, length-append (wiresIn n t) ws, length-wiresIn n t))
+    ∙ stored-more (wiresIn n t ++ ws) vs t
+    ∙ ap (λ (l : List Wire). stored l t) (append-assoc (wiresIn n t) ws vs)
+
 pub stored-none : (n : ℕ) (t : List ℕ) → wireWords * n ≤ length t → stored (wiresIn n t) t ≡ t
 unfolding stored
 stored-none n t h = rw (length-wiresIn n t) (words-wiresIn n t h)

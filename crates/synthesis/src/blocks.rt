@@ -11,17 +11,17 @@ use cfg::Instruction;
 use cfg::decode;
 use fsmd::Wire;
 ghost use mathlib.Core.Path.{_≡_};
-ghost use mathlib.Core.List.{List, [], _∷_};
+ghost use mathlib.Core.List.{List, [], _∷_, _++_};
 ghost use Prim.Native.Nat.{_+_, _-_, _*_, _≤_, _<_};
 ghost use lib.ListN.{length, getD, set};
 ghost use lib.Dec.{eqb, ltb};
-ghost use Rattle.word.specs.Word.{choose, arity as arityOf};
-ghost use Rattle.fsmd.specs.Layout.{maxRegisters, maxBlocks};
+ghost use Rattle.word.specs.Word.{choose, arity as arityOf, codeOf as comparisonCode};
+ghost use Rattle.fsmd.specs.Layout.{maxRegisters, maxBlocks, maxWires};
 ghost use Rattle.cfg.specs.Layout.{blockOffset, graphWords, maxInstructions};
 ghost use Rattle.cfg.specs.Graph.{codeOf};
 ghost use Rattle.cfg.specs.Table.{blockAt};
-ghost use Rattle.synthesis.specs.Wires.{instructionWire, assign as assigned, assigns};
-ghost use Rattle.synthesis.specs.Making.{Room, pointIn, Held};
+ghost use Rattle.synthesis.specs.Wires.{wire, «and-wire», «and-not-wire», instructionWire, assign as assigned, assigns, close as closed, after};
+ghost use Rattle.synthesis.specs.Making.{appended, Room, pointIn, Held, edgeTo, pending, Edged, Built, Aims};
 
 // How many operands each code reads, from code 0.
 const ARITIES: [u32; 20] = [0, 1, 1, 2, 2, 2, 2, 2, 2, 2, 2, 1, 2, 2, 2, 2, 2, 2, 2, 3];
@@ -119,4 +119,94 @@ pub fn assign_all(
         i += 1;
     }
     made
+}
+
+// An ite's comparison, and the wires that say which way it goes.
+fn branch(wires: &mut [u32], values: &[u32], front: Front, c: Condition)
+    requires { ⌜ Room (front .wires + 3) (now wires) ⌝ }
+    ensures { λ _. ⌜ now (wires .exit) ≡ appended (front .wires) (wire (comparisonCode (c .comparison)) (getD (now (values .entry)) (c .a) 0) (getD (now (values .entry)) (c .b) 0) 0 ∷ «and-wire» (front .arrival) (maxRegisters + front .wires) ∷ «and-not-wire» (front .arrival) (maxRegisters + front .wires) ∷ []) (now (wires .entry)) ⌝ }
+{
+    let at = front.wires;
+    let comparison = c.comparison;
+    let compared = Wire {
+        code: comparison.code(),
+        a: value_of(values, c.a),
+        b: value_of(values, c.b),
+        c: 0,
+    };
+    let n = wires::reference(at);
+    wires::emit(wires, at, compared);
+    wires::emit(wires, at + 1, wires::and_wire(front.arrival, n));
+    wires::emit(wires, at + 2, wires::and_not_wire(front.arrival, n));
+}
+
+// The two edges of an ite whose comparison is wire `at`.
+fn fork(
+    targets: &mut [u32],
+    rows: &mut [u32],
+    count: usize,
+    t: u32,
+    f: u32,
+    at: usize,
+    values: &[u32],
+)
+    requires { ⌜ Edged (now targets) (now rows) (count + 2) ⌝ }
+    requires { ⌜ (length (now values) ≤ maxRegisters) × (t < maxBlocks) × (f < maxBlocks) × (at + 3 ≤ maxWires) ⌝ }
+    ensures { λ _. ⌜ pending (length (now (values .entry))) (now (targets .exit)) (now (rows .exit)) (count + 2) ≡ pending (length (now (values .entry))) (now (targets .entry)) (now (rows .entry)) count ++ (edgeTo t (1 + (maxRegisters + at)) (now (values .entry)) ∷ edgeTo f (2 + (maxRegisters + at)) (now (values .entry)) ∷ []) ⌝ }
+{
+    edges::add(targets, rows, count, t, wires::reference(at + 1), values);
+    edges::add(
+        targets,
+        rows,
+        count + 1,
+        f,
+        wires::reference(at + 2),
+        values,
+    );
+}
+
+// The ending of block `x`: its wires, and its edges after the first `count`, true first.
+pub fn close(
+    graph: &[u32],
+    x: usize,
+    wires: &mut [u32],
+    values: &[u32],
+    targets: &mut [u32],
+    rows: &mut [u32],
+    front: Front,
+    count: usize,
+) -> Progress
+    requires { ⌜ (x < maxBlocks) × (graphWords ≤ length (now graph)) × (length (now values) ≤ maxRegisters) × Aims (blockAt (now graph) x .ending) ⌝ }
+    requires { ⌜ Edged (now targets) (now rows) (count + 2) ⌝ }
+    requires { ⌜ Room (front .wires) (now wires) ⌝ }
+    requires { ⌜ Room (length (closed (blockAt (now graph) x .ending) (pointIn (front .arrival) (now values) (front .wires) (now wires)) .wires)) (now wires) ⌝ }
+    ensures { λ r. ⌜ Built (after (pending (length (now (values .entry))) (now (targets .entry)) (now (rows .entry)) count) (closed (blockAt (now (graph .entry)) x .ending) (pointIn (front .arrival) (now (values .entry)) (front .wires) (now (wires .entry))))) (now (wires .entry)) (length (now (values .entry))) (now (targets .exit)) (now (rows .exit)) (r .edges) (r .wires) (now (wires .exit)) ⌝ }
+    ensures { λ r. ⌜ r .edges ≤ count + 2 ⌝ }
+{
+    let at = front.wires;
+    let ending = decode::ending_at(graph, Graph::HEAD + Block::WORDS * x + Block::ENDING);
+    match ending {
+        Ending::Goto(t) => {
+            edges::add(targets, rows, count, t, front.arrival, values);
+            Progress {
+                edges: count + 1,
+                wires: at,
+            }
+        }
+        Ending::Ite(c, t, f) => {
+            branch(wires, values, front, c);
+            fork(targets, rows, count, t, f, at, values);
+            Progress {
+                edges: count + 2,
+                wires: at + 3,
+            }
+        }
+        Ending::Halt => {
+            edges::add(targets, rows, count, Progress::HALT, front.arrival, values);
+            Progress {
+                edges: count + 1,
+                wires: at,
+            }
+        }
+    }
 }

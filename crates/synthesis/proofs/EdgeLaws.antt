@@ -4,16 +4,17 @@ use native.Mathlib.Nat.{add-zero, add-suc, suc-add}
 use native.Mathlib.Omega.{arith}
 use mathlib.Core.Path.{_≡_, refl, sym, ap, _∙_}
 use mathlib.Core.Bool.{Bool, true, false, not, false≢true}
-use mathlib.Core.List.{List, [], _∷_, _++_}
-use lib.ListN.{length, getD}
+use mathlib.Core.List.{List, [], _∷_, _++_, map}
+use lib.ListN.{length, getD, take, drop}
 use lib.Dec.{eqb}
-use borrow.Author.Tests.{eq-eqb, ne-eqb, eqb-true}
+use borrow.Author.Tests.{eq-eqb, ne-eqb, eqb-true, eqb-false}
 use Rattle.word.specs.Word.{choose}
 use Rattle.runs.specs.Lists.{keep, only, upFrom}
 use Rattle.runs.specs.Runs.{Place, standing, halted}
 use Rattle.fsmd.specs.Layout.{maxBlocks, none}
 use Rattle.synthesis.specs.Wires.{Edge, leadsTo, towards}
-use Rattle.synthesis.specs.Making.{used, placeOf, edgeIn, edgesIn, pending, usedUp}
+use Rattle.synthesis.specs.Making.{used, placeOf, edgeIn, edgesIn, pending, usedUp, rowWords}
+use Rattle.synthesis.proofs.UsedUp.{usedUp-at}
 
 -- ---- where a target leads
 
@@ -85,3 +86,44 @@ pub towards-pending : (r : ℕ) (ts rows : List ℕ) (n x : ℕ) → x < maxBloc
 unfolding pending
 towards-pending r ts rows n x h =
     only-within (λ e. leadsTo x (e .target)) (λ e. not (leadsTo used (e .target))) (λ e k. leads-unused x h (e .target) k) (edgesIn r ts rows 0 n)
+
+-- ---- used up together
+
+both-kept : (f g : ℕ → Edge) (p q : Edge → Bool) (k n : ℕ)
+    → ((i : ℕ) → k ≤ i → i < k + n → (l m : List Edge) → l ≡ only q m → keep (p (f i)) (f i) l ≡ only q (keep (p (g i)) (g i) m))
+    → only p (map f (upFrom k n)) ≡ only q (only p (map g (upFrom k n)))
+both-kept f g p q k zero h = refl
+both-kept f g p q k (suc n) h =
+    h k (omega arith) (omega arith) (only p (map f (upFrom (suc k) n))) (only p (map g (upFrom (suc k) n)))
+    (both-kept f g p q (suc k) n (λ i lo hi. h i (omega arith) (omega arith)))
+
+module _ (r : ℕ) (ts rows : List ℕ) (n x : ℕ) (some : x < maxBlocks) (fits : n ≤ length ts) where
+  abbrev unused : Edge → Bool
+  unused e = not (leadsTo used (e .target))
+
+  abbrev others : Edge → Bool
+  others e = not (leadsTo x (e .target))
+
+  -- an edge to x is dropped either way, and any other kept or dropped alike
+  at-one : (i : ℕ) → i < n → (b : Bool) → eqb (getD ts i 0) x ≡ b → (l m : List Edge) → l ≡ only others m
+      → keep (unused (edgeIn r (usedUp x n ts) rows i)) (edgeIn r (usedUp x n ts) rows i) l ≡ only others (keep (unused (edgeIn r ts rows i)) (edgeIn r ts rows i) m)
+  unfolding edgeIn
+  at-one i lt true e l m h =
+      let t = eqb-true (getD ts i 0) x e in
+      rw (usedUp-at x n i ts lt (omega arith), e, t, ne-eqb x none (λ k. omega arith), ne-eqb x used (λ k. omega arith), eq-eqb x x refl) h
+  at-one i lt false e l m h =
+      let d : not (leadsTo x (placeOf (getD ts i 0))) ≡ true = ap not (leads-other x (getD ts i 0) (eqb-false (getD ts i 0) x e)) in
+      rw (usedUp-at x n i ts lt (omega arith), e) (kept (not (leadsTo used (placeOf (getD ts i 0)))) d)
+    where
+      E : Edge
+      E = record { target = placeOf (getD ts i 0); taken = getD rows (rowWords * i) 0; values = take r (drop (rowWords * i + 1) rows) }
+
+      kept : (b : Bool) → not (leadsTo x (placeOf (getD ts i 0))) ≡ true → keep b E l ≡ only others (keep b E m)
+      kept true d = rw d (ap (λ (z : List Edge). E ∷ z) h)
+      kept false d = h
+
+  pub pending-usedUp : pending r (usedUp x n ts) rows n ≡ towards (λ p. not (leadsTo x p)) (pending r ts rows n)
+  unfolding pending edgesIn
+  pending-usedUp =
+      both-kept (edgeIn r (usedUp x n ts) rows) (edgeIn r ts rows) unused others 0 n
+      (λ i lo hi. at-one i (omega arith) (eqb (getD ts i 0) x) refl)

@@ -10,3 +10,4 @@ pub mod JoinLaws
 pub mod EnterLaws
 pub mod AssignLaws
 pub mod CloseLaws
+pub mod PutLaws

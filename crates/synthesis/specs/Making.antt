@@ -11,10 +11,14 @@ use Rattle.runs.specs.Lists.{upFrom, concatMap}
 use Rattle.runs.specs.Runs.{Place, standing, halted}
 use Rattle.cfg.specs.declared.Ending.{Ending}
 use Rattle.cfg.specs.declared.Ending.the-variants.{Goto, Ite, Halt}
+use Rattle.cfg.specs.declared.Block.{Block}
+use Rattle.cfg.specs.Layout.{maxInstructions, blockOffset, graphWords}
+use Rattle.cfg.specs.Graph.{codeOf}
+use Rattle.cfg.specs.Table.{blockAt}
 use Rattle.fsmd.specs.declared.Wire.{Wire}
 use Rattle.fsmd.specs.Layout.{maxBlocks, maxWires, wireWords, none}
 use Rattle.fsmd.specs.Table.{wireWordsOf}
-use Rattle.synthesis.specs.Wires.{wire, Edge, Point, Build, leadsTo, towards}
+use Rattle.synthesis.specs.Wires.{wire, Edge, Point, Build, leadsTo, towards, enter, assigns, close, after}
 
 -- ---- wires
 
@@ -107,6 +111,18 @@ abbrev pub Aims : Ending → Type 0
 Aims (Goto t) = t < maxBlocks
 Aims (Ite c t f) = (t < maxBlocks) × (f < maxBlocks)
 Aims Halt = Unit {0}
+
+-- block x of a graph table can be placed
+pub record Placeable (t : List ℕ) (x : ℕ) : Type 0 where
+  pub known : x < maxBlocks
+  pub whole : graphWords ≤ length t
+  pub short : getD t (blockOffset x) 0 ≤ maxInstructions
+  pub aims : Aims (blockAt t x .ending)
+
+-- block x, which is `block`, placed, a starter or not: as `put` of a graph and its groups
+unfoldable pub putBlock : ℕ → Bool → Block → ℕ → Build → Build
+unfolding enter assigns close after
+putBlock r starter block x b = after (towards (λ p. not (leadsTo x p)) (b .edges)) (close (block .ending) (assigns (codeOf block) (enter r starter x b)))
 
 -- the first n targets that are x used up
 abbrev pub usedUp : ℕ → ℕ → List ℕ → List ℕ

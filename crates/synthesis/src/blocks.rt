@@ -2,6 +2,7 @@
 use crate::Front;
 use crate::Progress;
 use crate::edges;
+use crate::joins;
 use crate::wires;
 use cfg::Block;
 use cfg::Condition;
@@ -21,7 +22,7 @@ ghost use Rattle.cfg.specs.Layout.{blockOffset, graphWords, maxInstructions};
 ghost use Rattle.cfg.specs.Graph.{codeOf};
 ghost use Rattle.cfg.specs.Table.{blockAt};
 ghost use Rattle.synthesis.specs.Wires.{wire, «and-wire», «and-not-wire», instructionWire, assign as assigned, assigns, close as closed, after};
-ghost use Rattle.synthesis.specs.Making.{appended, Room, pointIn, Held, edgeTo, pending, Edged, Built, Aims};
+ghost use Rattle.synthesis.specs.Making.{appended, Room, pointIn, Held, edgeTo, pending, Edged, buildIn, Built, Aims, Placeable, putBlock};
 
 // How many operands each code reads, from code 0.
 const ARITIES: [u32; 20] = [0, 1, 1, 2, 2, 2, 2, 2, 2, 2, 2, 1, 2, 2, 2, 2, 2, 2, 2, 3];
@@ -209,4 +210,30 @@ pub fn close(
             }
         }
     }
+}
+
+// Block `x` placed: its arrival and joins, its instructions, its ending; the edges that lead to it are used up.
+pub fn put(
+    graph: &[u32],
+    starter: bool,
+    x: u32,
+    made: Progress,
+    wires: &mut [u32],
+    values: &mut [u32],
+    targets: &mut [u32],
+    rows: &mut [u32],
+) -> Progress
+    requires { ⌜ Placeable (now graph) x ⌝ }
+    requires { ⌜ Edged (now targets) (now rows) (made .edges + 2) ⌝ }
+    requires { ⌜ (length (now values) ≤ maxRegisters) × Room (made .wires) (now wires) ⌝ }
+    requires { ⌜ Room (length (putBlock (length (now values)) starter (blockAt (now graph) x) x (buildIn (length (now values)) (now targets) (now rows) (made .edges) (made .wires) (now wires)) .wires)) (now wires) ⌝ }
+    ensures { λ r. ⌜ Built (putBlock (length (now (values .entry))) starter (blockAt (now (graph .entry)) x) x (buildIn (length (now (values .entry))) (now (targets .entry)) (now (rows .entry)) (made .edges) (made .wires) (now (wires .entry)))) (now (wires .entry)) (length (now (values .entry))) (now (targets .exit)) (now (rows .exit)) (r .edges) (r .wires) (now (wires .exit)) ⌝ }
+    ensures { λ r. ⌜ r .edges ≤ made .edges + 2 ⌝ }
+{
+    let block = x as usize;
+    let count = made.edges;
+    let entered = joins::enter(wires, values, targets, rows, made, x, starter);
+    let front = assign_all(graph, block, wires, values, entered);
+    edges::use_up(targets, count, x);
+    close(graph, block, wires, values, targets, rows, front, count)
 }

@@ -15,7 +15,8 @@ use Rattle.synthesis.specs.Wires.{set-wire, Edge, Point, Build, joins, a
 use Rattle.synthesis.specs.Making.{wiresIn, stored, appended, Room, pointIn, Held, along, edgeIn, edgesIn, pending, buildIn, rowWords, NextAt}
 use Rattle.synthesis.proofs.StoredWires.{length-wiresIn}
 use Rattle.synthesis.proofs.Points.{held-by}
-use Rattle.synthesis.proofs.EdgeLaws.{leads-same, leads-other, towards-passed, towards-found, towards-pending}
+use Rattle.synthesis.proofs.EdgeLaws.{towards-found, towards-pending}
+use Rattle.synthesis.proofs.WalkLaws.{onward-passed}
 use Rattle.synthesis.proofs.JoinLaws.{incoming}
 
 -- a wire `set` and the start values
@@ -46,39 +47,39 @@ module _ (r : ℕ) (ts rows : List ℕ) (count x : ℕ) (n : ℕ) (t : List ℕ)
   incoming-pending : x < maxBlocks → towards (leadsTo x) (pending r ts rows count) ≡ incoming r ts rows x count 0
   incoming-pending some = towards-pending r ts rows count x some ∙ ap (λ (k : ℕ). towards (leadsTo x) (edgesIn r ts rows 0 k)) (sym (sub-zero count))
 
-  passed : (i : ℕ) → x < maxBlocks → NextAt ts 0 count x i → towards (leadsTo x) (pending r ts rows count) ≡ incoming r ts rows x count i
+  passed : (i : ℕ) → x < maxBlocks → NextAt (leadsTo x) ts 0 count i → towards (leadsTo x) (pending r ts rows count) ≡ incoming r ts rows x count i
   passed i some h =
       incoming-pending some
-      ∙ towards-passed r ts rows (leadsTo x) count 0 i (h .low) (h .high) (λ m lo hi. leads-other x (getD ts m 0) (h .passed m hi lo))
+      ∙ onward-passed r ts rows (leadsTo x) count 0 i h
 
   -- no incoming edge
-  none-left : (i : ℕ) → x < maxBlocks → NextAt ts 0 count x i → i ≡ count → towards (leadsTo x) (pending r ts rows count) ≡ []
+  none-left : (i : ℕ) → x < maxBlocks → NextAt (leadsTo x) ts 0 count i → i ≡ count → towards (leadsTo x) (pending r ts rows count) ≡ []
   unfolding edgesIn
   none-left i some h e =
       let z : count - i ≡ 0 = omega arith in
       passed i some h ∙ ap (λ (k : ℕ). towards (leadsTo x) (edgesIn r ts rows i k)) z
 
-  pub enter-none : (i : ℕ) → x < maxBlocks → NextAt ts 0 count x i → i ≡ count → (a : ℕ) (vs′ : List ℕ) (n′ : ℕ) (t′ : List ℕ)
+  pub enter-none : (i : ℕ) → x < maxBlocks → NextAt (leadsTo x) ts 0 count i → i ≡ count → (a : ℕ) (vs′ : List ℕ) (n′ : ℕ) (t′ : List ℕ)
       → a ≡ maxRegisters + n → n′ ≡ n + 1 → vs′ ≡ upFrom 0 r → t′ ≡ appended n (set-wire 0 ∷ []) t → Held (enter r false x B) t a vs′ n′ t′
   unfolding enter arrive
   enter-none i some h e a vs′ n′ t′ = begun (enter r false x B) n 0 r t a vs′ n′ t′ (ap (λ (es : List Edge). arrive r es (wiresIn n t)) (none-left i some h e))
 
-  pub enter-none-length : (i : ℕ) → x < maxBlocks → NextAt ts 0 count x i → i ≡ count → length (enter r false x B .wires) ≡ n + 1
+  pub enter-none-length : (i : ℕ) → x < maxBlocks → NextAt (leadsTo x) ts 0 count i → i ≡ count → length (enter r false x B .wires) ≡ n + 1
   unfolding enter arrive
   enter-none-length i some h e =
       ap (λ (es : List Edge). length (arrive r es (wiresIn n t) .wires)) (none-left i some h e)
       ∙ omega (arith, length-append (wiresIn n t) (set-wire 0 ∷ []), length-wiresIn n t)
 
   -- a first incoming edge, and further ones
-  first : (i : ℕ) → x < maxBlocks → NextAt ts 0 count x i → i < count
+  first : (i : ℕ) → x < maxBlocks → NextAt (leadsTo x) ts 0 count i → i < count
       → enter r false x B ≡ joins (incoming r ts rows x count (i + 1)) (pointIn (getD rows (rowWords * i) 0) (take r (drop (rowWords * i + 1) rows)) n t)
   unfolding enter arrive edgeIn
   first i some h lt =
       rw (add-one i)
       (ap (λ (es : List Edge). arrive r es (wiresIn n t))
-      (passed i some h ∙ towards-found r ts rows (leadsTo x) count i lt (rw (h .found lt) (leads-same x some))))
+      (passed i some h ∙ towards-found r ts rows (leadsTo x) count i lt (h .found lt)))
 
-  pub enter-first : (i : ℕ) → x < maxBlocks → NextAt ts 0 count x i → i < count → (vs : List ℕ) → vs ≡ take r (drop (rowWords * i + 1) rows) → length vs ≡ r
+  pub enter-first : (i : ℕ) → x < maxBlocks → NextAt (leadsTo x) ts 0 count i → i < count → (vs : List ℕ) → vs ≡ take r (drop (rowWords * i + 1) rows) → length vs ≡ r
       → enter r false x B ≡ joins (incoming (length vs) ts rows x count (i + 1)) (pointIn (getD rows (rowWords * i) 0) vs n t)
   enter-first i some h lt vs e l = first i some h lt ∙ rw (l, e)
 

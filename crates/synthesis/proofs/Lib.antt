@@ -6,6 +6,7 @@ pub mod Points
 pub mod EdgeLaws
 pub mod AddedEdge
 pub mod Folds
+pub mod WalkLaws
 pub mod JoinLaws
 pub mod EnterLaws
 pub mod AssignLaws

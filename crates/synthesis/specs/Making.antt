@@ -2,7 +2,7 @@
 -- words, and the edges out of its placed blocks in two lists. Assumes nothing.
 use Prim.Native.Nat.{ℕ, zero, suc, _+_, _*_, _≤_, _<_}
 use mathlib.Core.Path.{_≡_}
-use mathlib.Core.Bool.{Bool, not}
+use mathlib.Core.Bool.{Bool, true, false, not}
 use mathlib.Core.List.{List, [], _∷_, _++_, map}
 use lib.ListN.{length, getD, take, drop}
 use lib.Dec.{eqb}
@@ -130,9 +130,9 @@ usedUp x zero ts = ts
 usedUp x (suc n) [] = []
 usedUp x (suc n) (t ∷ ts) = choose (eqb t x) used t ∷ usedUp x n ts
 
--- r is the first of `from` to n at which the targets have x, or n
-pub record NextAt (targets : List ℕ) (from n x r : ℕ) : Type 0 where
+-- r is the first of `from` to n whose target passes a test, or n
+pub record NextAt (p : Place → Bool) (targets : List ℕ) (from n r : ℕ) : Type 0 where
   pub low : from ≤ r
   pub high : r ≤ n
-  pub passed : (j : ℕ) → j < r → from ≤ j → getD targets j 0 ≡ x → ⊥
-  pub found : r < n → getD targets r 0 ≡ x
+  pub passed : (j : ℕ) → j < r → from ≤ j → p (placeOf (getD targets j 0)) ≡ false
+  pub found : r < n → p (placeOf (getD targets r 0)) ≡ true

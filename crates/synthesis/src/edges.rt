@@ -7,13 +7,14 @@ ghost use lib.ListN.{length};
 ghost use lib.Dec.{eqb};
 ghost use lib.Seq.{paste};
 ghost use Rattle.word.specs.Word.{choose};
-ghost use Rattle.fsmd.specs.Layout.{maxRegisters};
+ghost use Rattle.fsmd.specs.Layout.{maxRegisters, maxBlocks};
+ghost use Rattle.synthesis.specs.Wires.{leadsTo};
 ghost use Rattle.synthesis.specs.Making.{used, usedUp, edgeTo, pending, Edged, NextAt};
 
 // The first of `from` to `count` whose target is `x`, or `count`.
 pub fn next_edge(targets: &[u32], from: usize, count: usize, x: u32) -> usize
-    requires { ⌜ (from ≤ count) × (count ≤ length (now targets)) ⌝ }
-    ensures { λ r. ⌜ NextAt (now (targets .entry)) from count x r ⌝ }
+    requires { ⌜ (from ≤ count) × (count ≤ length (now targets)) × (x < maxBlocks) ⌝ }
+    ensures { λ r. ⌜ NextAt (leadsTo x) (now (targets .entry)) from count r ⌝ }
 {
     let mut i = from;
     while i < count {

@@ -1,3 +1,8 @@
+use mathlib.Core.Bool.{false}
+use denote.Ref.{now}
+use Rattle.synthesis.specs.Wires.{leadsTo}
+use Rattle.synthesis.specs.Making.{placeOf}
+use Rattle.synthesis.proofs.EdgeLaws.{leads-same, leads-other}
 use Prim.Native.Nat.{ℕ, _≤_, _<_, _-_}
 use mathlib.Core.Path.{_≡_}
 use native.Mathlib.Omega.{arith}
@@ -10,14 +15,14 @@ use Rattle.synthesis.proofs.edges.next_edge.Reads as reads
 use Rattle.synthesis.proofs.edges.next_edge.Lts as lts
 
 abbrev Inv-loop : tie.InvT-loop
-Inv-loop targets from count x i₀ i = (from ≤ i) × (i ≤ count) × ((j : ℕ) → j < i → from ≤ j → getD targets j 0 ≡ x → ⊥)
+Inv-loop targets from count x i₀ i = (from ≤ i) × (i ≤ count) × ((j : ℕ) → j < i → from ≤ j → leadsTo x (placeOf (getD targets j 0)) ≡ false)
 
 abbrev μ-loop : tie.MeasureT-loop
 μ-loop targets from count x i₀ i = count - i
 
 -- src/edges.rt:19:5
 loop-holds : tie.Need-loop-holds Inv-loop μ-loop
-loop-holds c = (omega arith, omega arith, λ j lt le e. omega arith)
+loop-holds c = (omega arith, omega arith, λ j lt le. absurd (omega arith))
 
 -- src/edges.rt:20:12
 mul-if1 : tie.Need-mul-if1 Inv-loop μ-loop
@@ -31,7 +36,7 @@ shared-slice-read-if1 c = search needs
 returns : tie.Need-returns Inv-loop μ-loop
 returns c =
     let l = c .before .before .before .loop in
-    record { low = l .inv .0; high = l .inv .1; passed = l .inv .2; found = λ h. c .if1 .taken }
+    record { low = l .inv .0; high = l .inv .1; passed = l .inv .2; found = λ h. rw (c .if1 .taken) (leads-same (c .before .before .before .before .args .x) (c .before .before .before .before .pre .2)) }
 
 -- src/edges.rt:23:9
 add-i : tie.Need-add-i Inv-loop μ-loop
@@ -43,7 +48,7 @@ loop-less c = search needs
 
 -- src/edges.rt:19:5
 loop-again : tie.Need-loop-again Inv-loop μ-loop
-loop-again c = (omega arith, omega arith, below-more _ _ (c .before .before .before .loop .inv .2) (λ le. c .if1 .left))
+loop-again c = (omega arith, omega arith, below-more _ _ (c .before .before .before .loop .inv .2) (λ le. leads-other (c .before .before .before .before .args .x) (getD (now (c .before .before .before .before .args .targets)) (c .before .before .before .loop .i) 0) (c .if1 .left)))
 
 -- src/edges.rt:14:1
 returns-2 : tie.Need-returns-2 Inv-loop μ-loop

@@ -1,3 +1,4 @@
+use Rattle.synthesis.specs.Making.{Held, edgeTo}
 use lib.ListN.{length-drop}
 use lib.Seq.{length-take-le}
 use Prim.Native.Nat.{ℕ, _+_, _-_, _*_}
@@ -6,9 +7,10 @@ use mathlib.Core.Path.{_≡_, refl, sym, ap, _∙_}
 use mathlib.Core.List.{List, [], _∷_}
 use denote.Ref.{now}
 use lib.ListN.{length, getD, take, drop}
-use Rattle.synthesis.specs.Wires.{joins, leadsTo, towards}
+use Rattle.synthesis.specs.Wires.{Edge, Point, join, joins, leadsTo, towards}
 use Rattle.synthesis.specs.Making.{pointIn, edgesIn, rowWords}
-use Rattle.synthesis.proofs.JoinLaws.{Joining, joining-start, joining-room, joining-next, joining-done}
+use Rattle.synthesis.proofs.JoinLaws.{length-join, grow-join, joins-walk}
+use Rattle.synthesis.proofs.WalkLaws.{Walking, walking-start, walking-room, walking-next, walking-done}
 use borrow.Author.Needs.{needs}
 use Rattle.synthesis.proofs.joins.join_all.Statement.{statement}
 use Rattle.synthesis.proofs.joins.join_all.Tie as tie
@@ -19,7 +21,7 @@ use Rattle.synthesis.proofs.joins.join.Reads as join-reads
 
 abbrev Inv-loop : tie.InvT-loop
 Inv-loop wires₀ values₀ targets rows from count x made₀ i₀ wires values made i =
-    Joining (length values₀) targets rows x count
+    Walking (length values₀) targets rows (leadsTo x) count join
     (joins (towards (leadsTo x) (edgesIn (length values₀) targets rows from (count - from))) (pointIn (made₀ .arrival) values₀ (made₀ .wires) wires₀))
     (made₀ .wires) wires₀ (made .arrival) values (made .wires) wires i
 
@@ -35,8 +37,10 @@ loop-holds : tie.Need-loop-holds Inv-loop μ-loop
 loop-holds c =
     let a = c .before .before .before .before .before .args in
     let p = c .before .before .before .before .before .pre in
-    joining-start (length (now (a .values))) (now (a .targets)) (now (a .rows)) (a .x) (a .count)
-    (p .1 .0 .1) (omega arith) (p .1 .0 .2) (a .front .arrival) (now (a .values)) (a .front .wires) (now (a .wires)) (a .from) (c .next-edge .result) (c .next-edge .ensures) refl (p .1 .1 .0 .fits)
+    let r = length (now (a .values)) in
+    rw (← joins-walk r (now (a .targets)) (now (a .rows)) (a .x) (a .count) (a .from) (pointIn (a .front .arrival) (now (a .values)) (a .front .wires) (now (a .wires))))
+    (walking-start r (now (a .targets)) (now (a .rows)) (leadsTo (a .x)) (a .count) (p .1 .0 .1) (omega arith) join 1 length-join grow-join
+    (a .front .arrival) (now (a .values)) (a .front .wires) (now (a .wires)) (a .from) (c .next-edge .result) (c .next-edge .ensures) refl (p .1 .1 .0 .fits))
 
 -- src/joins.rt:68:19
 mul-row : tie.Need-mul-row Inv-loop μ-loop
@@ -89,7 +93,7 @@ join-requires c κs =
     let s = l .inv .sized in (
       ap (λ (k : ℕ). length (take k (drop (17 * l .i + 1) rows))) e
           ∙ length-take-le (length (l .values)) (drop (17 * l .i + 1) rows) (omega (arith, length-drop (17 * l .i + 1) rows, s, p .0, p .1 .0)),
-      joining-room (length (now (a .values))) (now (a .targets)) (now (a .rows)) (a .x) (a .count) (p .1 .0 .1) (omega (arith, p .0, p .1 .0)) (p .1 .0 .2) (l .inv) (c .before .before .before .before .loop-test .taken) (p .1 .1 .1),
+      walking-room (length (now (a .values))) (now (a .targets)) rows (leadsTo (a .x)) (a .count) (p .1 .0 .1) (omega (arith, p .0, p .1 .0)) join 1 length-join grow-join (l .inv) (c .before .before .before .before .loop-test .taken) (p .1 .1 .1),
     )
 
 -- src/joins.rt:71:39
@@ -106,18 +110,20 @@ loop-less c = search needs
 
 -- src/joins.rt:67:5
 loop-again : tie.Need-loop-again Inv-loop μ-loop
+unfolding join
 loop-again c =
     let l = c .before .before .before .before .before .before .before .before .before .before .before .loop in
     let a = c .before .before .before .before .before .before .before .before .before .before .before .before .before .before .before .before .before .args in
     let p = c .before .before .before .before .before .before .before .before .before .before .before .before .before .before .before .before .before .pre in
     let j = c .before .before .before .before .before .join in
     let rows = now (a .rows) in
-    let e : 17 * l .i + 1 + length (l .values) - (17 * l .i + 1) ≡ length (now (a .values)) = omega (arith, l .inv .sized) in
-    joining-next (length (now (a .values))) (now (a .targets)) (now (a .rows)) (a .x) (a .count)
-    (p .1 .0 .1) (omega (arith, p .0, p .1 .0)) (p .1 .0 .2) (l .inv)
-    (getD rows (17 * l .i) 0) (take (17 * l .i + 1 + length (l .values) - (17 * l .i + 1)) (drop (17 * l .i + 1) rows))
+    let r = length (now (a .values)) in
+    let e : 17 * l .i + 1 + length (l .values) - (17 * l .i + 1) ≡ r = omega (arith, l .inv .sized) in
+    let k : Held (join (edgeTo (getD (now (a .targets)) (l .i) 0) (getD rows (17 * l .i) 0) (take r (drop (17 * l .i + 1) rows))) (pointIn (l .made .arrival) (l .values) (l .made .wires) (l .wires))) (l .wires) (j .result .arrival) (j .last .1 .0) (j .result .wires) (j .last .0) =
+    rw e at (j .ensures) in
+    walking-next r (now (a .targets)) rows (leadsTo (a .x)) (a .count) (p .1 .0 .1) (omega (arith, p .0, p .1 .0)) join 1 length-join grow-join (l .inv)
     (j .result .arrival) (j .last .1 .0) (j .result .wires) (j .last .0) (c .next-edge2 .result)
-    (c .before .before .before .before .before .before .before .before .before .before .loop-test .taken) refl (ap (λ (k : ℕ). take k (drop (17 * l .i + 1) rows)) e) (j .ensures) (c .next-edge2 .ensures) (j .kept .1 .0) (j .kept .0)
+    (c .before .before .before .before .before .before .before .before .before .before .loop-test .taken) k (c .next-edge2 .ensures) (j .kept .1 .0) (j .kept .0)
 
 -- src/joins.rt:59:1
 same-length : tie.Need-same-length Inv-loop μ-loop
@@ -133,8 +139,7 @@ returns c =
     let l = c .before .loop in
     let a = c .before .before .before .before .before .before .before .args in
     let p = c .before .before .before .before .before .before .before .pre in
-    joining-done (length (now (a .values))) (now (a .targets)) (now (a .rows)) (a .x) (a .count)
-    (p .1 .0 .1) (omega arith) (p .1 .0 .2) (l .inv) (omega arith)
+    walking-done (length (now (a .values))) (now (a .targets)) (now (a .rows)) (leadsTo (a .x)) (a .count) (p .1 .0 .1) (omega arith) join 1 length-join grow-join (l .inv) (omega arith)
 
 pub join-all-spec : {M : Type 1} → statement M
 join-all-spec =

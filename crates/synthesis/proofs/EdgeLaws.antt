@@ -74,7 +74,7 @@ step p q e es h ih true c eb ec = rw ec (ap (keep c e) ih)
 step p q e es h ih false true eb ec = absurd (false≢true (sym eb ∙ h e ec))
 step p q e es h ih false false eb ec = ih
 
-only-within : (p q : Edge → Bool) → ((e : Edge) → p e ≡ true → q e ≡ true) → (es : List Edge) → only p (only q es) ≡ only p es
+pub only-within : (p q : Edge → Bool) → ((e : Edge) → p e ≡ true → q e ≡ true) → (es : List Edge) → only p (only q es) ≡ only p es
 only-within p q h [] = refl
 only-within p q h (e ∷ es) = step p q e es h (only-within p q h es) (q e) (p e) refl refl
 

@@ -12,3 +12,5 @@ pub mod EnterLaws
 pub mod AssignLaws
 pub mod CloseLaws
 pub mod PutLaws
+pub mod StarterLaws
+pub mod ExitLaws

@@ -100,3 +100,11 @@ emitted n w t h =
     ∙ take-at (words (wiresIn n t)) (drop (wireWords * n) t) (wireWords * n) (length-words (wiresIn n t) ∙ ap (λ (k : ℕ). wireWords * k) (length-wiresIn n t)) in
     sets-eq (wireWordsOf w) t (wireWords * n) (omega arith)
     ∙ rw (front, e, words-append (wiresIn n t) (w ∷ []))
+
+-- past what was appended the words are those from before
+pub appended-rest : (n : ℕ) (ws : List Wire) (t t′ : List ℕ) → t′ ≡ appended n ws t → t′ ≡ stored (wiresIn (n + length ws) t′) t
+appended-rest n ws t t′ e =
+    let l : n + length ws ≡ length (wiresIn n t ++ ws) = omega (arith, length-append (wiresIn n t) ws, length-wiresIn n t) in
+    let w : wiresIn (n + length ws) t′ ≡ wiresIn n t ++ ws =
+    ap (wiresIn (n + length ws)) e ∙ ap (λ (k : ℕ). wiresIn k (appended n ws t)) l ∙ wiresIn-stored (wiresIn n t ++ ws) t in
+    e ∙ ap (λ (v : List Wire). stored v t) (sym w)

@@ -16,9 +16,10 @@ use Rattle.cfg.specs.Layout.{maxInstructions, blockOffset, graphWords}
 use Rattle.cfg.specs.Graph.{codeOf}
 use Rattle.cfg.specs.Table.{blockAt}
 use Rattle.fsmd.specs.declared.Wire.{Wire}
-use Rattle.fsmd.specs.Layout.{maxBlocks, maxWires, wireWords, none}
+use Rattle.fsmd.specs.Layout.{maxStates, maxBlocks, maxWires, wireWords, none}
 use Rattle.fsmd.specs.Table.{wireWordsOf}
-use Rattle.synthesis.specs.Wires.{wire, Edge, Point, Build, leadsTo, towards, enter, assigns, close, after}
+use Rattle.grouping.specs.Grouping.{Groups}
+use Rattle.synthesis.specs.Wires.{wire, set-wire, select-wire, Edge, Point, Build, fresh, selects, leadsTo, towards, enter, assigns, close, after}
 
 -- ---- wires
 
@@ -136,3 +137,24 @@ pub record NextAt (p : Place → Bool) (targets : List ℕ) (from n r : ℕ) : T
   pub high : r ≤ n
   pub passed : (j : ℕ) → j < r → from ≤ j → p (placeOf (getD targets j 0)) ≡ false
   pub found : r < n → p (placeOf (getD targets r 0)) ≡ true
+
+-- ---- groups in two lists
+
+abbrev pub groupsIn : List ℕ → List ℕ → Groups
+groupsIn starters states = record { starters = starters; states = states }
+
+-- each starter is in its own state, and there are not too many
+pub record Grouped (starters states : List ℕ) : Type 0 where
+  pub owned : (k : ℕ) → k < length starters → getD states (getD starters k none) none ≡ k
+  pub few : length starters ≤ maxStates
+  pub known : length states ≤ maxBlocks
+
+-- a further exit, whose next state is k: as `exit` of the groups
+unfoldable pub exitTo : ℕ → Edge → Point → Point
+exitTo k e p =
+    let n = fresh (p .wires) in
+    record {
+      arrival = 1 + n;
+      values = upFrom (2 + n) (length (e .values));
+      wires = p .wires ++ (set-wire k ∷ select-wire (e .taken) n (p .arrival) ∷ selects (e .taken) (e .values) (p .values));
+    }

@@ -2,6 +2,8 @@
 
 pub mod blocks; // blocks.rt: what a block adds to its state
 pub mod edges; // edges.rt: the edges out of placed blocks
+pub mod exits; // exits.rt: where a state leads
+pub mod groups; // groups.rt: starters and states of blocks
 pub mod joins; // joins.rt: how a block's arrival and values come about
 pub mod wires; // wires.rt: one wire, the selections of a join
 
@@ -20,6 +22,13 @@ pub struct Front {
 // A state in the making: how many edges lead out of its placed blocks, used up or not, and how many wires it has.
 pub struct Progress {
     pub edges: usize,
+    pub wires: usize,
+}
+
+// What a finished state has: the reference of its next state, how many next registers there are, and how many wires.
+pub struct Exit {
+    pub next: u32,
+    pub registers: usize,
     pub wires: usize,
 }
 

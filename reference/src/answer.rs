@@ -80,10 +80,7 @@ pub fn answer(case: &Case) -> Answer {
         run_graph: run_graph(&graph, &mut graph_registers, case.start_block, case.block_budget),
         graph_registers_digest: digest(&graph_registers),
         run_machine: run_machine(
-            &machine,
-            &mut machine_registers,
-            case.start_state,
-            case.cycle_budget,
+            &machine, &mut machine_registers, case.start_state, case.cycle_budget,
         ),
         machine_registers_digest: digest(&machine_registers),
         listing_length: listing.len(),

@@ -36,8 +36,7 @@ fn literal(field: &str) -> Option<i32> {
 
 fn graph_line(blocks: &str, registers: &str) -> Option<Line> {
     let (blocks, registers) = (number(blocks)?, number(registers)?);
-    let in_limits =
-        (1..=MAX_BLOCKS).contains(&blocks) && (1..=MAX_REGISTERS).contains(&registers);
+    let in_limits = (1..=MAX_BLOCKS).contains(&blocks) && (1..=MAX_REGISTERS).contains(&registers);
     in_limits.then_some(Line::Graph { blocks, registers })
 }
 

@@ -1,15 +1,16 @@
 -- What a table's words stand for: comparisons, endings, blocks. Assumes nothing.
-use Prim.Native.Nat.{ℕ, zero, suc, _+_, _-_, _*_, _≤_, _<_}
+use Prim.Native.Nat.{ℕ, zero, suc, _+_, _-_, _<_}
 use native.Mathlib.Omega.{arith}
-use mathlib.Core.Path.{_≡_, refl, sym, ap, _∙_}
+use mathlib.Core.Path.{_≡_, refl}
 use mathlib.Core.List.{List, [], _∷_}
-use lib.ListN.{getD}
+use lib.ListN.{length, getD}
 use borrow.Author.Tests.{eq-eqb, ne-eqb}
-use Rattle.word.specs.declared.Comparison.{Comparison}
 use Rattle.word.specs.declared.Comparison.the-variants.{Eq, Ne, Lt, Ge, Ltu, Geu}
-use Rattle.cfg.specs.declared.Ending.{Ending}
+use Rattle.runs.proofs.ListLaws.{getD-map-upFrom}
 use Rattle.cfg.specs.declared.Ending.the-variants.{Goto, Ite, Halt}
-use Rattle.cfg.specs.Table.{comparisonAt, endingAt}
+use Rattle.cfg.specs.Layout.{maxInstructions, endingOffset, blockOffset}
+use Rattle.cfg.specs.Graph.{noInstruction}
+use Rattle.cfg.specs.Table.{comparisonAt, instructionAt, endingAt, blockAt}
 
 -- ---- comparisons
 
@@ -46,3 +47,22 @@ module _ (t : List ℕ) (o : ℕ) where
   pub ending-halt : (getD t o 0 ≡ 1 → ⊥) → (getD t o 0 ≡ 2 → ⊥) → endingAt t o ≡ Halt
   unfolding endingAt
   ending-halt h k = rw (ne-eqb (getD t o 0) 1 h, ne-eqb (getD t o 0) 2 k)
+
+-- ---- the parts of a decoded block
+
+module _ (t : List ℕ) (n : ℕ) where
+  pub count-at : blockAt t n .count ≡ getD t (blockOffset n) 0
+  unfolding blockAt
+  count-at = refl
+
+  pub ending-of : blockAt t n .ending ≡ endingAt t (blockOffset n + endingOffset)
+  unfolding blockAt
+  ending-of = refl
+
+  pub instructions-length : length (blockAt t n .instructions) ≡ maxInstructions
+  unfolding blockAt
+  instructions-length = refl
+
+  pub instruction-of : (i : ℕ) → i < maxInstructions → getD (blockAt t n .instructions) i noInstruction ≡ instructionAt t (blockOffset n) i
+  unfolding blockAt
+  instruction-of i h = getD-map-upFrom (instructionAt t (blockOffset n)) maxInstructions i noInstruction h

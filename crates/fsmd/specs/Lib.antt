@@ -1,4 +1,5 @@
 pub mod Layout
 pub mod Machine
 pub mod Table
+pub mod Clock
 pub mod Run

@@ -1,4 +1,8 @@
 // The synthesised machine, a finite state machine with its datapath: limits, wires, and the layout of its table.
+pub mod table; // table.rt: words of a machine table
+pub mod admission; // admission.rt: which machine tables are admitted
+pub mod clock; // clock.rt: one cycle
+pub mod run; // run.rt: a run with a budget
 
 // The head of a machine table: how many states and registers the machine has.
 pub struct Machine {
@@ -23,8 +27,14 @@ impl Machine {
     pub const WIRE_WORDS: usize = 1346;
 
     pub const WORDS: usize = 13634;
-    // Words of a record.
+    // Words of a record, and where in it the next references are.
     pub const RECORD: usize = 19;
+
+    pub const NEXT_STATE: usize = 2;
+
+    pub const NEXT_REGISTERS: usize = 3;
+    // What references of a cycle read: the registers, then the wires.
+    pub const REFERENCES: usize = 3088;
 }
 
 // A wire: what it does, and its operands. A reference below 16 is a register, and 16 + i is wire i of the state.
@@ -37,4 +47,33 @@ pub struct Wire {
 
 impl Wire {
     pub const WORDS: usize = 4;
+    // The first code, a set, whose a is a literal; the last one.
+    pub const SET: u32 = 1;
+
+    pub const LAST: u32 = 19;
+    // How many of a, b and c each code reads, from code 0.
+    pub const CODES: usize = 20;
+
+    pub const ARITIES: [u32; Wire::CODES] = [
+        0,
+        1,
+        1,
+        2,
+        2,
+        2,
+        2,
+        2,
+        2,
+        2,
+        2,
+        1,
+        2,
+        2,
+        2,
+        2,
+        2,
+        2,
+        2,
+        3,
+    ];
 }

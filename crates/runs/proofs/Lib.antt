@@ -1,2 +1,6 @@
+pub mod Tests
+pub mod Sets
 pub mod ListLaws
+pub mod MembershipLaws
 pub mod RunLaws
+pub mod Every

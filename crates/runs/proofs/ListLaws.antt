@@ -1,12 +1,14 @@
 -- Laws of the lists' definitions: tests, counting up, padding. Assumes nothing.
-use Prim.Native.Nat.{ℕ, zero, suc, _+_, _<_}
+use Prim.Native.Nat.{ℕ, zero, suc, _+_, _-_, _≤_, _<_}
 use native.Mathlib.Nat.{add-zero}
+use native.Mathlib.Numerals.{add-one}
 use native.Mathlib.Omega.{arith}
 use mathlib.Core.Path.{_≡_, refl, sym, ap, _∙_}
-use mathlib.Core.Bool.{Bool, true, false, _&&_}
-use mathlib.Core.List.{List, [], _∷_, map}
+use mathlib.Core.Bool.{Bool, true, false, _&&_, and-assoc}
+use mathlib.Core.List.{List, [], _∷_, _++_, map}
 use lib.Dec.{eqb}
-use lib.ListN.{length, getD}
+use lib.ListN.{length, getD, take, drop, set, replicate}
+use lib.Seq.{drop-cons, set-at, take-suc, append-snoc, length-take-le}
 use borrow.Author.Tests.{eqb-true, eq-eqb}
 use Rattle.runs.specs.Lists.{upFrom, same, every, padded}
 
@@ -24,6 +26,12 @@ pub and-both : (a b : Bool) → a ≡ true → b ≡ true → a && b ≡ true
 and-both true b h k = k
 and-both false b h k = h
 
+swap : (a b c d : Bool) → (a && b) && (c && d) ≡ (a && c) && (b && d)
+swap true true c d = refl
+swap true false true d = refl
+swap true false false d = refl
+swap false b c d = refl
+
 -- two tests that hold together are the same
 pub same-test : (a b : Bool) → (a ≡ true → b ≡ true) → (b ≡ true → a ≡ true) → a ≡ b
 same-test true b f g = sym (f refl)
@@ -31,6 +39,10 @@ same-test false true f g = g refl
 same-test false false f g = refl
 
 -- ---- lists of numbers
+
+pub eqb-sym : (x y : ℕ) → eqb x y ≡ eqb y x
+eqb-sym x y =
+    same-test (eqb x y) (eqb y x) (λ h. eq-eqb y x (sym (eqb-true x y h))) (λ h. eq-eqb x y (sym (eqb-true y x h)))
 
 pub same-eq : (xs ys : List ℕ) → same xs ys ≡ true → xs ≡ ys
 same-eq [] [] h = refl
@@ -45,6 +57,24 @@ pub same-refl : (xs : List ℕ) → same xs xs ≡ true
 same-refl [] = refl
 same-refl (x ∷ xs) = and-both (eqb x x) (same xs xs) (eq-eqb x x refl) (same-refl xs)
 
+-- a common front does not matter
+pub same-front : (xs ys zs : List ℕ) → same (xs ++ ys) (xs ++ zs) ≡ same ys zs
+same-front [] ys zs = refl
+same-front (x ∷ xs) ys zs = rw (eq-eqb x x refl) (same-front xs ys zs)
+
+pub same-append : (xs ys us vs : List ℕ) → length xs ≡ length us → same (xs ++ ys) (us ++ vs) ≡ same xs us && same ys vs
+same-append [] ys [] vs h = refl
+same-append [] ys (u ∷ us) vs h = absurd (omega arith)
+same-append (x ∷ xs) ys [] vs h = absurd (omega arith)
+same-append (x ∷ xs) ys (u ∷ us) vs h =
+    ap (λ (b : Bool). eqb x u && b) (same-append xs ys us vs (omega arith)) ∙ sym (and-assoc (eqb x u) (same xs us) (same ys vs))
+
+pub same-zeros : (m : ℕ) (l : List ℕ) → length l ≡ m → same (replicate m 0) l ≡ every (λ (x : ℕ). eqb x 0) l
+same-zeros zero [] h = refl
+same-zeros zero (x ∷ l) h = absurd (omega arith)
+same-zeros (suc m) [] h = absurd (omega arith)
+same-zeros (suc m) (x ∷ l) h = rw (eqb-sym 0 x, same-zeros m l (omega arith))
+
 pub length-upFrom : (k n : ℕ) → length (upFrom k n) ≡ n
 length-upFrom k zero = refl
 length-upFrom k (suc n) = ap suc (length-upFrom (suc k) n)
@@ -52,7 +82,20 @@ length-upFrom k (suc n) = ap suc (length-upFrom (suc k) n)
 pub getD-upFrom : (k n i d : ℕ) → i < n → getD (upFrom k n) i d ≡ k + i
 getD-upFrom k zero i d h = absurd (omega arith)
 getD-upFrom k (suc n) zero d h = sym (add-zero k)
-getD-upFrom k (suc n) (suc i) d h = let e = getD-upFrom (suc k) n i d (omega arith) in e ∙ omega arith
+getD-upFrom k (suc n) (suc i) d h =
+    let e = getD-upFrom (suc k) n i d (omega arith) in
+    e ∙ omega arith
+
+-- one more number, from the front
+pub upFrom-cons : (i n : ℕ) → i < n → upFrom i (n - i) ≡ i ∷ upFrom (i + 1) (n - (i + 1))
+upFrom-cons i n h =
+    let e : n - i ≡ suc (n - (i + 1)) = omega arith in
+    rw (e, add-one)
+
+pub upFrom-done : (i n : ℕ) → n ≤ i → upFrom i (n - i) ≡ []
+upFrom-done i n h =
+    let e : n - i ≡ 0 = omega arith in
+    rw e
 
 module _ {A : Type 0} where
   -- ---- every
@@ -67,7 +110,30 @@ module _ {A : Type 0} where
   every-all p (x ∷ l) d f =
       and-both (p x) (every p l) (f 0 (omega arith)) (every-all p l d (λ i h. f (suc i) (omega arith)))
 
+  pub every-append : (p : A → Bool) (xs ys : List A) → every p (xs ++ ys) ≡ every p xs && every p ys
+  every-append p [] ys = refl
+  every-append p (x ∷ xs) ys =
+      ap (λ (b : Bool). p x && b) (every-append p xs ys) ∙ sym (and-assoc (p x) (every p xs) (every p ys))
+
+  pub every-and : (p q : A → Bool) (l : List A) → every p l && every q l ≡ every (λ (x : A). p x && q x) l
+  every-and p q [] = refl
+  every-and p q (x ∷ l) = swap (p x) (every p l) (q x) (every q l) ∙ ap (λ (b : Bool). (p x && q x) && b) (every-and p q l)
+
+  pub every-map : {B : Type 0} (f : B → A) (p : A → Bool) (l : List B) → every p (map f l) ≡ every (λ (x : B). p (f x)) l
+  every-map f p [] = refl
+  every-map f p (x ∷ l) = ap (λ (b : Bool). p (f x) && b) (every-map f p l)
+
   -- ---- padded
+
+  pub padded-append : (n : ℕ) (d : A) (l : List A) → length l ≤ n → padded n d l ≡ l ++ replicate (n - length l) d
+  padded-append zero d [] h = refl
+  padded-append zero d (x ∷ l) h = absurd (omega arith)
+  padded-append (suc n) d [] h =
+      let e : suc n - 0 ≡ suc (n - 0) = omega arith in
+      rw e (ap (λ (m : List A). d ∷ m) (padded-append n d [] (omega arith)))
+  padded-append (suc n) d (x ∷ l) h =
+      let e : suc n - suc (length l) ≡ n - length l = omega arith in
+      rw e (ap (λ (m : List A). x ∷ m) (padded-append n d l (omega arith)))
 
   pub length-padded : (n : ℕ) (d : A) (l : List A) → length (padded n d l) ≡ n
   length-padded zero d l = refl
@@ -92,3 +158,23 @@ getD-map f (x ∷ l) (suc i) d e h = getD-map f l i d e (omega arith)
 pub getD-map-upFrom {ℓ} : {B : Type ℓ} (f : ℕ → B) (n i : ℕ) (e : B) → i < n → getD (map f (upFrom 0 n)) i e ≡ f i
 getD-map-upFrom f n i e h =
     getD-map f (upFrom 0 n) i 0 e (rw length-upFrom h) ∙ ap f (getD-upFrom 0 n i 0 h ∙ omega arith)
+
+pub take-map-upFrom {ℓ} : {B : Type ℓ} (f : ℕ → B) (k m c : ℕ) → c ≤ m → take c (map f (upFrom k m)) ≡ map f (upFrom k c)
+take-map-upFrom f k m zero h = refl
+take-map-upFrom f k zero (suc c) h = absurd (omega arith)
+take-map-upFrom {B = B} f k (suc m) (suc c) h = ap (λ (l : List B). f k ∷ l) (take-map-upFrom f (suc k) m c (omega arith))
+
+pub drop-map-upFrom {ℓ} : {B : Type ℓ} (f : ℕ → B) (k m c : ℕ) → c ≤ m → drop c (map f (upFrom k m)) ≡ map f (upFrom (k + c) (m - c))
+drop-map-upFrom f k m zero h =
+    let e : m - 0 ≡ m = omega arith in
+    rw (add-zero, e)
+drop-map-upFrom f k zero (suc c) h = absurd (omega arith)
+drop-map-upFrom f k (suc m) (suc c) h =
+    let e : k + suc c ≡ suc k + c = omega arith in
+    let d : suc m - suc c ≡ m - c = omega arith in
+    rw (e, d) (drop-map-upFrom f (suc k) m c (omega arith))
+
+-- one more element copied to the front
+pub copied-more : (d s : List ℕ) (j : ℕ) → j < length d → j < length s → set (take j s ++ drop j d) j (getD s j 0) ≡ take (j + 1) s ++ drop (j + 1) d
+copied-more d s j h k =
+    rw (add-one, drop-cons d j 0 h, set-at (take j s) (getD d j 0) (drop (suc j) d) (getD s j 0) j (length-take-le j s (omega arith)), take-suc s j 0 k, append-snoc (take j s) (getD s j 0) (drop (suc j) d))

@@ -4,10 +4,12 @@ use native.Mathlib.Nat.{zero-add, suc-add}
 use native.Mathlib.Omega.{arith}
 use mathlib.Core.Path.{_≡_, refl, sym, ap, _∙_}
 use Rattle.runs.specs.declared.RunAnswer.the-variants.{Halted, Spent}
-use Rattle.runs.specs.Runs.{Place, standing, halted, Configuration, onward, times, stepsRun, outcome, answer, registersAfter}
+use Rattle.runs.specs.Runs.{Place, standing, halted, Configuration, onward, times, stepsRun, answer, registersAfter}
 
 pub never-both : (p : Place) (n : ℕ) → p ≡ standing n → p ≡ halted → ⊥
-never-both p n h k = let z : _≡_ {A = ℕ} 0 1 = cc in omega arith
+never-both p n h k =
+    let z : _≡_ {A = ℕ} 0 1 = cc in
+    omega arith
 
 module _ (step : Configuration → Configuration) where
   -- ---- one step unrolled
@@ -73,7 +75,7 @@ module _ (step : Configuration → Configuration) (stays : (c : Configuration) �
 
   pub stepsRun-add : (j k : ℕ) (c : Configuration) → stepsRun step (j + k) c ≡ stepsRun step j c + stepsRun step k (times step j c)
   unfolding times stepsRun
-  stepsRun-add zero k c = rw (zero-add, zero-add)
+  stepsRun-add zero k c = rw (zero-add k, zero-add (stepsRun step k c))
   stepsRun-add (suc j) k c = rw suc-add (go (stepsRun-add j k (step c)) (c .place) refl)
     where
       go : stepsRun step (j + k) (step c) ≡ stepsRun step j (step c) + stepsRun step k (times step j (step c)) → (p : Place) → c .place ≡ p

@@ -1,4 +1,9 @@
-// The answer of a run with a budget, for graphs and machines alike.
+// What the runs of graphs and machines share: the answer of a run with a budget, and the register buffer in and out of a register file.
+use word::Registers;
+ghost use mathlib.Core.Path.{_≡_};
+ghost use mathlib.Core.List.{_++_};
+ghost use Prim.Native.Nat.{_≤_};
+ghost use lib.ListN.{length, take, drop};
 
 pub enum RunAnswer {
     // The refusal's number.
@@ -7,4 +12,30 @@ pub enum RunAnswer {
     Halted(u32),
     // The blocks or cycles run, and the block or state that comes next.
     Spent(u32, u32),
+}
+
+// The first 16 words of a buffer.
+pub fn load(buffer: &[u32]) -> Registers
+    requires { ⌜ 16 ≤ length (now buffer) ⌝ }
+    ensures { λ r. ⌜ r .words ≡ take 16 (now (buffer .entry)) ⌝ }
+{
+    let mut words = [0u32; 16];
+    let mut i = 0;
+    while i < Registers::COUNT {
+        words[i] = buffer[i];
+        i += 1;
+    }
+    Registers { words }
+}
+
+// The file's words as the first 16 of a buffer; the others stay.
+pub fn store(buffer: &mut [u32], file: Registers)
+    requires { ⌜ 16 ≤ length (now buffer) ⌝ }
+    ensures { λ r. ⌜ now (buffer .exit) ≡ file .words ++ drop 16 (now (buffer .entry)) ⌝ }
+{
+    let mut i = 0;
+    while i < Registers::COUNT {
+        buffer[i] = file.words[i];
+        i += 1;
+    }
 }

@@ -14,3 +14,17 @@ pub mod CloseLaws
 pub mod PutLaws
 pub mod StarterLaws
 pub mod ExitLaws
+pub mod PlacementLaws
+pub mod StateOrder
+pub mod GraphFacts
+pub mod WireValues
+pub mod Environments
+pub mod Readings
+pub mod TakenEdges
+pub mod OneCycle
+pub mod SelectionCount
+pub mod FoundEdges
+pub mod WireValidity
+pub mod StateValidity
+pub mod WireCount
+pub mod SynthesisedMachine

@@ -1,21 +1,43 @@
--- What each operation on words gives. A word is a natural number below 2 ^ 32. Assumes nothing.
+-- What each code gives. A word is a natural number below 2 ^ 32; codes and terms are those of the scope paper, in its order. Assumes nothing.
 use Prim.Native.Nat.{ℕ, suc, _+_, _-_, _*_, _/_, _%_, _^_}
 use mathlib.Core.Bool.{Bool, true, false, not}
 use lib.IntN.{ℤ, pos, negsuc}
 use lib.Signed.{ltZ, leZ, shrZ}
-use mathlib.Core.List.{List, [], _∷_}
-use lib.ListN.{getD}
+use mathlib.Core.List.{List, [], _∷_, _++_}
+use lib.ListN.{getD, replicate}
 use lib.Dec.{ltb, leb, eqb}
 use lib.Bits.{bitAnd, bitOr, bitXor}
 use Rattle.word.specs.declared.Comparison.{Comparison}
 use Rattle.word.specs.declared.Comparison.the-variants.{Eq, Ne, Lt, Ge, Ltu, Geu}
+use Rattle.word.specs.declared.MaybeComparison.{MaybeComparison}
+use Rattle.word.specs.declared.MaybeComparison.the-variants.{Is, None}
 
 -- the first where the test holds, else the second
 abbrev pub choose {ℓ} : {X : Type ℓ} → Bool → X → X → X
 choose true x y = x
 choose false x y = y
 
--- x, of k bits, read as signed: itself below 2 ^ (k - 1), and from there x - 2 ^ k
+-- add wraps modulo 2 ^ 32
+abbrev pub addOf : ℕ → ℕ → ℕ
+addOf a b = (a + b) % 2 ^ 32
+
+-- sub wraps likewise: 2 ^ 32 - b is what b lacks of 2 ^ 32
+abbrev pub subOf : ℕ → ℕ → ℕ
+subOf a b = (a + (2 ^ 32 - b)) % 2 ^ 32
+
+-- the amount of every shift: the second operand modulo 32
+abbrev pub amountOf : ℕ → ℕ
+amountOf b = b % 32
+
+-- shl drops what passes bit 31
+abbrev pub shlOf : ℕ → ℕ → ℕ
+shlOf a b = (a * 2 ^ amountOf b) % 2 ^ 32
+
+-- shr brings in zeros
+abbrev pub shrOf : ℕ → ℕ → ℕ
+shrOf a b = a / 2 ^ amountOf b
+
+-- x, of k bits, read as signed: itself below 2 ^ (k - 1), and from there x - 2 ^ k (negsuc n is -1 - n)
 abbrev pub signedAt : ℕ → ℕ → ℤ
 signedAt k x = choose (ltb x (2 ^ (k - 1))) (pos x) (negsuc (2 ^ k - suc x))
 
@@ -23,33 +45,20 @@ signedAt k x = choose (ltb x (2 ^ (k - 1))) (pos x) (negsuc (2 ^ k - suc x))
 abbrev pub signedOf : ℕ → ℤ
 signedOf = signedAt 32
 
--- the word of a signed number: the number modulo 2 ^ 32
+-- the word of a signed number of 32 bits: the number modulo 2 ^ 32
 abbrev pub wordOf : ℤ → ℕ
 wordOf (pos n) = n
 wordOf (negsuc n) = 2 ^ 32 - suc n
 
-abbrev pub addOf : ℕ → ℕ → ℕ
-addOf a b = (a + b) % 2 ^ 32
-
-abbrev pub subOf : ℕ → ℕ → ℕ
-subOf a b = (a + (2 ^ 32 - b)) % 2 ^ 32
-
-abbrev pub shlOf : ℕ → ℕ → ℕ
-shlOf a b = (a * 2 ^ (b % 32)) % 2 ^ 32
-
-abbrev pub shrOf : ℕ → ℕ → ℕ
-shrOf a b = a / 2 ^ (b % 32)
-
+-- sar brings in copies of the sign bit: the signed number divided, rounded down
 abbrev pub sarOf : ℕ → ℕ → ℕ
-sarOf a b = wordOf (shrZ (signedOf a) (2 ^ (b % 32)))
+sarOf a b = wordOf (shrZ (signedOf a) (2 ^ amountOf b))
 
-abbrev pub andNotOf : ℕ → ℕ → ℕ
-andNotOf a b = bitAnd a (2 ^ 32 - 1 - b)
-
--- the low 16 bits read as signed
+-- sx takes the low 16 bits as signed
 abbrev pub sxOf : ℕ → ℕ
 sxOf a = wordOf (signedAt 16 (a % 2 ^ 16))
 
+-- lt and ge compare as signed, ltu and geu as unsigned
 abbrev pub compareOf : Comparison → ℕ → ℕ → Bool
 compareOf Eq a b = eqb a b
 compareOf Ne a b = not (eqb a b)
@@ -58,6 +67,7 @@ compareOf Ge a b = leZ (signedOf b) (signedOf a)
 compareOf Ltu a b = ltb a b
 compareOf Geu a b = leb b a
 
+-- a comparison's code
 abbrev pub codeOf : Comparison → ℕ
 codeOf Eq = 12
 codeOf Ne = 13
@@ -66,42 +76,64 @@ codeOf Ge = 15
 codeOf Ltu = 16
 codeOf Geu = 17
 
+-- the comparisons by code, from code 0: the first stands at 12
+abbrev pub comparisons : List MaybeComparison
+comparisons = replicate 12 None ++ (Is Eq ∷ Is Ne ∷ Is Lt ∷ Is Ge ∷ Is Ltu ∷ Is Geu ∷ [])
+
+-- the comparison of a code, if it has one
+unfoldable pub comparisonAt : ℕ → MaybeComparison
+comparisonAt code = getD comparisons code None
+
+-- a comparison's value is 1 or 0
 abbrev pub truth : Bool → ℕ
 truth true = 1
 truth false = 0
 
--- the results by code, from 0: a table's line each
+-- code 18: a and not b, bit by bit
+abbrev pub andNotOf : ℕ → ℕ → ℕ
+andNotOf a b = bitAnd a (2 ^ 32 - 1 - b)
+
+-- the results by code, from code 0, which is none
 abbrev pub results : ℕ → ℕ → ℕ → List ℕ
 results a b c =
     0
+    -- 1 set, 2 copy
     ∷ a
     ∷ a
+    -- 3 add, 4 sub
     ∷ addOf a b
     ∷ subOf a b
+    -- 5 and, 6 or, 7 xor
     ∷ bitAnd a b
     ∷ bitOr a b
     ∷ bitXor a b
+    -- 8 shl, 9 shr, 10 sar
     ∷ shlOf a b
     ∷ shrOf a b
     ∷ sarOf a b
+    -- 11 sx
     ∷ sxOf a
+    -- 12 eq to 17 geu
     ∷ truth (compareOf Eq a b)
     ∷ truth (compareOf Ne a b)
     ∷ truth (compareOf Lt a b)
     ∷ truth (compareOf Ge a b)
     ∷ truth (compareOf Ltu a b)
     ∷ truth (compareOf Geu a b)
+    -- 18 a and not b
     ∷ andNotOf a b
+    -- 19 b where a is nonzero, else c
     ∷ choose (eqb a 0) c b
     ∷ []
 
--- what the operation of a code gives; 0 at a code that is none
+-- what a code gives; 0 at a code that is none
 unfoldable pub evalOf : ℕ → ℕ → ℕ → ℕ → ℕ
 evalOf code a b c = getD (results a b c) code 0
 
--- how many of a, b and c each code reads, from code 0; a code past the last is none
+-- how many of a, b and c each code reads, from code 0
 abbrev pub arities : List ℕ
 arities = 0 ∷ 1 ∷ 1 ∷ 2 ∷ 2 ∷ 2 ∷ 2 ∷ 2 ∷ 2 ∷ 2 ∷ 2 ∷ 1 ∷ 2 ∷ 2 ∷ 2 ∷ 2 ∷ 2 ∷ 2 ∷ 2 ∷ 3 ∷ []
 
+-- how many operands a code reads; a code that is none reads none
 unfoldable pub arity : ℕ → ℕ
 arity code = getD arities code 0

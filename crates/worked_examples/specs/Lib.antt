@@ -1,2 +1,3 @@
 pub mod Graphs
+pub mod Texts
 pub mod Table

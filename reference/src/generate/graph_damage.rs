@@ -100,13 +100,14 @@ fn ending_kind(random: &mut Random, table: &Table) -> Vec<Patch> {
 fn ending_word(random: &mut Random, table: &Table) -> Vec<Patch> {
     let at = table.block(random) + ENDING_OFFSET;
     let (b, r) = (table.words[0], table.registers());
+    let large = huge(random);
     match random.below(7) {
-        0 => vec![(at as u32 + 1, random.pick(&[0, 11, 18, 12, 17, huge(random)]))],
-        1 => vec![(at as u32 + 2, random.pick(&[r, r - 1, 0, 1, huge(random)]))],
-        2 => vec![(at as u32 + 3, random.pick(&[r, r - 1, 0, 1, huge(random)]))],
-        3 | 4 => vec![(at as u32 + 4, random.pick(&[b, b - 1, 0, 1, 255, huge(random)]))],
-        5 => vec![(at as u32 + 5, random.pick(&[b, b - 1, 0, 1, 255, huge(random)]))],
-        _ => vec![(at as u32 + 6, random.pick(&[0, 1, 255, huge(random)]))],
+        0 => vec![(at as u32 + 1, random.pick(&[0, 11, 18, 12, 17, large]))],
+        1 => vec![(at as u32 + 2, random.pick(&[r, r - 1, 0, 1, large]))],
+        2 => vec![(at as u32 + 3, random.pick(&[r, r - 1, 0, 1, large]))],
+        3 | 4 => vec![(at as u32 + 4, random.pick(&[b, b - 1, 0, 1, 255, large]))],
+        5 => vec![(at as u32 + 5, random.pick(&[b, b - 1, 0, 1, 255, large]))],
+        _ => vec![(at as u32 + 6, random.pick(&[0, 1, 255, large]))],
     }
 }
 

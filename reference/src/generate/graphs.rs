@@ -16,11 +16,11 @@ pub struct Size {
 /// A size that keeps most texts short; a few are as large as allowed.
 pub fn size(random: &mut Random) -> Size {
     let (blocks, instructions) = match random.below(100) {
-        0..=19 => (random.between(1, 3), 8),
-        20..=69 => (random.between(3, 8), 3),
-        70..=92 => (random.between(8, 18), 3),
-        93..=97 => (random.between(18, 40), 2),
-        98 => (random.between(60, 64), 2),
+        0..=14 => (random.between(1, 3), 8),
+        15..=49 => (random.between(3, 8), 4),
+        50..=79 => (random.between(8, 18), 4),
+        80..=91 => (random.between(18, 40), 3),
+        92..=95 => (random.between(50, 64), 2),
         _ => (64, 8),
     };
     let registers = match random.below(10) {
@@ -78,9 +78,7 @@ fn any_ending(random: &mut Random, registers: usize, successors: &[usize]) -> En
     match *successors {
         [] => Ending::Halt,
         [t] => Ending::Goto(t),
-        [t, f, ..] => {
-            Ending::Ite { comparison: random.pick(&Comparison::all()), a, b, t, f }
-        }
+        [t, f, ..] => Ending::Ite { comparison: random.pick(&Comparison::all()), a, b, t, f },
     }
 }
 

@@ -83,7 +83,7 @@ fn register_record(random: &mut Random, state: usize, registers: usize) -> Vec<P
     slots.map(|at| patch(at, random.below(registers))).collect()
 }
 
-type Damage = fn(&mut Random, &Table) -> Vec<Patch>;
+pub type Damage = fn(&mut Random, &Table) -> Vec<Patch>;
 
 fn state_count(random: &mut Random, _: &Table) -> Vec<Patch> {
     vec![(0, random.pick(&[0, 65, 66, 255, 256, 2_147_483_648, MAX]))]
@@ -104,7 +104,7 @@ fn wire_range(random: &mut Random, table: &Table) -> Vec<Patch> {
         (MAX - count + 1, count),
         (MAX - count + 2, count),
         (first, MAX),
-        (first, MAX - first + 1),
+        (first + 1, MAX - first),
         (2_147_483_648, 2_147_483_648),
         (3_073, 0),
         (MAX, 0),
@@ -184,13 +184,17 @@ fn another_code(random: &mut Random, table: &Table) -> Vec<Patch> {
     vec![patch(at, random.between(1, 19))]
 }
 
-const REFUSED: [Damage; 12] = [
-    state_count, register_count, wire_range, wire_range, sharing, sharing, sliding, unknown_code,
-    bad_operand, bad_operand, bad_next, fewer_registers,
-];
+/// Kinds that a run always refuses.
+pub const REFUSED: [Damage; 5] = [state_count, register_count, wire_range, sharing, unknown_code];
+
+/// Kinds that a run refuses mostly, as the words happen to fall.
+const MOSTLY_REFUSED: [Damage; 6] =
+    [bad_operand, bad_operand, bad_next, sliding, fewer_registers, another_code];
 
 fn starters_and_blocks(random: &mut Random, _: &Table) -> Vec<Patch> {
-    (0..3).map(|_| patch(random.between(STARTERS_AT, RECORDS_AT - 1), random.word() as usize)).collect()
+    (0..3)
+        .map(|_| patch(random.between(STARTERS_AT, RECORDS_AT - 1), random.word() as usize))
+        .collect()
 }
 
 fn records_from_n(random: &mut Random, table: &Table) -> Vec<Patch> {
@@ -210,7 +214,8 @@ fn next_from_r(random: &mut Random, table: &Table) -> Vec<Patch> {
     if r == 16 {
         return Vec::new();
     }
-    let mut choose = |_| patch(record(table.state(random)) + 3 + random.between(r, 15), MAX as usize);
+    let mut choose =
+        |_| patch(record(table.state(random)) + 3 + random.between(r, 15), MAX as usize);
     (0..3).map(&mut choose).collect()
 }
 
@@ -246,25 +251,29 @@ fn another_next(random: &mut Random, table: &Table) -> Vec<Patch> {
     let slot = record(state) + 2 + random.between(0, r);
     let wire = 16 + random.below(table.count(state));
     let last = 15 + table.count(state);
-    vec![patch(slot, random.pick(&[random.below(r), r - 1, 16, wire, last])), ]
+    let register = random.below(r);
+    vec![patch(slot, random.pick(&[register, r - 1, 16, wire, last]))]
 }
 
 fn another_operand(random: &mut Random, table: &Table) -> Vec<Patch> {
     let (_, wire, at) = table.wire(random);
     let slot = at + random.between(1, operands(table.words[at]));
     let earlier = if wire > 0 { 16 + random.below(wire) } else { 0 };
-    vec![patch(slot, random.pick(&[random.below(table.registers()), earlier, 15 + wire]))]
+    let register = random.below(table.registers());
+    vec![patch(slot, random.pick(&[register, earlier, 15 + wire]))]
 }
 
 /// More or fewer states; a record of zeros has no wires and is fine.
 fn another_n(random: &mut Random, table: &Table) -> Vec<Patch> {
     let n = table.states();
     let more = (n + 1).min(64);
-    vec![patch(0, random.pick(&[more, more, 64, (n - 1).max(1), 1, random.between(n, 64)]))]
+    let any = random.between(n, 64);
+    vec![patch(0, random.pick(&[more, more, 64, (n - 1).max(1), 1, any]))]
 }
 
 fn more_registers(random: &mut Random, table: &Table) -> Vec<Patch> {
-    vec![patch(1, random.pick(&[16, random.between(table.registers(), 16)]))]
+    let any = random.between(table.registers(), 16);
+    vec![patch(1, random.pick(&[16, any]))]
 }
 
 /// A state moved so that first wire plus count is exactly 3,072.
@@ -312,12 +321,15 @@ fn added_state(random: &mut Random, table: &Table) -> Vec<Patch> {
 fn free_wires(random: &mut Random, at: usize, count: usize, registers: usize) -> Vec<Patch> {
     let mut patches = Vec::new();
     for wire in 0..count {
-        let code = random.pick(&[1, 1, random.between(1, 19), random.between(1, 19), 18, 19]);
+        let any = random.between(1, 19);
+        let code = random.pick(&[1, 1, any, any, 18, 19]);
         patches.push(patch(at + 4 * wire, code));
         for slot in 1..=operands(code as u32) {
             let reference = random.below(registers + wire);
-            let reference = if reference < registers { reference } else { reference - registers + 16 };
-            let literal = random.pick(&[0, 1, 2, words::word(random) as usize]);
+            let reference =
+                if reference < registers { reference } else { reference - registers + 16 };
+            let any = words::word(random) as usize;
+            let literal = random.pick(&[0, 1, 2, any]);
             patches.push(patch(at + 4 * wire + slot, if code == 1 { literal } else { reference }));
         }
     }
@@ -344,7 +356,8 @@ fn past_the_table(random: &mut Random, _: &Table) -> Vec<Patch> {
     (0..3).map(|_| patch(random.between(MACHINE_WORDS, 13_720), random.word() as usize)).collect()
 }
 
-const KEPT: [Damage; 21] = [
+/// Kinds that a run never refuses.
+pub const KEPT: [Damage; 21] = [
     starters_and_blocks, records_from_n, next_from_r, wires_of_no_state, unused_operands,
     another_literal, another_literal, another_next, another_operand, another_n, more_registers,
     moved_to_the_end, moved_to_the_end, empty_inside, empty_inside, added_state, added_state,
@@ -354,16 +367,14 @@ const KEPT: [Damage; 21] = [
 /// Patches for a table that synthesis made.
 pub fn patches(random: &mut Random, words: &[u32]) -> Vec<Patch> {
     let table = Table { words };
-    let refused = random.percent(45);
-    let mut patches = match refused {
-        true => random.pick(&REFUSED)(random, &table),
-        false => random.pick(&KEPT)(random, &table),
+    let kinds: &[Damage] = match random.below(100) {
+        0..=24 => &REFUSED,
+        25..=47 => &MOSTLY_REFUSED,
+        _ => &KEPT,
     };
+    let mut patches = random.pick(kinds)(random, &table);
     if patches.is_empty() || random.percent(12) {
         patches.extend(random.pick(&KEPT)(random, &table));
-    }
-    if random.percent(6) {
-        patches.extend(another_code(random, &table));
     }
     patches.truncate(MAX_PATCHES);
     patches

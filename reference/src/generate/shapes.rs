@@ -48,10 +48,10 @@ pub fn loops(random: &mut Random, n: usize) -> Shape {
 /// Loops with more edges forward, some of which enter a loop in its middle.
 pub fn irreducible(random: &mut Random, n: usize) -> Shape {
     let mut shape = loops(random, n);
-    for i in 0..n.saturating_sub(2) {
-        if shape[i].len() == 1 && random.percent(50) {
+    for (i, successors) in shape.iter_mut().enumerate().take(n.saturating_sub(2)) {
+        if successors.len() == 1 && random.percent(50) {
             let ahead = random.between(i + 2, n - 1);
-            shape[i] = either(random, i + 1, ahead);
+            *successors = either(random, i + 1, ahead);
         }
     }
     if n > 3 {
@@ -118,13 +118,10 @@ pub fn diamonds(random: &mut Random, n: usize) -> Shape {
         }
     }
     if n > 4 && random.percent(60) {
-        shape[n - 2] = either(random, random_head(n), n - 1);
+        let head = random.below(2);
+        shape[n - 2] = either(random, head, n - 1);
     }
     shape
-}
-
-fn random_head(n: usize) -> usize {
-    n % 2
 }
 
 /// Adds blocks that nothing reaches but that have edges into the others.

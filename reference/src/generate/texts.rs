@@ -74,8 +74,8 @@ fn leading_zero(random: &mut Random, _: &Graph, lines: &mut Lines) {
 
 fn bad_literal(random: &mut Random, graph: &Graph, lines: &mut Lines) {
     let bad = [
-        "-0", "-", "", "2147483648", "-2147483649", "4294967295", "4294967296", "-01", "+1",
-        "--1", "1-", "99999999999999999999999", "-99999999999999999999999", "0x10", "1e3", "00",
+        "-0", "-", "", "2147483648", "-2147483649", "4294967295", "4294967296", "-01", "+1", "--1",
+        "1-", "99999999999999999999999", "-99999999999999999999999", "0x10", "1e3", "00",
         "18446744073709551616", "9223372036854775808", " 1", "1 ", "2147483650", "12147483647",
     ];
     let literal = random.pick(&bad).to_string();
@@ -163,8 +163,8 @@ fn doubled(random: &mut Random, _: &Graph, lines: &mut Lines) {
 /// Eight instructions in one block, or nine, the ninth sometimes wrong too.
 fn ninth(random: &mut Random, graph: &Graph, lines: &mut Lines) {
     let block = random.below(graph.blocks.len());
-    let Some(at) = lines.iter().position(|line| line[0] == "block" && line[1] == block.to_string())
-    else {
+    let header = fields(&format!("block,{block}"));
+    let Some(at) = lines.iter().position(|line| *line == header) else {
         return;
     };
     let has = graph.blocks[block].instructions.len();
@@ -175,12 +175,15 @@ fn ninth(random: &mut Random, graph: &Graph, lines: &mut Lines) {
     }
     if wanted > 8 && random.percent(40) {
         let bad = random.pick(&["copy,255,0", "add,0,0,16", "add,0,0", "set,0,-0"]);
-        lines[at + 9] = fields(bad);
+        if let Some(line) = lines.get_mut(at + 9) {
+            *line = fields(bad);
+        }
     }
 }
 
 fn wrong_block(random: &mut Random, graph: &Graph, lines: &mut Lines) {
-    let blocks: Vec<usize> = (0..lines.len()).filter(|&at| lines[at][0] == "block").collect();
+    let is_block = |&at: &usize| lines[at][0] == "block" && lines[at].len() > 1;
+    let blocks: Vec<usize> = (0..lines.len()).filter(is_block).collect();
     if blocks.is_empty() {
         return;
     }
@@ -240,9 +243,25 @@ fn replace_ending(lines: &mut Lines, line: &str) {
 fn graph_limits(random: &mut Random, graph: &Graph, lines: &mut Lines) {
     let (b, r) = (graph.blocks.len(), graph.registers);
     let choices = [
-        (0, r), (65, r), (64, r), (255, r), (256, r), (b, 0), (b, 17), (b, 16), (b, 255), (b, 256),
-        (b + 1, r), (b.saturating_sub(1), r), (b, r.saturating_sub(1)), (1, r), (b, 1), (0, 0),
-        (65, 17), (1, 1), (64, 16),
+        (0, r),
+        (65, r),
+        (64, r),
+        (255, r),
+        (256, r),
+        (b, 0),
+        (b, 17),
+        (b, 16),
+        (b, 255),
+        (b, 256),
+        (b + 1, r),
+        (b.saturating_sub(1), r),
+        (b, r.saturating_sub(1)),
+        (1, r),
+        (b, 1),
+        (0, 0),
+        (65, 17),
+        (1, 1),
+        (64, 16),
     ];
     let (blocks, registers) = random.pick(&choices);
     lines[0] = fields(&format!("graph,{blocks},{registers}"));
@@ -284,11 +303,12 @@ fn unknown_comparison(random: &mut Random, _: &Graph, lines: &mut Lines) {
     replace(random, lines, &[Role::Comparison], name);
 }
 
-const LINE_DAMAGE: [LineDamage; 27] = [
+const LINE_DAMAGE: [LineDamage; 31] = [
     leading_zero, bad_literal, good_literal, big_number, odd_number, empty_field, extra_field,
     missing_field, odd_byte, carriage_returns, swapped, deleted, doubled, ninth, wrong_block,
     stops_early, extra_lines, register_at_limit, target_at_limit, both_at_limit, graph_limits,
     empty_line, wrong_form, not_due, unknown_comparison, register_at_limit, target_at_limit,
+    target_at_limit, target_at_limit, not_due, stops_early,
 ];
 
 /// Damage done to the bytes, where lines no longer matter.
@@ -297,7 +317,8 @@ fn damage_bytes(random: &mut Random, text: &mut Vec<u8>) {
     match random.below(8) {
         0 => drop(text.pop()),
         1 => text.truncate(at),
-        2 => text.extend(random.pick(&["x", " ", "\n", "\0", "halt", "block,0", "\r\n", ","]).bytes()),
+        2 => text
+            .extend(random.pick(&["x", " ", "\n", "\0", "halt", "block,0", "\r\n", ","]).bytes()),
         3 if at < text.len() => text[at] = random.below(256) as u8,
         4 => text.insert(at, random.below(256) as u8),
         5 if at < text.len() => drop(text.remove(at)),
@@ -309,11 +330,29 @@ fn damage_bytes(random: &mut Random, text: &mut Vec<u8>) {
 /// Texts that no graph needs to make.
 fn bare_text(random: &mut Random) -> Vec<u8> {
     let texts = [
-        "", "\n", "\n\n", "graph,1,1", "graph,1,1\n", "graph,65,1\n", "graph,64,1\n", "halt\n",
-        "graph,1,1\nblock,0", "graph,1,1\nblock,0\n", "graph,1,1\nblock,0\nhalt", "block,0\n",
-        "graph,1,1\nblock,0\nhalt\n\n", "graph,1,1\nblock,0\nhalt\nx", ",\n", "graph,0,0\n",
-        "graph,2,1\nblock,0\nhalt\n", "graph,2,1\nblock,0\nhalt\nblock,0\nhalt\n", "\r\n", "x",
-        "graph,1,16\nblock,0\ncopy,16,0\nhalt\n", "graph,1,1\nblock,0\ngoto,1\n", "graph,1,1\n\n",
+        "",
+        "\n",
+        "\n\n",
+        "graph,1,1",
+        "graph,1,1\n",
+        "graph,65,1\n",
+        "graph,64,1\n",
+        "halt\n",
+        "graph,1,1\nblock,0",
+        "graph,1,1\nblock,0\n",
+        "graph,1,1\nblock,0\nhalt",
+        "block,0\n",
+        "graph,1,1\nblock,0\nhalt\n\n",
+        "graph,1,1\nblock,0\nhalt\nx",
+        ",\n",
+        "graph,0,0\n",
+        "graph,2,1\nblock,0\nhalt\n",
+        "graph,2,1\nblock,0\nhalt\nblock,0\nhalt\n",
+        "\r\n",
+        "x",
+        "graph,1,16\nblock,0\ncopy,16,0\nhalt\n",
+        "graph,1,1\nblock,0\ngoto,1\n",
+        "graph,1,1\n\n",
     ];
     random.pick(&texts).as_bytes().to_vec()
 }

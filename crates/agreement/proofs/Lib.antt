@@ -1,0 +1,4 @@
+pub mod Arrivals
+pub mod WholeRun
+pub mod RunAnswers
+pub mod TableAgreement

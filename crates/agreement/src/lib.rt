@@ -1,0 +1,1 @@
+// The per-cycle agreement of graph and machine: see specs/.

@@ -1,0 +1,24 @@
+-- What the parts of the admission test look for: cited by inner functions alone. Assumes nothing.
+use Prim.Native.Nat.{ℕ}
+use mathlib.Core.Bool.{Bool, _&&_}
+use mathlib.Core.List.{List}
+use lib.ListN.{take, drop}
+use lib.Dec.{eqb}
+use Rattle.runs.specs.Lists.{same, every}
+use Rattle.cfg.specs.Layout.{endingWords, blockWords, blockOffset}
+use Rattle.cfg.specs.Graph.{validEnding, validBlock}
+use Rattle.cfg.specs.Table.{endingWordsOf, blockWordsOf, endingAt, blockAt}
+
+-- the n words from o on are 0
+abbrev pub zeros : List ℕ → ℕ → ℕ → Bool
+zeros t o n = every (λ (x : ℕ). eqb x 0) (take n (drop o t))
+
+-- the ending whose words begin at o is valid, and the words are no others than its own
+unfoldable pub endingFits : ℕ → ℕ → List ℕ → ℕ → Bool
+unfolding validEnding endingAt
+endingFits b r t o = validEnding b r (endingAt t o) && same (endingWordsOf (endingAt t o)) (take endingWords (drop o t))
+
+-- block n is valid, and its words are no others than its own
+unfoldable pub blockFits : ℕ → ℕ → List ℕ → ℕ → Bool
+unfolding validBlock blockAt blockWordsOf
+blockFits b r t n = validBlock b r (blockAt t n) && same (blockWordsOf (blockAt t n)) (take blockWords (drop (blockOffset n) t))

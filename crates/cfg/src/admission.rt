@@ -1,0 +1,228 @@
+// Which tables are admitted: the words of a valid graph, and every unused word 0.
+use crate::Block;
+use crate::Graph;
+use crate::Instruction;
+use crate::decode;
+ghost use mathlib.Core.Path.{_≡_};
+ghost use mathlib.Core.Bool.{_&&_};
+ghost use mathlib.Core.List.{map};
+ghost use Prim.Native.Nat.{_+_, _-_, _≤_, _<_};
+ghost use lib.ListN.{length};
+ghost use lib.Dec.{ltb, eqb};
+ghost use Rattle.word.specs.Word.{choose, arity, codeOf};
+ghost use Rattle.runs.specs.Lists.{upFrom, every};
+ghost use Rattle.cfg.specs.declared.Ending.the-variants.{Ite};
+ghost use Rattle.cfg.specs.Layout.{maxBlocks, maxInstructions, endingWords, blockWords, graphWords};
+ghost use Rattle.cfg.specs.Graph.{validInstruction, validEnding};
+ghost use Rattle.cfg.specs.Table.{comparisonAt, instructionAt, admitted};
+ghost use Rattle.cfg.specs.Fits.{zeros, endingFits, blockFits};
+
+// The words from `from` up to `to` are 0.
+fn all_zero(table: &[u32], from: usize, to: usize) -> bool
+    requires { ⌜ (from ≤ to) × (to ≤ length (now table)) ⌝ }
+    ensures { λ r. ⌜ r ≡ zeros (now (table .entry)) from (to - from) ⌝ }
+{
+    let mut i = from;
+    while i < to {
+        if table[i] != 0 {
+            return false;
+        }
+        i += 1;
+    }
+    true
+}
+
+// The second operand: a register where the code reads one, else 0.
+fn second_valid(i: Instruction, registers: u32) -> bool
+    requires { ⌜ i .code ≤ 11 ⌝ }
+    ensures { λ r. ⌜ r ≡ choose (eqb (arity (i .code)) 2) (ltb (i .b) registers) (eqb (i .b) 0) ⌝ }
+{
+    if i.code < 3 {
+        return i.b == 0;
+    }
+    if 10 < i.code {
+        return i.b == 0;
+    }
+    i.b < registers
+}
+
+fn instruction_valid(i: Instruction, registers: u32) -> bool
+    ensures { λ r. ⌜ r ≡ validInstruction registers i ⌝ }
+{
+    if i.code < 1 {
+        return false;
+    }
+    if 11 < i.code {
+        return false;
+    }
+    if registers <= i.d {
+        return false;
+    }
+    if i.code == 1 {
+        return second_valid(i, registers);
+    }
+    if registers <= i.a {
+        return false;
+    }
+    second_valid(i, registers)
+}
+
+// The first `count` instructions of the block whose words begin at `start`.
+fn code_valid(table: &[u32], start: usize, count: usize, registers: u32) -> bool
+    requires { ⌜ (count ≤ maxInstructions) × (start + blockWords ≤ length (now table)) ⌝ }
+    ensures { λ r. ⌜ r ≡ every (validInstruction registers) (map (instructionAt (now (table .entry)) start) (upFrom 0 count)) ⌝ }
+{
+    let mut i = 0;
+    while i < count {
+        let next = decode::instruction_at(table, start, i);
+        if !instruction_valid(next, registers) {
+            return false;
+        }
+        i += 1;
+    }
+    true
+}
+
+// A goto's words after its kind.
+fn goto_fits(c: u32, a: u32, b: u32, t: u32, f: u32, blocks: u32) -> bool
+    ensures { λ r. ⌜ r ≡ (eqb c 0 && (eqb a 0 && (eqb b 0 && (eqb f 0 && ltb t blocks)))) ⌝ }
+{
+    if c != 0 {
+        return false;
+    }
+    if a != 0 {
+        return false;
+    }
+    if b != 0 {
+        return false;
+    }
+    if f != 0 {
+        return false;
+    }
+    t < blocks
+}
+
+// An ite's.
+fn ite_fits(head: Graph, c: u32, a: u32, b: u32, t: u32, f: u32) -> bool
+    ensures { λ r. ⌜ r ≡ (eqb (codeOf (comparisonAt c)) c && validEnding (head .blocks) (head .registers) (Ite (record { comparison = comparisonAt c; a = a; b = b }) t f)) ⌝ }
+{
+    if c < 12 {
+        return false;
+    }
+    if 17 < c {
+        return false;
+    }
+    if head.registers <= a {
+        return false;
+    }
+    if head.registers <= b {
+        return false;
+    }
+    if head.blocks <= t {
+        return false;
+    }
+    f < head.blocks
+}
+
+// A halt's.
+fn halt_fits(c: u32, a: u32, b: u32, t: u32, f: u32) -> bool
+    ensures { λ r. ⌜ r ≡ (eqb c 0 && (eqb a 0 && (eqb b 0 && (eqb t 0 && eqb f 0)))) ⌝ }
+{
+    if c != 0 {
+        return false;
+    }
+    if a != 0 {
+        return false;
+    }
+    if b != 0 {
+        return false;
+    }
+    if t != 0 {
+        return false;
+    }
+    f == 0
+}
+
+fn ending_fits(table: &[u32], at: usize, head: Graph) -> bool
+    requires { ⌜ at + endingWords ≤ length (now table) ⌝ }
+    ensures { λ r. ⌜ r ≡ endingFits (head .blocks) (head .registers) (now (table .entry)) at ⌝ }
+{
+    let kind = table[at];
+    let c = table[at + 1];
+    let a = table[at + 2];
+    let b = table[at + 3];
+    let t = table[at + 4];
+    let f = table[at + 5];
+    match kind {
+        1 => goto_fits(c, a, b, t, f, head.blocks),
+        2 => ite_fits(head, c, a, b, t, f),
+        3 => halt_fits(c, a, b, t, f),
+        _ => false,
+    }
+}
+
+fn block_fits(table: &[u32], n: usize, head: Graph) -> bool
+    requires { ⌜ (n < maxBlocks) × (graphWords ≤ length (now table)) ⌝ }
+    ensures { λ r. ⌜ r ≡ blockFits (head .blocks) (head .registers) (now (table .entry)) n ⌝ }
+{
+    let start = Graph::HEAD + Block::WORDS * n;
+    let used = table[start] as usize;
+    if Block::INSTRUCTIONS < used {
+        return false;
+    }
+    if !code_valid(table, start, used, head.registers) {
+        return false;
+    }
+    if !all_zero(
+        table,
+        start + Block::CODE + Instruction::WORDS * used,
+        start + Block::ENDING,
+    ) {
+        return false;
+    }
+    if !ending_fits(table, start + Block::ENDING, head) {
+        return false;
+    }
+    table[start + Block::LAST] == 0
+}
+
+fn blocks_fit(table: &[u32], head: Graph) -> bool
+    requires { ⌜ (head .blocks ≤ maxBlocks) × (graphWords ≤ length (now table)) ⌝ }
+    ensures { λ r. ⌜ r ≡ every (blockFits (head .blocks) (head .registers) (now (table .entry))) (upFrom 0 (head .blocks)) ⌝ }
+{
+    let blocks = head.blocks as usize;
+    let mut n = 0;
+    while n < blocks {
+        if !block_fits(table, n, head) {
+            return false;
+        }
+        n += 1;
+    }
+    true
+}
+
+// The table's words are those of a valid graph.
+pub fn is_admitted(table: &[u32]) -> bool
+    requires { ⌜ graphWords ≤ length (now table) ⌝ }
+    ensures { λ r. ⌜ r ≡ admitted (now (table .entry)) ⌝ }
+{
+    let head = decode::head_of(table);
+    let blocks = head.blocks as usize;
+    let registers = head.registers as usize;
+    if blocks < 1 {
+        return false;
+    }
+    if Graph::BLOCKS < blocks {
+        return false;
+    }
+    if registers < 1 {
+        return false;
+    }
+    if Graph::REGISTERS < registers {
+        return false;
+    }
+    if !blocks_fit(table, head) {
+        return false;
+    }
+    all_zero(table, Graph::HEAD + Block::WORDS * blocks, Graph::WORDS)
+}

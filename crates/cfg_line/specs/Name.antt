@@ -1,0 +1,63 @@
+-- Names in a line ("Text" of paper 01). Assumes nothing.
+use Prim.Native.Nat.{ℕ, suc}
+use mathlib.Core.Bool.{Bool, true, false}
+use mathlib.Core.List.{List, [], _∷_}
+use mathlib.Core.Option.{Option, none, some}
+use Prim.Native.Char.{code}
+use Prim.Native.String.{String, [] as empty, _∷_ as _then_}
+use lib.Dec.{eqb}
+use Rattle.word.specs.Word.{choose, arity}
+use Rattle.runs.specs.Lists.{same, orElse}
+use Rattle.cfg_line.specs.declared.Keyword.{Keyword}
+use Rattle.cfg_line.specs.declared.Keyword.the-variants.{Graph, Block, Goto, Ite, Halt, Set, Unary, Binary, Nothing}
+
+-- a text's bytes
+abbrev pub bytes : String → List ℕ
+bytes empty = []
+bytes (c then s) = code c ∷ bytes s
+
+-- the names of codes 1 to 11
+unfoldable pub instructionNames : List (List ℕ)
+instructionNames =
+    bytes "set"
+    ∷ bytes "copy"
+    ∷ bytes "add"
+    ∷ bytes "sub"
+    ∷ bytes "and"
+    ∷ bytes "or"
+    ∷ bytes "xor"
+    ∷ bytes "shl"
+    ∷ bytes "shr"
+    ∷ bytes "sar"
+    ∷ bytes "sx"
+    ∷ []
+
+-- the names of codes 12 to 17
+unfoldable pub comparisonNames : List (List ℕ)
+comparisonNames = bytes "eq" ∷ bytes "ne" ∷ bytes "lt" ∷ bytes "ge" ∷ bytes "ltu" ∷ bytes "geu" ∷ []
+
+-- the code that a field names, the first name being that of code k
+abbrev pub codeIn : ℕ → List (List ℕ) → List ℕ → Option ℕ
+codeIn k [] f = none
+codeIn k (n ∷ ns) f = orElse (same f n) k (codeIn (suc k) ns f)
+
+-- a field as a comparison's code
+unfoldable pub comparisonOf : List ℕ → Option ℕ
+unfolding comparisonNames
+comparisonOf f = codeIn 12 comparisonNames f
+
+-- an instruction: set, one of one operand, or one of two
+abbrev pub operation : Option ℕ → Keyword
+operation none = Nothing
+operation (some k) = choose (eqb k 1) Set (choose (eqb (arity k) 1) (Unary k) (Binary k))
+
+-- what a line's first field names
+unfoldable pub keywordOf : List ℕ → Keyword
+unfolding instructionNames arity
+keywordOf f =
+    choose (same f (bytes "graph")) Graph
+    (choose (same f (bytes "block")) Block
+    (choose (same f (bytes "goto")) Goto
+    (choose (same f (bytes "ite")) Ite
+    (choose (same f (bytes "halt")) Halt
+    (operation (codeIn 1 instructionNames f))))))

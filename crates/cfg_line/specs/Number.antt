@@ -1,0 +1,42 @@
+-- Numbers and literals in a field ("Text" of paper 01). Assumes nothing.
+use Prim.Native.Nat.{ℕ, _+_, _-_, _*_, _^_}
+use mathlib.Core.Bool.{Bool, true, false, not, _&&_}
+use mathlib.Core.List.{List, [], _∷_}
+use mathlib.Core.Option.{Option, none, some}
+use lib.Dec.{eqb, leb}
+use Rattle.word.specs.Word.{choose}
+use Rattle.runs.specs.Lists.{every}
+
+abbrev pub digit : ℕ → Bool
+digit b = leb 48 b && leb b 57
+
+-- at least one digit, nothing else, and no leading zero
+unfoldable pub decimal : List ℕ → Bool
+decimal [] = false
+decimal (b ∷ []) = digit b
+decimal (b ∷ c ∷ bs) = not (eqb b 48) && every digit (b ∷ c ∷ bs)
+
+-- the value of the digits behind the value v
+unfoldable pub valueFrom : ℕ → List ℕ → ℕ
+valueFrom v [] = v
+valueFrom v (b ∷ bs) = valueFrom (v * 10 + (b - 48)) bs
+
+-- a field as a number of at most `most`
+unfoldable pub atMost : ℕ → List ℕ → Option ℕ
+unfolding decimal valueFrom
+atMost most f = choose (decimal f && leb (valueFrom 0 f) most) (some (valueFrom 0 f)) none
+
+-- "Numbers are 0 to 255 without leading zeros"
+abbrev pub numberOf : List ℕ → Option ℕ
+numberOf f = atMost 255 f
+
+-- the word of a value below zero; there is no -0
+abbrev pub negative : Option ℕ → Option ℕ
+negative none = none
+negative (some v) = choose (eqb v 0) none (some (2 ^ 32 - v))
+
+-- "a literal −2147483648 to 2147483647 likewise, with byte 45 as minus", as its word
+unfoldable pub literalOf : List ℕ → Option ℕ
+unfolding atMost
+literalOf [] = none
+literalOf (b ∷ bs) = choose (eqb b 45) (negative (atMost (2 ^ 31) bs)) (atMost (2 ^ 31 - 1) (b ∷ bs))

@@ -1,0 +1,82 @@
+-- `put_decimal` stores the digits from the last to the first. Assumes nothing.
+use Prim.Native.Nat.{_+_, _-_, _%_, _≤_}
+use mathlib.Core.Path.{_≡_, refl, sym, ap, _∙_}
+use native.Mathlib.Omega.{arith}
+use lib.ListN.{length, length-set}
+use lib.Seq.{sets}
+use Rattle.decimal.specs.Decimal.{decimalOf}
+use Rattle.decimal.proofs.Laws.{Left, left-all, left-step, left-none}
+use borrow.Author.Needs.{needs}
+use Rattle.decimal.proofs.put_decimal.Statement.{statement}
+use Rattle.decimal.proofs.put_decimal.Tie as tie
+
+abbrev Inv-loop : tie.InvT-loop
+Inv-loop out₀ at n end left₀ i₀ out left i = (end ≡ at + length (decimalOf n)) × Left at i left out (sets out₀ at (decimalOf n)) × (length out ≡ length out₀) × (i ≤ end)
+
+abbrev μ-loop : tie.MeasureT-loop
+μ-loop out₀ at n end left₀ i₀ out left i = i
+
+width-requires : tie.Need-width-requires Inv-loop μ-loop
+width-requires c κs = search needs
+
+add-end : tie.Need-add-end Inv-loop μ-loop
+add-end c = search needs
+
+loop-holds : tie.Need-loop-holds Inv-loop μ-loop
+loop-holds c =
+    let s = c .before .before in
+    let e = c .width .ensures .0 in
+    (rw e refl, rw e (left-all (s .args .at) (s .args .n) (s .args .out .now)), refl, omega arith)
+
+sub-i : tie.Need-sub-i Inv-loop μ-loop
+sub-i c = search needs
+
+add-put-byte : tie.Need-add-put-byte Inv-loop μ-loop
+add-put-byte c = search needs
+
+cast-put-byte : tie.Need-cast-put-byte Inv-loop μ-loop
+cast-put-byte c = search needs
+
+put-byte-requires : tie.Need-put-byte-requires Inv-loop μ-loop
+put-byte-requires c κs = search needs
+
+loop-less : tie.Need-loop-less Inv-loop μ-loop
+loop-less c = search needs
+
+loop-again : tie.Need-loop-again Inv-loop μ-loop
+loop-again c =
+    let l = c .before .before .before .before .before in
+    let s = l .before .before .before in
+    let e = c .before .before .put-byte .ensures in (
+      l .loop .inv .0,
+      rw e (left-step (s .args .at) (l .loop .i) (l .loop .left) (l .loop .out) (sets (s .args .out .now) (s .args .at) (decimalOf (s .args .n))) (l .loop .inv .1) (omega arith)),
+      rw e (length-set (l .loop .out) (l .loop .i - 1) (48 + l .loop .left % 10) ∙ l .loop .inv .2),
+      omega arith,
+    )
+
+same-length : tie.Need-same-length Inv-loop μ-loop
+same-length c = search needs
+
+returns : tie.Need-returns Inv-loop μ-loop
+returns c =
+    let l = c .before in
+    let s = l .before .before .before in
+    (left-none (s .args .at) (l .loop .i) (l .loop .left) (l .loop .out) (sets (s .args .out .now) (s .args .at) (decimalOf (s .args .n))) (l .loop .inv .1) (omega arith), l .loop .inv .0)
+
+pub put-decimal-spec : {M : Type 1} → statement M
+put-decimal-spec =
+    tie.close
+    (tie.spec
+    Inv-loop
+    μ-loop
+    width-requires
+    add-end
+    loop-holds
+    sub-i
+    add-put-byte
+    cast-put-byte
+    put-byte-requires
+    loop-less
+    loop-again
+    same-length
+    returns)

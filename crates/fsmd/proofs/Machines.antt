@@ -1,0 +1,103 @@
+-- The machine of a table, state by state, and what it is that a table is admitted. Assumes nothing.
+use Prim.Native.Nat.{ℕ, _+_, _<_, _≤_}
+use mathlib.Core.Bool.{true, _&&_}
+use mathlib.Core.List.{List}
+use mathlib.Core.Path.{_≡_, refl, sym, ap, ap₂, _∙_}
+use lib.Dec.{leb}
+use lib.ListN.{length, getD, take, drop, length-map}
+use borrow.Author.Tests.{leb-true, le-leb}
+use Rattle.runs.proofs.Every.{below-at, below-of}
+use Rattle.runs.proofs.ListLaws.{and-left, and-right, length-upFrom, getD-map-upFrom}
+use Rattle.runs.specs.Lists.{upFrom, every}
+use Rattle.fsmd.specs.Layout.{maxStates, maxRegisters, maxWires, recordOffset}
+use Rattle.fsmd.specs.Machine.{stateOf, emptyState}
+use Rattle.fsmd.specs.Table.{firstWireAt, wireCountAt, stateAt, machineOf, validReference, validWires, validState, within, apart, admitted}
+use Rattle.fsmd.proofs.Windows.{wiresFrom, wires-length}
+
+-- ---- the machine of a table
+
+pub states-length : (t : List ℕ) → length (machineOf t .states) ≡ getD t 0 0
+unfolding machineOf
+states-length t = length-map (upFrom 0 (getD t 0 0)) (stateAt t) ∙ length-upFrom 0 (getD t 0 0)
+
+pub registers-is : (t : List ℕ) → machineOf t .registers ≡ getD t 1 0
+unfolding machineOf
+registers-is t = refl
+
+pub state-is : (t : List ℕ) (k : ℕ) → k < getD t 0 0 → stateOf (machineOf t) k ≡ stateAt t k
+unfolding machineOf
+state-is t k h = getD-map-upFrom (stateAt t) (getD t 0 0) k emptyState h
+
+-- ---- a valid state, from the words of its record
+
+pub valid-state-is : (t : List ℕ) (r k first count at : ℕ) → first ≡ firstWireAt t k → count ≡ wireCountAt t k → at ≡ recordOffset k → r ≡ getD t 1 0
+    → validState r (stateAt t k)
+    ≡ (validWires r 0 (wiresFrom t first count) && validReference r count (getD t (at + 2) 0) && every (validReference r count) (take r (drop (at + 3) t)))
+unfolding validState stateAt
+valid-state-is t r k first count at ef ec ea er =
+    ap₂ (λ (n m : ℕ). validWires r 0 (wiresFrom t (firstWireAt t k) (wireCountAt t k)) && validReference r n (getD t (recordOffset k + 2) 0)
+    && every (validReference r n) (take m (drop (recordOffset k + 3) t))) (wires-length t (firstWireAt t k) (wireCountAt t k)) (sym er)
+    ∙ sym (ap (λ (i : ℕ). validWires r 0 (wiresFrom t first count) && validReference r count (getD t (i + 2) 0) && every (validReference r count) (take r (drop (i + 3) t))) ea
+    ∙ ap₂ (λ (f n : ℕ). validWires r 0 (wiresFrom t f n) && validReference r n (getD t (recordOffset k + 2) 0)
+    && every (validReference r n) (take r (drop (recordOffset k + 3) t))) ef ec)
+
+-- ---- what it is that a table is admitted
+
+pub admitted-is : (t : List ℕ) (n r : ℕ) → n ≡ getD t 0 0 → r ≡ getD t 1 0
+    → admitted t
+    ≡ (leb 1 n && leb n maxStates && leb 1 r && leb r maxRegisters && every (within t) (upFrom 0 n)
+    && every (λ k. every (λ j. apart t j k) (upFrom 0 k)) (upFrom 0 n)
+    && every (λ k. validState r (stateAt t k)) (upFrom 0 n))
+unfolding admitted
+admitted-is t n r en er =
+    sym (ap₂ (λ (n r : ℕ). leb 1 n && leb n maxStates && leb 1 r && leb r maxRegisters && every (within t) (upFrom 0 n)
+    && every (λ k. every (λ j. apart t j k) (upFrom 0 k)) (upFrom 0 n)
+    && every (λ k. validState r (stateAt t k)) (upFrom 0 n)) en er)
+
+pub record Admitted (t : List ℕ) : Type 0 where
+  pub some-states : 1 ≤ getD t 0 0
+  pub few-states : getD t 0 0 ≤ maxStates
+  pub some-registers : 1 ≤ getD t 1 0
+  pub few-registers : getD t 1 0 ≤ maxRegisters
+  pub in-space : (k : ℕ) → k < getD t 0 0 → firstWireAt t k + wireCountAt t k ≤ maxWires
+  pub separate : (j k : ℕ) → j < k → k < getD t 0 0 → apart t j k ≡ true
+  pub valid : (k : ℕ) → k < getD t 0 0 → validState (getD t 1 0) (stateAt t k) ≡ true
+
+pub admitted-facts : (t : List ℕ) → admitted t ≡ true → Admitted t
+unfolding admitted
+admitted-facts t e =
+    let n = getD t 0 0 in
+    let r = getD t 1 0 in
+    let a = leb 1 n in
+    let b = leb n maxStates in
+    let c = leb 1 r in
+    let d = leb r maxRegisters in
+    let f = every (within t) (upFrom 0 n) in
+    let g = every (λ k. every (λ j. apart t j k) (upFrom 0 k)) (upFrom 0 n) in
+    let h = every (λ k. validState r (stateAt t k)) (upFrom 0 n) in
+    let e6 = and-left (a && b && c && d && f && g) h e in
+    let e5 = and-left (a && b && c && d && f) g e6 in
+    let e4 = and-left (a && b && c && d) f e5 in
+    let e3 = and-left (a && b && c) d e4 in
+    let e2 = and-left (a && b) c e3 in
+    record {
+      some-states = leb-true 1 n (and-left a b e2);
+      few-states = leb-true n maxStates (and-right a b e2);
+      some-registers = leb-true 1 r (and-right (a && b) c e3);
+      few-registers = leb-true r maxRegisters (and-right (a && b && c) d e4);
+      in-space = λ k q. leb-true (firstWireAt t k + wireCountAt t k) maxWires (below-at (within t) n k (and-right (a && b && c && d) f e5) q);
+      separate = λ j k q p. below-at (λ i. apart t i k) k j (below-at (λ i. every (λ j. apart t j i) (upFrom 0 i)) n k (and-right (a && b && c && d && f) g e6) p) q;
+      valid = λ k q. below-at (λ i. validState r (stateAt t i)) n k (and-right (a && b && c && d && f && g) h e) q;
+    }
+
+pub facts-admitted : (t : List ℕ) → Admitted t → admitted t ≡ true
+unfolding admitted
+facts-admitted t m =
+    let n = getD t 0 0 in
+    let r = getD t 1 0 in
+    let f : every (within t) (upFrom 0 n) ≡ true =
+    below-of (within t) n (λ k q. le-leb (firstWireAt t k + wireCountAt t k) maxWires (m .in-space k q)) in
+    let g : every (λ k. every (λ j. apart t j k) (upFrom 0 k)) (upFrom 0 n) ≡ true =
+    below-of (λ k. every (λ j. apart t j k) (upFrom 0 k)) n (λ k p. below-of (λ j. apart t j k) k (λ j q. m .separate j k q p)) in
+    let h : every (λ k. validState r (stateAt t k)) (upFrom 0 n) ≡ true = below-of (λ k. validState r (stateAt t k)) n (m .valid) in
+    rw (le-leb 1 n (m .some-states), le-leb n maxStates (m .few-states), le-leb 1 r (m .some-registers), le-leb r maxRegisters (m .few-registers), f, g) h

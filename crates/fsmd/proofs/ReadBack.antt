@@ -1,0 +1,117 @@
+-- Reading back what was written: the machine of a machine's table is that machine, the table is admitted, and Run machine runs it. Assumes nothing.
+use Prim.Native.Nat.{ℕ, _+_, _<_, _≤_}
+use native.Mathlib.Omega.{arith}
+use mathlib.Core.Bool.{true, _||_}
+use mathlib.Core.List.{List, [], _++_, map}
+use mathlib.Core.Path.{_≡_, refl, ap, ap₂, _∙_, fun-ext}
+use lib.Dec.{eqb}
+use lib.ListN.{length, getD, take, drop, length-append, length-map}
+use lib.Seq.{ext-getD}
+use borrow.Author.Tests.{le-leb}
+use Rattle.runs.proofs.ListLaws.{length-upFrom, getD-map-upFrom}
+use Rattle.runs.proofs.Tests.{or-right}
+use Rattle.runs.specs.Lists.{upFrom}
+use Rattle.runs.specs.Runs.{Configuration, startAt, answer, registersAfter}
+use Rattle.fsmd.specs.Layout.{maxStates, maxRegisters, maxWires, machineWords}
+use Rattle.fsmd.specs.Machine.{State, FSMD, emptyState, stateOf, clock, cycle}
+use Rattle.fsmd.specs.Run.{refusal, runAnswer, runRegisters}
+use Rattle.fsmd.specs.Table.{tableOf, firstWireAt, wireCountAt, stateAt, machineOf, validState, admitted}
+use Rattle.fsmd.proofs.Machines.{facts-admitted}
+use Rattle.fsmd.proofs.Steps.{refuse-registers, refuse-none, run-answer, run-registers}
+use Rattle.fsmd.proofs.WrittenTable.{wireCount, before-room, before-less, count-is, registers-are, back-first, back-count, back-state, table-length}
+
+-- a machine that its table has room for
+pub record Fits (m : FSMD) : Type 0 where
+  pub few-states : length (m .states) ≤ maxStates
+  pub few-registers : m .registers ≤ maxRegisters
+  pub room : wireCount (m .states) ≤ maxWires
+  pub next-registers : (k : ℕ) → k < length (m .states) → length (stateOf m k .nextRegisters) ≡ m .registers
+
+-- a machine whose table is admitted
+pub record Sound (m : FSMD) : Type 0 where
+  pub fits : Fits m
+  pub some-states : 1 ≤ length (m .states)
+  pub some-registers : 1 ≤ m .registers
+  pub valid : (k : ℕ) → k < length (m .states) → validState (m .registers) (stateOf m k) ≡ true
+
+-- ---- the machine that a machine's table holds
+
+-- a cycle goes by the registers and the states alone
+same-cycle : (m n : FSMD) → m .registers ≡ n .registers → m .states ≡ n .states → (c : Configuration) → cycle m c ≡ cycle n c
+unfolding cycle clock
+same-cycle m n e s c =
+    ap₂ {C = Configuration} (λ (r : ℕ) (qs : List State). cycle (record { registers = r; starters = []; blockStates = []; states = qs }) c) e s
+
+module _ (m : FSMD) (rest : List ℕ) (f : Fits m) where
+  pub read-state : (k : ℕ) → k < length (m .states) → stateAt (tableOf m ++ rest) k ≡ stateOf m k
+  read-state k h = back-state m rest (f .few-states) (f .room) k h (f .few-registers) (f .next-registers k h)
+
+  pub read-registers : machineOf (tableOf m ++ rest) .registers ≡ m .registers
+  unfolding machineOf
+  read-registers = registers-are m rest
+
+  pub read-states : machineOf (tableOf m ++ rest) .states ≡ m .states
+  unfolding machineOf
+  read-states =
+      let t = tableOf m ++ rest in
+      let n : length (map (stateAt t) (upFrom 0 (getD t 0 0))) ≡ length (m .states) = length-map (upFrom 0 (getD t 0 0)) (stateAt t) ∙ length-upFrom 0 (getD t 0 0) ∙ count-is m rest in
+      ext-getD emptyState (map (stateAt t) (upFrom 0 (getD t 0 0))) (m .states) n (λ k h.
+      let b : k < length (m .states) = omega arith in
+      getD-map-upFrom (stateAt t) (getD t 0 0) k emptyState (omega (arith, count-is m rest)) ∙ read-state k b)
+
+  -- so the two have the same cycles
+  pub read-cycle : cycle (machineOf (tableOf m ++ rest)) ≡ cycle m
+  read-cycle = fun-ext (same-cycle (machineOf (tableOf m ++ rest)) m read-registers read-states)
+
+-- ---- its table is admitted, and run
+
+module _ (m : FSMD) (rest : List ℕ) (s : Sound m) where
+  pub read-admitted : admitted (tableOf m ++ rest) ≡ true
+  read-admitted =
+      let t = tableOf m ++ rest in
+      let f = s .fits in
+      let n = count-is m rest in
+      let r = registers-are m rest in
+      facts-admitted t (record {
+        some-states = rw n (s .some-states);
+        few-states = rw n (f .few-states);
+        some-registers = rw r (s .some-registers);
+        few-registers = rw r (f .few-registers);
+        in-space = λ k h.
+            let b : k < length (m .states) = omega arith in
+            omega (arith, back-first m rest (f .few-states) (f .room) k b, back-count m rest (f .few-states) (f .room) k b, before-room (m .states) k b);
+        separate = λ j k l h.
+            let b : k < length (m .states) = omega arith in
+            let a : j < length (m .states) = omega arith in
+            rw (
+              le-leb (firstWireAt t j + wireCountAt t j) (firstWireAt t k)
+                  (omega (arith, back-first m rest (f .few-states) (f .room) k b, back-first m rest (f .few-states) (f .room) j a, back-count m rest (f .few-states) (f .room) j a, before-less (m .states) j k l b)),
+              or-right (eqb (wireCountAt t j) 0 || eqb (wireCountAt t k) 0) true refl,
+            );
+        valid = λ k h.
+            let b : k < length (m .states) = omega arith in
+            ap₂ validState r (read-state m rest f k b) ∙ s .valid k b;
+      })
+
+  whole : machineWords ≤ length (tableOf m ++ rest)
+  whole = omega (arith, table-length m, length-append (tableOf m) rest)
+
+  module _ (rs : List ℕ) (start : ℕ) where
+    -- Run machine from one of its states is refused for short registers alone
+    pub read-refused : length rs < maxRegisters → refusal (tableOf m ++ rest) rs start ≡ 7
+    read-refused h = refuse-registers (tableOf m ++ rest) rs start whole h
+
+    module _ (space : maxRegisters ≤ length rs) (h : start < length (m .states)) where
+      pub read-refusal : refusal (tableOf m ++ rest) rs start ≡ 0
+      read-refusal = refuse-none (tableOf m ++ rest) rs start whole space read-admitted (rw (count-is m rest) h)
+
+      pub read-answer : (budget : ℕ) → runAnswer (tableOf m ++ rest) rs start budget ≡ answer (cycle m) budget (startAt start (take maxRegisters rs))
+      read-answer budget =
+          run-answer (tableOf m ++ rest) rs start budget read-refusal
+          ∙ ap (λ (f : Configuration → Configuration). answer f budget (startAt start (take maxRegisters rs))) (read-cycle m rest (s .fits))
+
+      pub read-left : (budget : ℕ)
+          → runRegisters (tableOf m ++ rest) rs start budget ≡ registersAfter (cycle m) budget (startAt start (take maxRegisters rs)) ++ drop maxRegisters rs
+      read-left budget =
+          run-registers (tableOf m ++ rest) rs start budget read-refusal
+          ∙ ap (λ (f : Configuration → Configuration). registersAfter f budget (startAt start (take maxRegisters rs)) ++ drop maxRegisters rs) (read-cycle m rest (s .fits))

@@ -1,0 +1,54 @@
+-- Parts of a table, element by element: words from an index on, and the wires of a state. Assumes nothing.
+use Prim.Native.Nat.{ℕ, suc, _+_, _<_, _≤_}
+use native.Mathlib.Numerals.{add-one}
+use native.Mathlib.Omega.{arith}
+use mathlib.Core.Bool.{true, false}
+use mathlib.Core.List.{List, [], _∷_, map}
+use mathlib.Core.Path.{_≡_, ap, _∙_}
+use lib.ListN.{length, getD, take, drop, length-drop, length-map, drop-of-length-le, List·getD-map}
+use lib.Seq.{drop-cons, length-take-le, getD-take, getD-drop}
+use Rattle.runs.proofs.ListLaws.{length-upFrom, getD-upFrom}
+use Rattle.runs.specs.Lists.{upFrom}
+use Rattle.fsmd.specs.Table.{wireAt, validWire, validWires}
+use Rattle.fsmd.specs.declared.Wire.{Wire}
+
+-- ---- n words from an index on
+
+module _ (t : List ℕ) (at n : ℕ) where
+  pub window-length : at + n ≤ length t → length (take n (drop at t)) ≡ n
+  window-length h = length-take-le n (drop at t) (rw length-drop (omega arith))
+
+  pub window-at : (i : ℕ) → i < n → getD (take n (drop at t)) i 0 ≡ getD t (at + i) 0
+  window-at i h = getD-take n (drop at t) i 0 h ∙ getD-drop at t i 0
+
+-- ---- the wires from a first one on
+
+module _ (t : List ℕ) (first count : ℕ) where
+  abbrev pub wiresFrom : List Wire
+  wiresFrom = map (wireAt t) (upFrom first count)
+
+  pub wires-length : length wiresFrom ≡ count
+  wires-length = length-map (upFrom first count) (wireAt t) ∙ length-upFrom first count
+
+  pub wires-next : (n : ℕ) → n < count → drop n wiresFrom ≡ wireAt t (first + n) ∷ drop (n + 1) wiresFrom
+  wires-next n h =
+      rw (add-one n)
+      (drop-cons wiresFrom n (wireAt t 0) (rw wires-length h)
+      ∙ ap (λ (w : Wire). w ∷ drop (suc n) wiresFrom) (List·getD-map (wireAt t) (upFrom first count) n 0 ∙ ap (wireAt t) (getD-upFrom first count n 0 h)))
+
+  pub wires-end : (n : ℕ) → count ≤ n → drop n wiresFrom ≡ []
+  wires-end n h = drop-of-length-le wiresFrom {i = n} (rw wires-length h)
+
+  -- a loop's turn over the wires: wire n decides, or the rest does
+  module _ (r n : ℕ) where
+    pub wires-fail : n < count → validWire r n (wireAt t (first + n)) ≡ false → validWires r n (drop n wiresFrom) ≡ false
+    unfolding validWires
+    wires-fail h e = rw (wires-next n h, e)
+
+    pub wires-pass : n < count → validWire r n (wireAt t (first + n)) ≡ true → validWires r n (drop n wiresFrom) ≡ validWires r (n + 1) (drop (n + 1) wiresFrom)
+    unfolding validWires
+    wires-pass h e = ap (validWires r n) (wires-next n h) ∙ rw (e, add-one n)
+
+    pub wires-pass-all : count ≤ n → validWires r n (drop n wiresFrom) ≡ true
+    unfolding validWires
+    wires-pass-all h = rw (wires-end n h)

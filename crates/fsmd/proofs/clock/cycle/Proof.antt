@@ -1,0 +1,55 @@
+-- `fsmd::clock::cycle` meets its contract: registers, wires, next state and next registers, in that order. Assumes nothing.
+use Prim.Native.Nat.{ℕ, _+_}
+use native.Mathlib.Omega.{arith}
+use mathlib.Core.List.{List}
+use mathlib.Core.Path.{_≡_, ap, _∙_}
+use lib.ListN.{length, take, drop, length-append, length-drop}
+use lib.Seq.{take-at}
+use denote.Ref.{now}
+use borrow.Author.Needs.{needs}
+use Rattle.fsmd.specs.Machine.{worked}
+use Rattle.fsmd.proofs.Environment.{clocked}
+use Rattle.fsmd.proofs.Windows.{wiresFrom}
+use Rattle.fsmd.proofs.clock.cycle.Statement.{statement}
+use Rattle.fsmd.proofs.clock.cycle.Tie as tie
+
+returns : tie.Need-returns
+returns c =
+    let b = c .before .before .before .before .before .before .before .before .before in
+    let l = b .before .before .before .before .before in
+    let s = l .before .before .before .before .before .before in
+    let a = s .args in
+    let t = now (a .table) in
+    let rs = a .registers .words in
+    let ws = now (a .words) in
+    let f = b .before .first-wire in
+    let n = l .before .before .wire-count in
+    let p = l .before .before .before .«record» in
+    let m = c .before .wide in
+    let h : length rs ≡ 16 = omega (arith, s .pre .1, l .store .kept .0, ap length (l .store .ensures), length-append rs (drop 16 ws), length-drop 16 ws) in
+    clocked t (a .k) (f .result) (n .result) (p .result) (m .result) (f .ensures .0) (n .ensures .0) (p .ensures) (m .ensures .0) rs
+    (take (16 + n .result) (b .work .last .0)) (c .taken .result .words) (c .before .before .before .before .read .result)
+    (b .work .ensures ∙ ap (λ (v : List ℕ). worked v (wiresFrom t (f .result) (n .result))) (ap (take 16) (l .store .ensures) ∙ take-at rs (drop 16 ws) 16 h))
+    (c .before .before .before .before .read .ensures)
+    (c .taken .ensures)
+
+pub cycle-spec : {M : Type 1} → statement M
+cycle-spec =
+    tie.close
+    (tie.spec
+    (λ c κs. search needs)
+    (λ c κs. search needs)
+    (λ c. search needs)
+    (λ c κs. search needs)
+    (λ c κs. search needs)
+    (λ c κs. search needs)
+    (λ c. search needs)
+    (λ c. search needs)
+    (λ c. search needs)
+    (λ c κs. search needs)
+    (λ c. search needs)
+    (λ c. search needs)
+    (λ c κs. search needs)
+    (λ c κs. search needs)
+    (λ c. search needs)
+    returns)

@@ -1,0 +1,107 @@
+-- `fsmd::run::run` meets its contract: the configuration so far is reached after `count` cycles. Assumes nothing.
+use Prim.Native.Nat.{ℕ, _+_, _-_, _<_}
+use native.Mathlib.Omega.{arith}
+use mathlib.Core.Path.{_≡_, refl, sym, ap, _∙_, subst}
+use lib.ListN.{length, getD, length-replicate}
+use denote.Ref.{now}
+use borrow.Author.Needs.{needs}
+use Rattle.runs.proofs.RunLaws.{Reached, reached-start, reached-spent, registers-spent, reached-halted, registers-halted}
+use Rattle.runs.specs.Runs.{Configuration, startAt}
+use Rattle.fsmd.specs.Clock.{after}
+use Rattle.fsmd.specs.Machine.{clock, cycle}
+use Rattle.fsmd.specs.Table.{machineOf, stateAt}
+use Rattle.fsmd.proofs.Machines.{admitted-facts}
+use Rattle.fsmd.proofs.Steps.{cycle-stays, cycle-step, after-standing, after-halted}
+use Rattle.fsmd.proofs.run.run.Statement.{statement}
+use Rattle.fsmd.proofs.run.run.Tie as tie
+
+abbrev Inv-loop : tie.InvT-loop
+Inv-loop table start budget states words₀ file₀ state₀ count₀ words file state count =
+    (state < getD table 0 0)
+    × (length words ≡ 3088)
+    × Reached (cycle (machineOf table)) budget (startAt start (file₀ .words)) count (startAt state (file .words))
+
+abbrev μ-loop : tie.MeasureT-loop
+μ-loop table start budget states words₀ file₀ state₀ count₀ words file state count = budget - count
+
+loop-holds : tie.Need-loop-holds Inv-loop μ-loop
+loop-holds c =
+    let a = c .before .before .args in (
+      c .before .before .pre .1 .1,
+      length-replicate {A = ℕ} 3088 0,
+      reached-start (cycle (machineOf (now (a .table)))) (a .budget) (startAt (a .start) (a .registers .words)),
+    )
+
+cycle-requires : tie.Need-cycle-requires Inv-loop μ-loop
+cycle-requires c κs =
+    let b = c .before .before .before in
+    let s = b .before .before .before in
+    let w = c .before .wide in
+    let m = admitted-facts (now (s .args .table)) (s .pre .1 .0) in
+    let h : w .result < getD (now (s .args .table)) 0 0 = omega arith in (
+      record {
+        whole = s .pre .0;
+        state = omega arith;
+        wires = m .in-space (w .result) h;
+        registers = m .few-registers;
+      },
+      b .loop .inv .1,
+    )
+
+returns : tie.Need-returns Inv-loop μ-loop
+returns c =
+    let b = c .before .before .before .before .before .before .before in
+    let a = b .before .before .before .args in
+    let t = now (a .table) in
+    let m = cycle (machineOf t) in
+    let c₀ = startAt (a .start) (a .registers .words) in
+    let r = c .before .before .before .cycle .result in
+    let e = c .before .before .before .cycle .ensures ∙ ap (λ (k : ℕ). clock (machineOf t) (stateAt t k) (b .loop .file .words)) (c .before .before .before .before .before .wide .ensures .0) in
+    let s = cycle-step t r (a .budget) c₀ (b .loop .count) (b .loop .state) (b .loop .file .words) (b .loop .inv .2) (b .loop .inv .0) (c .before .before .before .before .before .before .loop-test .taken) e in
+    let h = after-halted t r (c .if1 .taken) in
+    (sym (reached-halted m (a .budget) c₀ (b .loop .count + 1) (after t r) s (cycle-stays (machineOf t)) h), sym (registers-halted m (a .budget) c₀ (b .loop .count + 1) (after t r) s (cycle-stays (machineOf t)) h))
+
+loop-less : tie.Need-loop-less Inv-loop μ-loop
+loop-less c = omega arith
+
+loop-again : tie.Need-loop-again Inv-loop μ-loop
+loop-again c =
+    let b = c .before .before .before .before .before .before .before in
+    let a = b .before .before .before .args in
+    let t = now (a .table) in
+    let m = cycle (machineOf t) in
+    let c₀ = startAt (a .start) (a .registers .words) in
+    let r = c .before .before .before .cycle .result in
+    let e = c .before .before .before .cycle .ensures ∙ ap (λ (k : ℕ). clock (machineOf t) (stateAt t k) (b .loop .file .words)) (c .before .before .before .before .before .wide .ensures .0) in
+    let s = cycle-step t r (a .budget) c₀ (b .loop .count) (b .loop .state) (b .loop .file .words) (b .loop .inv .2) (b .loop .inv .0) (c .before .before .before .before .before .before .loop-test .taken) e in (
+      c .if1 .left,
+      search needs,
+      subst (λ (x : Configuration). Reached m (a .budget) c₀ (b .loop .count + 1) x) (after-standing t r (c .if1 .left)) s,
+    )
+
+returns-2 : tie.Need-returns-2 Inv-loop μ-loop
+returns-2 c =
+    let b = c .before in
+    let a = b .before .before .before .args in
+    let t = now (a .table) in
+    let m = cycle (machineOf t) in
+    let c₀ = startAt (a .start) (a .registers .words) in
+    let x = startAt (b .loop .state) (b .loop .file .words) in
+    (sym (reached-spent m (a .budget) c₀ (b .loop .count) x (b .loop .inv .2) (b .loop .state) refl (c .loop-test .left)), sym (registers-spent m (a .budget) c₀ (b .loop .count) x (b .loop .inv .2) (c .loop-test .left)))
+
+pub run-spec : {M : Type 1} → statement M
+run-spec =
+    tie.close
+    (tie.spec
+    Inv-loop
+    μ-loop
+    (λ c. search needs)
+    loop-holds
+    (λ c κs. search needs)
+    (λ c. search needs)
+    cycle-requires
+    (λ c. search needs)
+    returns
+    loop-less
+    loop-again
+    returns-2)

@@ -1,0 +1,20 @@
+-- What the code's cycle asks of a table, and what it hands back. Assumes nothing.
+use Prim.Native.Nat.{ℕ, _+_, _≤_, _<_}
+use mathlib.Core.List.{List}
+use lib.ListN.{length, getD}
+use Rattle.runs.specs.Runs.{Configuration}
+use Rattle.fsmd.specs.declared.clock.Next.{Next}
+use Rattle.fsmd.specs.Layout.{maxStates, maxRegisters, maxWires, machineWords}
+use Rattle.fsmd.specs.Machine.{toState}
+use Rattle.fsmd.specs.Table.{firstWireAt, wireCountAt}
+
+-- the table is whole, and state k's record and wires lie in it
+pub record Ready (t : List ℕ) (k : ℕ) : Type 0 where
+  pub whole : machineWords ≤ length t
+  pub state : k < maxStates
+  pub wires : firstWireAt t k + wireCountAt t k ≤ maxWires
+  pub registers : getD t 1 0 ≤ maxRegisters
+
+-- the configuration that a cycle hands back
+abbrev pub after : List ℕ → Next → Configuration
+after t r = record { place = toState (getD t 0 0) (r .state); registers = r .registers .words }

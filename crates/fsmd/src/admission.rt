@@ -1,0 +1,258 @@
+// Which machine tables are admitted: the conditions of refusal 10.
+ghost use mathlib.Core.Path.{_≡_};
+ghost use mathlib.Core.Bool.{true, _||_};
+ghost use lib.Dec.{eqb, ltb};
+ghost use mathlib.Core.List.{map};
+ghost use Prim.Native.Nat.{ℕ, _+_, _<_, _≤_};
+ghost use lib.ListN.{length, getD, take, drop};
+ghost use Rattle.word.specs.Word.{arity as arityOf};
+ghost use Rattle.runs.specs.Lists.{upFrom, every};
+ghost use Rattle.fsmd.specs.Layout.{machineWords, maxStates, maxRegisters, maxWires};
+ghost use Rattle.fsmd.specs.Table.{wireAt, stateAt, firstWireAt, wireCountAt, validReference, validWire, validWires, validState, within as withinOf, apart as apartOf, admitted as admittedOf};
+use super::Machine;
+use super::Wire;
+use super::table::first_wire;
+use super::table::record;
+use super::table::wide;
+use super::table::wire;
+use super::table::wire_count;
+
+// How many operands a code reads; a code that is none reads none.
+pub fn arity(code: u32) -> u32
+    ensures { λ r. ⌜ r ≡ arityOf code ⌝ }
+{
+    let i = wide(code);
+    if i < Wire::CODES { Wire::ARITIES[i] } else { 0 }
+}
+
+// A reference is one of the registers, or one of the first n wires of the state.
+fn valid_reference(registers: usize, n: usize, x: u32) -> bool
+    ensures { λ v. ⌜ v ≡ validReference registers n x ⌝ }
+{
+    let i = wide(x);
+    if i < registers {
+        return true;
+    }
+    if i < Machine::REGISTERS {
+        return false;
+    }
+    i - Machine::REGISTERS < n
+}
+
+// Operand a of wire n: a set's is its literal and no reference.
+fn valid_first(registers: usize, n: usize, code: u32, x: u32) -> bool
+    ensures { λ v. ⌜ v ≡ (eqb code 1 || validReference registers n x) ⌝ }
+{
+    if code == Wire::SET {
+        true
+    } else {
+        valid_reference(registers, n, x)
+    }
+}
+
+// Operand number `place` of wire n, where the code reads that many.
+fn valid_operand(registers: usize, n: usize, reads: u32, place: u32, x: u32) -> bool
+    ensures { λ v. ⌜ v ≡ (ltb reads place || validReference registers n x) ⌝ }
+{
+    if reads < place {
+        true
+    } else {
+        valid_reference(registers, n, x)
+    }
+}
+
+// Wire n of its state has a known code, and the operands that the code reads are registers or earlier wires.
+fn valid_wire(registers: usize, n: usize, w: Wire) -> bool
+    ensures { λ v. ⌜ v ≡ validWire registers n w ⌝ }
+{
+    let code = w.code;
+    if code < Wire::SET {
+        return false;
+    }
+    if Wire::LAST < code {
+        return false;
+    }
+    let reads = arity(code);
+    if !valid_first(registers, n, code, w.a) {
+        return false;
+    }
+    if !valid_operand(registers, n, reads, 2, w.b) {
+        return false;
+    }
+    valid_operand(registers, n, reads, 3, w.c)
+}
+
+fn valid_wires(table: &[u32], registers: usize, first: usize, count: usize) -> bool
+    requires { ⌜ machineWords ≤ length (now table) ⌝ }
+    requires { ⌜ first + count ≤ maxWires ⌝ }
+    ensures { λ v. ⌜ v ≡ validWires registers 0 (map (wireAt (now (table .entry))) (upFrom first count)) ⌝ }
+{
+    let mut n = 0;
+    while n < count {
+        if !valid_wire(registers, n, wire(table, first + n)) {
+            return false;
+        }
+        n += 1;
+    }
+    true
+}
+
+// The next references from `at` on, one for each register.
+fn valid_next(table: &[u32], registers: usize, n: usize, at: usize) -> bool
+    requires { ⌜ at + registers ≤ length (now table) ⌝ }
+    ensures { λ v. ⌜ v ≡ every (validReference registers n) (take registers (drop at (now (table .entry)))) ⌝ }
+{
+    let mut i = 0;
+    while i < registers {
+        if !valid_reference(registers, n, table[at + i]) {
+            return false;
+        }
+        i += 1;
+    }
+    true
+}
+
+// The wires and next references of state k.
+fn valid_state(table: &[u32], registers: usize, k: usize) -> bool
+    requires { ⌜ machineWords ≤ length (now table) ⌝ }
+    requires { ⌜ k < maxStates ⌝ }
+    requires { ⌜ firstWireAt (now table) k + wireCountAt (now table) k ≤ maxWires ⌝ }
+    requires { ⌜ registers ≡ getD (now table) 1 0 ⌝ }
+    requires { ⌜ registers ≤ maxRegisters ⌝ }
+    ensures { λ v. ⌜ v ≡ validState registers (stateAt (now (table .entry)) k) ⌝ }
+{
+    let at = record(k);
+    let first = first_wire(table, k);
+    let count = wire_count(table, k);
+    if !valid_wires(table, registers, first, count) {
+        return false;
+    }
+    if !valid_reference(registers, count, table[at + Machine::NEXT_STATE]) {
+        return false;
+    }
+    valid_next(table, registers, count, at + Machine::NEXT_REGISTERS)
+}
+
+// The wires of state k end within those of the machine.
+fn within(table: &[u32], k: usize) -> bool
+    requires { ⌜ machineWords ≤ length (now table) ⌝ }
+    requires { ⌜ k < maxStates ⌝ }
+    ensures { λ v. ⌜ v ≡ withinOf (now (table .entry)) k ⌝ }
+{
+    first_wire(table, k) + wire_count(table, k) <= Machine::WIRES
+}
+
+// States j and k share no wire.
+fn apart(table: &[u32], j: usize, k: usize) -> bool
+    requires { ⌜ machineWords ≤ length (now table) ⌝ }
+    requires { ⌜ j < maxStates ⌝ }
+    requires { ⌜ k < maxStates ⌝ }
+    ensures { λ v. ⌜ v ≡ apartOf (now (table .entry)) j k ⌝ }
+{
+    let first = first_wire(table, j);
+    let count = wire_count(table, j);
+    let other = first_wire(table, k);
+    let others = wire_count(table, k);
+    if count == 0 {
+        return true;
+    }
+    if others == 0 {
+        return true;
+    }
+    if first + count <= other {
+        return true;
+    }
+    other + others <= first
+}
+
+fn all_within(table: &[u32], states: usize) -> bool
+    requires { ⌜ machineWords ≤ length (now table) ⌝ }
+    requires { ⌜ states ≤ maxStates ⌝ }
+    ensures { λ v. ⌜ v ≡ every (withinOf (now (table .entry))) (upFrom 0 states) ⌝ }
+{
+    let mut k = 0;
+    while k < states {
+        if !within(table, k) {
+            return false;
+        }
+        k += 1;
+    }
+    true
+}
+
+// State k shares no wire with an earlier one.
+fn apart_from_earlier(table: &[u32], k: usize) -> bool
+    requires { ⌜ machineWords ≤ length (now table) ⌝ }
+    requires { ⌜ k < maxStates ⌝ }
+    ensures { λ v. ⌜ v ≡ every (λ j. apartOf (now (table .entry)) j k) (upFrom 0 k) ⌝ }
+{
+    let mut j = 0;
+    while j < k {
+        if !apart(table, j, k) {
+            return false;
+        }
+        j += 1;
+    }
+    true
+}
+
+fn all_apart(table: &[u32], states: usize) -> bool
+    requires { ⌜ machineWords ≤ length (now table) ⌝ }
+    requires { ⌜ states ≤ maxStates ⌝ }
+    ensures { λ v. ⌜ v ≡ every (λ k. every (λ j. apartOf (now (table .entry)) j k) (upFrom 0 k)) (upFrom 0 states) ⌝ }
+{
+    let mut k = 0;
+    while k < states {
+        if !apart_from_earlier(table, k) {
+            return false;
+        }
+        k += 1;
+    }
+    true
+}
+
+fn all_valid(table: &[u32], registers: usize, states: usize) -> bool
+    requires { ⌜ machineWords ≤ length (now table) ⌝ }
+    requires { ⌜ states ≤ maxStates ⌝ }
+    requires { ⌜ every (withinOf (now table)) (upFrom 0 states) ≡ true ⌝ }
+    requires { ⌜ registers ≡ getD (now table) 1 0 ⌝ }
+    requires { ⌜ registers ≤ maxRegisters ⌝ }
+    ensures { λ v. ⌜ v ≡ every (λ k. validState registers (stateAt (now (table .entry)) k)) (upFrom 0 states) ⌝ }
+{
+    let mut k = 0;
+    while k < states {
+        if !valid_state(table, registers, k) {
+            return false;
+        }
+        k += 1;
+    }
+    true
+}
+
+// The conditions in the order of refusal 10; each is tested only where those before it hold.
+pub fn admitted(table: &[u32]) -> bool
+    requires { ⌜ machineWords ≤ length (now table) ⌝ }
+    ensures { λ v. ⌜ v ≡ admittedOf (now (table .entry)) ⌝ }
+{
+    let states = wide(table[0]);
+    let registers = wide(table[1]);
+    if states < 1 {
+        return false;
+    }
+    if Machine::STATES < states {
+        return false;
+    }
+    if registers < 1 {
+        return false;
+    }
+    if Machine::REGISTERS < registers {
+        return false;
+    }
+    if !all_within(table, states) {
+        return false;
+    }
+    if !all_apart(table, states) {
+        return false;
+    }
+    all_valid(table, registers, states)
+}

@@ -1,0 +1,125 @@
+// One cycle of a machine: the state's wires in order, then the next state and all next registers at once.
+ghost use mathlib.Core.Path.{_≡_};
+ghost use mathlib.Core.List.{map, _++_};
+ghost use Prim.Native.Nat.{ℕ, _+_, _<_, _≤_};
+ghost use lib.ListN.{length, getD, take, drop};
+ghost use Rattle.word.specs.Word.{choose};
+ghost use Rattle.runs.specs.Lists.{upFrom};
+ghost use lib.Dec.{eqb};
+ghost use Rattle.fsmd.specs.Layout.{machineWords, maxStates, maxRegisters, maxWires};
+ghost use Rattle.fsmd.specs.Machine.{wireValue, worked, clock};
+ghost use Rattle.fsmd.specs.Table.{wireAt, stateAt, firstWireAt, wireCountAt, machineOf};
+ghost use Rattle.fsmd.specs.Clock.{Ready, after};
+use super::Machine;
+use super::Wire;
+use super::table::first_wire;
+use super::table::record;
+use super::table::wide;
+use super::table::wire;
+use super::table::wire_count;
+use word::Registers;
+
+// What a cycle gives: the registers, and the word of the next state.
+pub struct Next {
+    pub registers: Registers,
+    pub state: u32,
+}
+
+// What reference x reads among the first n words; past them 0, which an admitted machine never reads.
+fn read(words: &[u32], n: usize, x: u32) -> u32
+    requires { ⌜ n ≤ length (now words) ⌝ }
+    ensures { λ v. ⌜ v ≡ getD (take n (now (words .entry))) x 0 ⌝ }
+{
+    let i = wide(x);
+    if i < n { words[i] } else { 0 }
+}
+
+// The first operand of a wire: a set's is its literal.
+fn operand(words: &[u32], n: usize, w: Wire) -> u32
+    requires { ⌜ n ≤ length (now words) ⌝ }
+    ensures { λ v. ⌜ v ≡ choose (eqb (w .code) 1) (w .a) (getD (take n (now (words .entry))) (w .a) 0) ⌝ }
+{
+    if w.code == Wire::SET {
+        w.a
+    } else {
+        read(words, n, w.a)
+    }
+}
+
+// The word of a wire before which n words stand.
+fn value(words: &[u32], n: usize, w: Wire) -> u32
+    requires { ⌜ n ≤ length (now words) ⌝ }
+    ensures { λ v. ⌜ v ≡ wireValue (λ x. getD (take n (now (words .entry))) x 0) w ⌝ }
+{
+    word::eval(
+        w.code,
+        operand(words, n, w),
+        read(words, n, w.b),
+        read(words, n, w.c),
+    )
+}
+
+// The wires in order, after the sixteen registers.
+fn work(words: &mut [u32], table: &[u32], first: usize, count: usize)
+    requires { ⌜ machineWords ≤ length (now table) ⌝ }
+    requires { ⌜ first + count ≤ maxWires ⌝ }
+    requires { ⌜ length (now words) ≡ maxRegisters + maxWires ⌝ }
+    ensures { λ _. ⌜ take (maxRegisters + count) (now (words .exit)) ≡ worked (take maxRegisters (now (words .entry))) (map (wireAt (now (table .entry))) (upFrom first count)) ⌝ }
+{
+    let mut n = 0;
+    while n < count {
+        let at = Machine::REGISTERS + n;
+        let v = value(words, at, wire(table, first + n));
+        words[at] = v;
+        n += 1;
+    }
+}
+
+// The next registers, by the references from `at` on: the first `count` are taken, the others keep their words.
+fn taken(
+    words: &[u32],
+    n: usize,
+    table: &[u32],
+    at: usize,
+    count: usize,
+    registers: Registers,
+) -> Registers
+    requires { ⌜ n ≤ length (now words) ⌝ }
+    requires { ⌜ at + count ≤ length (now table) ⌝ }
+    requires { ⌜ count ≤ maxRegisters ⌝ }
+    ensures { λ r. ⌜ r .words ≡ map (λ x. getD (take n (now (words .entry))) x 0) (take count (drop at (now (table .entry)))) ++ drop count (registers .words) ⌝ }
+{
+    let mut next = registers;
+    let mut i = 0;
+    while i < count {
+        next.words[i] = read(words, n, table[at + i]);
+        i += 1;
+    }
+    next
+}
+
+// One cycle of state k. `words` is room for what references read.
+pub fn cycle(table: &[u32], k: usize, registers: Registers, words: &mut [u32]) -> Next
+    requires { ⌜ Ready (now table) k ⌝ }
+    requires { ⌜ length (now words) ≡ maxRegisters + maxWires ⌝ }
+    ensures { λ r. ⌜ after (now (table .entry)) r ≡ clock (machineOf (now (table .entry))) (stateAt (now (table .entry)) k) (registers .words) ⌝ }
+{
+    let at = record(k);
+    let count = wire_count(table, k);
+    let n = Machine::REGISTERS + count;
+    runs::store(words, registers);
+    work(words, table, first_wire(table, k), count);
+    let state = read(words, n, table[at + Machine::NEXT_STATE]);
+    let next = taken(
+        words,
+        n,
+        table,
+        at + Machine::NEXT_REGISTERS,
+        wide(table[1]),
+        registers,
+    );
+    Next {
+        registers: next,
+        state: state,
+    }
+}

@@ -1,0 +1,79 @@
+// A run with a budget: refusals first, then cycles until the machine halts or the budget is used.
+ghost use mathlib.Core.Path.{_≡_};
+ghost use mathlib.Core.Bool.{true};
+ghost use Prim.Native.Nat.{_<_, _≤_};
+ghost use lib.ListN.{length, getD};
+ghost use Rattle.runs.specs.Runs.{startAt, answer, registersAfter};
+ghost use Rattle.fsmd.specs.Layout.{machineWords};
+ghost use Rattle.fsmd.specs.Machine.{cycle as cycleOf};
+ghost use Rattle.fsmd.specs.Table.{machineOf, admitted as admittedOf};
+ghost use Rattle.fsmd.specs.Run.{runAnswer, runRegisters};
+use super::Machine;
+use super::admission::admitted;
+use super::clock::cycle;
+use super::table::wide;
+use runs::RunAnswer;
+use word::Registers;
+
+// What a run gives: the registers that it leaves, and its answer.
+pub struct Ran {
+    pub registers: Registers,
+    pub answer: RunAnswer,
+}
+
+// The cycles of an admitted machine from a state that it has.
+pub fn run(table: &[u32], registers: Registers, start: u32, budget: u32) -> Ran
+    requires { ⌜ machineWords ≤ length (now table) ⌝ }
+    requires { ⌜ admittedOf (now table) ≡ true ⌝ }
+    requires { ⌜ start < getD (now table) 0 0 ⌝ }
+    ensures { λ r. ⌜ r .answer ≡ answer (cycleOf (machineOf (now (table .entry)))) budget (startAt start (registers .words)) ⌝ }
+    ensures { λ r. ⌜ r .registers .words ≡ registersAfter (cycleOf (machineOf (now (table .entry)))) budget (startAt start (registers .words)) ⌝ }
+{
+    let states = table[0];
+    let mut words = [0u32; Machine::REFERENCES];
+    let mut file = registers;
+    let mut state = start;
+    let mut count: u32 = 0;
+    while count < budget {
+        let next = cycle(table, wide(state), file, &mut words);
+        file = next.registers;
+        state = next.state;
+        count += 1;
+        if states <= state {
+            return Ran {
+                registers: file,
+                answer: RunAnswer::Halted(count),
+            };
+        }
+    }
+    Ran {
+        registers: file,
+        answer: RunAnswer::Spent(count, state),
+    }
+}
+
+// "Run machine": the answer, and the registers left in the first sixteen words of the buffer.
+pub fn run_machine(table: &[u32], registers: &mut [u32], start: u32, budget: u32) -> RunAnswer
+    ensures { λ r. ⌜ r ≡ runAnswer (now (table .entry)) (now (registers .entry)) start budget ⌝ }
+    ensures { λ _. ⌜ now (registers .exit) ≡ runRegisters (now (table .entry)) (now (registers .entry)) start budget ⌝ }
+{
+    // The refusals of paper 01, in its order: 7 short tables, 10 not admitted, 9 no such start.
+    if table.len() < Machine::WORDS {
+        return RunAnswer::Refused(7);
+    }
+    if registers.len() < Machine::REGISTERS {
+        return RunAnswer::Refused(7);
+    }
+    if !admitted(table) {
+        return RunAnswer::Refused(10);
+    }
+    let states = table[0];
+    if states <= start {
+        return RunAnswer::Refused(9);
+    }
+    let ran = run(table, runs::load(registers), start, budget);
+    let left = ran.registers;
+    let answer = ran.answer;
+    runs::store(registers, left);
+    answer
+}

@@ -1,0 +1,56 @@
+// Words of a machine table: its wires and the records of its states.
+ghost use mathlib.Core.Path.{_≡_};
+ghost use Prim.Native.Nat.{_+_, _<_, _≤_, _^_};
+ghost use lib.ListN.{length, getD};
+ghost use Rattle.fsmd.specs.Layout.{machineWords, maxStates, maxWires, recordOffset};
+ghost use Rattle.fsmd.specs.Table.{wireAt, firstWireAt, wireCountAt};
+use super::Machine;
+use super::Wire;
+
+// A word as an index.
+pub fn wide(x: u32) -> usize
+    ensures { λ r. ⌜ (r ≡ x) × (r < 2 ^ 32) ⌝ }
+{
+    x as usize
+}
+
+// Wire i of the whole machine.
+pub fn wire(table: &[u32], i: usize) -> Wire
+    requires { ⌜ machineWords ≤ length (now table) ⌝ }
+    requires { ⌜ i < maxWires ⌝ }
+    ensures { λ w. ⌜ w ≡ wireAt (now (table .entry)) i ⌝ }
+{
+    let at = Machine::WIRE_WORDS + Wire::WORDS * i;
+    Wire {
+        code: table[at],
+        a: table[at + 1],
+        b: table[at + 2],
+        c: table[at + 3],
+    }
+}
+
+// Where the record of state k begins.
+pub fn record(k: usize) -> usize
+    requires { ⌜ k < maxStates ⌝ }
+    ensures { λ r. ⌜ r ≡ recordOffset k ⌝ }
+{
+    Machine::RECORDS + Machine::RECORD * k
+}
+
+// The first wire of state k, counted from the start of the machine's wires.
+pub fn first_wire(table: &[u32], k: usize) -> usize
+    requires { ⌜ machineWords ≤ length (now table) ⌝ }
+    requires { ⌜ k < maxStates ⌝ }
+    ensures { λ r. ⌜ (r ≡ firstWireAt (now (table .entry)) k) × (r < 2 ^ 32) ⌝ }
+{
+    wide(table[record(k)])
+}
+
+// How many wires state k has.
+pub fn wire_count(table: &[u32], k: usize) -> usize
+    requires { ⌜ machineWords ≤ length (now table) ⌝ }
+    requires { ⌜ k < maxStates ⌝ }
+    ensures { λ r. ⌜ (r ≡ wireCountAt (now (table .entry)) k) × (r < 2 ^ 32) ⌝ }
+{
+    wide(table[record(k) + 1])
+}

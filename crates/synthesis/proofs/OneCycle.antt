@@ -1,0 +1,214 @@
+-- One cycle of a state: its references read what the graph's run from the state's starter comes to at its first step that moves to a starter or halts.
+-- A token walks the edges as the blocks are placed: it is on the one that is taken. Assumes nothing.
+use Prim.Native.Nat.{ℕ, suc, _+_, _≤_}
+use native.Mathlib.Omega.{arith}
+use native.Mathlib.Nat.{add-zero, add-suc, suc-add}
+use mathlib.Core.Path.{_≡_, refl, ap}
+use mathlib.Core.Logic.{_⊎_, inl, inr}
+use mathlib.Core.Bool.{Bool, true, false, not}
+use mathlib.Core.List.{List, [], _∷_}
+use lib.ListN.{length, drop}
+use borrow.Author.Tests.{eqb-true}
+use Rattle.word.specs.Word.{choose}
+use Rattle.runs.specs.Lists.{mem}
+use Rattle.runs.specs.Runs.{Place, standing, halted, Configuration}
+use Rattle.cfg.specs.declared.Ending.{Ending}
+use Rattle.cfg.specs.declared.Ending.the-variants.{Goto, Ite, Halt}
+use Rattle.cfg.specs.Graph.{CFG, blockOf, codeOf, targets, successors, executeAll, holds, leave, runBlock}
+use Rattle.fsmd.specs.Machine.{State, worked}
+use Rattle.grouping.specs.Grouping.{Groups}
+use Rattle.synthesis.specs.Placement.{order}
+use Rattle.synthesis.specs.Wires.{towards, leadsTo, Build, arrive, start, enter, after, put, build, leaves, nextStateOf, closeState, stateOf}
+use Rattle.synthesis.proofs.GraphFacts.{GraphFits}
+use Rattle.synthesis.proofs.StateOrder.{Ahead, Ordered, StateOrder}
+use Rattle.synthesis.proofs.Readings.{Reads, start-reads}
+use Rattle.synthesis.proofs.TakenEdges.{OneTaken, none-grow, one-grow, one-towards, one-away, arrive-grow, arrive-none, arrive-one}
+use Rattle.synthesis.proofs.TakenEdges.{blockMade, made-reached, made-passed, close-state-one}
+
+-- The graph's run from block b with registers r: in j steps it comes to c, and no step but the last moves to one of the blocks st.
+pub data Trace (g : CFG) (st : List ℕ) (b : ℕ) (r : List ℕ) : ℕ → Configuration → Type 0 where
+  first : {c : Configuration} → c ≡ runBlock (blockOf g b) r → Trace g st b r 1 c
+  next : {j : ℕ} {c c′ : Configuration} → Trace g st b r j c → (x : ℕ) → c .place ≡ standing x → mem x st ≡ false
+      → c′ ≡ runBlock (blockOf g x) (c .registers) → Trace g st b r (suc j) c′
+
+-- ---- where the blocks still to place are come to
+
+-- a place that is a starter, among xs, or halted
+abbrev Towards : List ℕ → List ℕ → Place → Type 0
+Towards st xs (standing v) = (mem v st ≡ true) ⊎ (mem v xs ≡ true)
+Towards st xs halted = Unit {0}
+
+never : {P : Type 0} → _≡_ {A = Bool} false true → P
+never h = absurd (let z : _≡_ {A = ℕ} 0 1 = cc in omega arith)
+
+leads-to : (x : ℕ) (p : Place) → leadsTo x p ≡ true → p ≡ standing x
+leads-to x (standing y) h = ap standing (eqb-true y x h)
+leads-to x halted h = never h
+
+towards-next : (st xs : List ℕ) (x : ℕ) (p : Place) → Towards st (x ∷ xs) p → leadsTo x p ≡ false → Towards st xs p
+towards-next st xs x (standing y) (inl e) h = inl e
+towards-next st xs x (standing y) (inr e) h = inr (rw h at e)
+towards-next st xs x halted b h = tt
+
+towards-choice : (b : Bool) (st xs : List ℕ) (t f : ℕ) → Ahead st xs (t ∷ f ∷ []) → Towards st xs (standing (choose b t f))
+towards-choice true st xs t f a = a .0
+towards-choice false st xs t f a = a .1 .0
+
+towards-leave : (st xs : List ℕ) (e : Ending) (q : List ℕ) → Ahead st xs (targets e) → Towards st xs (leave e q)
+unfolding leave
+towards-leave st xs (Goto t) q a = a .0
+towards-leave st xs (Ite c t f) q a = towards-choice (holds c q) st xs t f a
+towards-leave st xs Halt q a = tt
+
+towards-none : (s : Groups) (p : Place) → Towards (s .starters) [] p → leaves s p ≡ true
+towards-none s (standing y) (inl e) = e
+towards-none s (standing y) (inr e) = never e
+towards-none s halted b = refl
+
+-- ---- the token
+
+module _ (g : CFG) (s : Groups) (rs : List ℕ) (b₀ : ℕ) where
+  -- the blocks xs are still to place, and at most n are placed: the taken edge leads to `reached`, where the graph's run comes in `steps` steps
+  pub record Token (xs : List ℕ) (b : Build) (n : ℕ) : Type 0 where
+    pub reached : Configuration
+    pub steps : ℕ
+    pub taken : OneTaken (g .registers) (drop (g .registers) rs) (worked rs (b .wires)) reached (b .edges)
+    pub onward : Towards (s .starters) xs (reached .place)
+    pub trace : Trace g (s .starters) b₀ rs steps reached
+    pub some : 1 ≤ steps
+    pub few : steps ≤ n
+
+module _ (g : CFG) (s : Groups) where
+  put-inner : (x : ℕ) (b : Build) → mem x (s .starters) ≡ false
+      → put g s x b
+      ≡ after (towards (λ p. not (leadsTo x p)) (b .edges)) (blockMade (blockOf g x) (arrive (g .registers) (towards (leadsTo x) (b .edges)) (b .wires)))
+  unfolding put enter
+  put-inner x b h = rw h
+
+  put-starter : (x : ℕ) (b : Build) → mem x (s .starters) ≡ true
+      → put g s x b ≡ after (towards (λ p. not (leadsTo x p)) (b .edges)) (blockMade (blockOf g x) (start (g .registers) (b .wires)))
+  unfolding put enter
+  put-starter x b h = rw h
+
+abbrev none-built : Build
+none-built = record { wires = []; edges = [] }
+
+module _ (g : CFG) (s : Groups) (rs : List ℕ) (size : length rs ≡ 16) (f : GraphFits g) (b₀ : ℕ) where
+  first-token : (xs : List ℕ) → mem b₀ (s .starters) ≡ true → Ahead (s .starters) xs (successors g b₀) → Token g s rs b₀ xs (put g s b₀ none-built) 1
+  unfolding start runBlock
+  first-token xs h a =
+      let R = g .registers in
+      rw (put-starter g s b₀ none-built h) (record {
+        reached = runBlock (blockOf g b₀) rs;
+        steps = 1;
+        taken = made-reached rs size R (blockOf g b₀) (f .block b₀) (start R []) rs [] (start-reads rs size R [] 1 (f .fewRegisters)) tt;
+        onward = towards-leave (s .starters) xs (blockOf g b₀ .ending) (executeAll (codeOf (blockOf g b₀)) rs) a;
+        trace = first refl;
+        some = omega arith;
+        few = omega arith;
+      })
+
+  -- the taken edge leads to x: x is run
+  reach : (x : ℕ) (xs : List ℕ) (b : Build) (n : ℕ) → Ordered g (s .starters) (x ∷ xs) → (t : Token g s rs b₀ (x ∷ xs) b n) → leadsTo x (t .reached .place) ≡ true
+      → Token g s rs b₀ xs (put g s x b) (suc n)
+  unfolding runBlock
+  reach x xs b n o t h =
+      let R = g .registers in
+      let into = towards (leadsTo x) (b .edges) in
+      let rest = towards (λ p. not (leadsTo x p)) (b .edges) in
+      let p = arrive R into (b .wires) in
+      let c = t .reached in
+      let E = worked rs (b .wires) in
+      let k = t .few in
+      rw (put-inner g s x b (o .0)) (record {
+        reached = runBlock (blockOf g x) (c .registers);
+        steps = suc (t .steps);
+        taken = made-reached rs size R (blockOf g x) (f .block x) p (c .registers) rest
+            (arrive-one rs size R into (b .wires) c (one-towards R (drop R rs) E (leadsTo x) c (b .edges) h (t .taken)))
+            (none-grow R (drop R rs) E (worked rs (p .wires)) (arrive-grow rs size R into (b .wires)) rest
+            (one-away R (drop R rs) E (λ p. not (leadsTo x p)) c (b .edges) (ap not h) (t .taken)));
+        onward = towards-leave (s .starters) xs (blockOf g x .ending) (executeAll (codeOf (blockOf g x)) (c .registers)) (o .1);
+        trace = next (t .trace) x (leads-to x (c .place) h) (o .0) refl;
+        some = omega arith;
+        few = omega arith;
+      })
+
+  -- it leads elsewhere
+  pass : (x : ℕ) (xs : List ℕ) (b : Build) (n : ℕ) → Ordered g (s .starters) (x ∷ xs) → (t : Token g s rs b₀ (x ∷ xs) b n) → leadsTo x (t .reached .place) ≡ false
+      → Token g s rs b₀ xs (put g s x b) (suc n)
+  pass x xs b n o t h =
+      let R = g .registers in
+      let into = towards (leadsTo x) (b .edges) in
+      let rest = towards (λ p. not (leadsTo x p)) (b .edges) in
+      let p = arrive R into (b .wires) in
+      let c = t .reached in
+      let E = worked rs (b .wires) in
+      let k = t .few in
+      let none = arrive-none rs size R (f .fewRegisters) into (b .wires) (one-away R (drop R rs) E (leadsTo x) c (b .edges) h (t .taken)) in
+      rw (put-inner g s x b (o .0)) (record {
+        reached = c;
+        steps = t .steps;
+        taken = made-passed rs size R (blockOf g x) (f .block x) p c rest (none .1)
+            (one-grow R (drop R rs) E (worked rs (p .wires)) (arrive-grow rs size R into (b .wires)) c rest
+            (one-towards R (drop R rs) E (λ p. not (leadsTo x p)) c (b .edges) (ap not h) (t .taken)));
+        onward = towards-next (s .starters) xs x (c .place) (t .onward) h;
+        trace = t .trace;
+        some = t .some;
+        few = omega arith;
+      })
+
+  put-token : (x : ℕ) (xs : List ℕ) (b : Build) (n : ℕ) → Ordered g (s .starters) (x ∷ xs) → Token g s rs b₀ (x ∷ xs) b n → Token g s rs b₀ xs (put g s x b) (suc n)
+  put-token x xs b n o t = either (leadsTo x (t .reached .place)) refl
+    where
+      either : (c : Bool) → leadsTo x (t .reached .place) ≡ c → Token g s rs b₀ xs (put g s x b) (suc n)
+      either true h = reach x xs b n o t h
+      either false h = pass x xs b n o t h
+
+  build-token : (xs : List ℕ) (b : Build) (n : ℕ) → Ordered g (s .starters) xs → Token g s rs b₀ xs b n → Token g s rs b₀ [] (build g s xs b) (n + length xs)
+  unfolding build
+  build-token [] b n o t = rw add-zero t
+  build-token (x ∷ xs) b n o t = rw (add-suc, ← suc-add) (build-token xs (put g s x b) (suc n) (o .2) (put-token x xs b n o t))
+
+-- ---- one cycle
+
+-- the next state and the registers that a state's references read, in a cycle that starts with the registers rs
+abbrev pub StateReads : CFG → State → List ℕ → ℕ → List ℕ → Type 0
+StateReads g q rs v qs = Reads (g .registers) (drop (g .registers) rs) (worked rs (q .wires)) (q .next) (q .nextRegisters) v qs
+
+-- the graph's run from block b with rs comes in `steps` steps to `reached`, where it arrives at a starter or has halted, and not before;
+-- and the references of state k read that place's state and those registers
+pub record CycleAgrees (g : CFG) (s : Groups) (rs : List ℕ) (k b : ℕ) : Type 0 where
+  pub reached : Configuration
+  pub steps : ℕ
+  pub trace : Trace g (s .starters) b rs steps reached
+  pub leaving : leaves s (reached .place) ≡ true
+  pub some : 1 ≤ steps
+  pub few : steps ≤ length (order g s k)
+  pub state : StateReads g (stateOf g s k) rs (nextStateOf s (reached .place)) (reached .registers)
+
+state-is : (g : CFG) (s : Groups) (k : ℕ) (xs : List ℕ) → order g s k ≡ xs
+    → let z = build g s xs none-built in
+    let p = closeState s (towards (leaves s) (z .edges)) (z .wires) in
+    stateOf g s k ≡ record { wires = p .wires; next = p .arrival; nextRegisters = p .values }
+unfolding stateOf
+state-is g s k xs h = rw h
+
+pub cycle-agrees : (g : CFG) (s : Groups) (rs : List ℕ) → length rs ≡ 16 → GraphFits g → (k b : ℕ) → StateOrder g s k b → CycleAgrees g s rs k b
+unfolding build
+cycle-agrees g s rs size f k b h =
+    let R = g .registers in
+    let xs = h .others in
+    let t = build-token g s rs size f b xs (put g s b none-built) 1 (h .ordered) (first-token g s rs size f b xs (h .starter) (h .ahead)) in
+    let z = build g s xs (put g s b none-built) in
+    let l = towards-none s (t .reached .place) (t .onward) in
+    let m = t .few in
+    record {
+      reached = t .reached;
+      steps = t .steps;
+      trace = t .trace;
+      leaving = l;
+      some = t .some;
+      few = rw (h .order-is) (omega arith);
+      state = rw (state-is g s k (b ∷ xs) (h .order-is)) (close-state-one rs size R s (towards (leaves s) (z .edges)) (z .wires) (t .reached)
+          (one-towards R (drop R rs) (worked rs (z .wires)) (leaves s) (t .reached) (z .edges) l (t .taken)));
+    }

@@ -1,0 +1,96 @@
+-- The machine of a valid graph: its limits, its states valid, and room for its wires. Assumes nothing.
+use Prim.Native.Nat.{ℕ, _≤_, _<_}
+use native.Mathlib.Omega.{arith}
+use mathlib.Core.Path.{_≡_, refl, sym, ap, _∙_}
+use mathlib.Core.Bool.{true}
+use lib.ListN.{length, getD, length-map}
+use Rattle.runs.specs.Lists.{upFrom}
+use Rattle.runs.proofs.ListLaws.{length-upFrom, getD-map-upFrom}
+use Rattle.runs.proofs.Sets.{In→mem, getD-in}
+use Rattle.cfg.specs.Graph.{CFG}
+use Rattle.cfg.proofs.Admitted.{ValidGraph}
+use Rattle.fsmd.specs.Layout.{none}
+use Rattle.fsmd.specs.Machine.{FSMD, emptyState, stateOf as stateAt}
+use Rattle.fsmd.specs.Table.{validState}
+use Rattle.fsmd.proofs.WrittenTable.{wireCount}
+use Rattle.grouping.specs.Grouping.{Groups, groups}
+use Rattle.grouping.proofs.Reach.{Closed, valid-closed}
+use Rattle.grouping.proofs.GroupingLaws.{grouped}
+use Rattle.synthesis.specs.Wires.{stateOf}
+use Rattle.synthesis.specs.Synthesis.{machineFor, machine}
+use Rattle.synthesis.proofs.GraphFacts.{graph-fits}
+use Rattle.synthesis.proofs.StateOrder.{StateOrder, groups-arranged}
+use Rattle.synthesis.proofs.StateValidity.{StateValid, state-valid}
+use Rattle.synthesis.proofs.WireCount.{machine-count}
+
+-- ---- the states of a machine that is made for a grouping
+
+module _ (g : CFG) (s : Groups) where
+  pub states-count : length (machineFor g s .states) ≡ length (s .starters)
+  unfolding machineFor
+  states-count = length-map (upFrom 0 (length (s .starters))) (stateOf g s) ∙ length-upFrom 0 (length (s .starters))
+
+  pub state-at : (k : ℕ) → k < length (s .starters) → stateAt (machineFor g s) k ≡ stateOf g s k
+  unfolding machineFor
+  state-at k h = getD-map-upFrom (stateOf g s) (length (s .starters)) k emptyState h
+
+  pub registers-are : machineFor g s .registers ≡ g .registers
+  unfolding machineFor
+  registers-are = refl
+
+  starters-are : machineFor g s .starters ≡ s .starters
+  unfolding machineFor
+  starters-are = refl
+
+  block-states-are : machineFor g s .blockStates ≡ s .states
+  unfolding machineFor
+  block-states-are = refl
+
+-- ---- the machine of a graph
+
+pub record MachineFits (m : FSMD) : Type 0 where
+  pub someState : 1 ≤ length (m .states)
+  pub fewStates : length (m .states) ≤ 64
+  pub someRegister : 1 ≤ m .registers
+  pub fewRegisters : m .registers ≤ 16
+  pub startersCount : length (m .starters) ≡ length (m .states)
+  pub fewBlocks : length (m .blockStates) ≤ 64
+  pub valid : (k : ℕ) → k < length (m .states) → validState (m .registers) (stateAt m k) ≡ true
+  pub nextRegisters : (k : ℕ) → k < length (m .states) → length (stateAt m k .nextRegisters) ≡ m .registers
+  pub room : wireCount (m .states) ≤ 3072
+
+pub machine-is : (g : CFG) → machine g ≡ machineFor g (groups g)
+unfolding machine
+machine-is g = refl
+
+-- the blocks of each state, in order
+state-order : (g : CFG) → Closed g → (k : ℕ) → k < length (groups g .starters) → StateOrder g (groups g) k (getD (groups g .starters) k none)
+state-order g a k h =
+    let s = groups g in
+    let b = getD (s .starters) k none in
+    rw (grouped g a .starter-home k none h) at (groups-arranged g a .placed b (In→mem b (s .starters) (getD-in (s .starters) k none h)))
+
+pub made-valid : (g : CFG) → ValidGraph g → (k : ℕ) → k < length (groups g .starters) → StateValid g (groups g) k
+made-valid g v k h = state-valid g (groups g) k (getD (groups g .starters) k none) (graph-fits g v) (state-order g (valid-closed g v) k h)
+
+pub machine-fits : (g : CFG) → ValidGraph g → MachineFits (machine g)
+machine-fits g v =
+    let s = groups g in
+    let f = graph-fits g v in
+    let G = grouped g (valid-closed g v) in
+    let n = states-count g s in
+    let some = G .some-state in
+    let few = G .few-states in
+    let all = G .all-blocks in
+    let blocks = f .fewBlocks in
+    rw (machine-is g) (record {
+      someState = omega arith;
+      fewStates = omega arith;
+      someRegister = rw (registers-are g s) (f .someRegister);
+      fewRegisters = rw (registers-are g s) (f .fewRegisters);
+      startersCount = ap length (starters-are g s) ∙ sym n;
+      fewBlocks = rw (block-states-are g s) (omega arith);
+      valid = λ k h. rw (registers-are g s, state-at g s k (omega arith)) (made-valid g v k (omega arith) .valid);
+      nextRegisters = λ k h. rw (registers-are g s, state-at g s k (omega arith)) (made-valid g v k (omega arith) .registers);
+      room = machine-count g s f;
+    })

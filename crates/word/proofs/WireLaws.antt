@@ -1,0 +1,93 @@
+-- Laws that wires go by: the operands that a code reads, and codes 5, 6, 18 and 19 at truth values. Assumes nothing.
+use Prim.Native.Nat.{ℕ, zero, suc, _<_}
+use mathlib.Core.Path.{_≡_, refl, ap, ap₂}
+use mathlib.Core.Bool.{Bool, true, false, not, _&&_, _||_}
+use mathlib.Core.List.{List, [], _∷_}
+use lib.Bits.{bitAnd, bitOr, bitXor}
+use lib.Dec.{eqb, lit<}
+use lib.ListN.{getD}
+use Rattle.word.specs.declared.Comparison.the-variants.{Eq, Ne, Lt, Ge, Ltu, Geu}
+use Rattle.word.specs.Word.{choose, addOf, subOf, shlOf, shrOf, sarOf, sxOf, andNotOf, compareOf, truth, results, evalOf, arities, arity}
+
+module _ (a b c a′ b′ c′ : ℕ) where
+  -- x and y are the same where the first n operands are
+  abbrev Rule : ℕ → ℕ → ℕ → Type 0
+  Rule n x y = (0 < n → a ≡ a′) → (1 < n → b ≡ b′) → (2 < n → c ≡ c′) → x ≡ y
+
+  -- the rule at every place of three tables: arities, results and results
+  data Rules : List ℕ → List ℕ → List ℕ → Type 0 where
+    end : Rules [] [] []
+    _then_ : {n x y : ℕ} {ns l m : List ℕ} → Rule n x y → Rules ns l m → Rules (n ∷ ns) (x ∷ l) (y ∷ m)
+
+  infixr 67 _then_
+  at : {ns l m : List ℕ} → Rules ns l m → (k : ℕ) → Rule (getD ns k 0) (getD l k 0) (getD m k 0)
+  at end k p q r = refl
+  at (h then t) zero p q r = h p q r
+  at (h then t) (suc k) p q r = at t k p q r
+
+  none : Rule 0 0 0
+  none p q r = refl
+
+  one : (f : ℕ → ℕ) → Rule 1 (f a) (f a′)
+  one f p q r = ap f (p (lit< tt))
+
+  two : (f : ℕ → ℕ → ℕ) → Rule 2 (f a b) (f a′ b′)
+  two f p q r = ap₂ f (p (lit< tt)) (q (lit< tt))
+
+  three : (f : ℕ → ℕ → ℕ → ℕ) → Rule 3 (f a b c) (f a′ b′ c′)
+  three f p q r = rw (p (lit< tt), q (lit< tt), r (lit< tt))
+
+  test : (f : ℕ → ℕ → Bool) → Rule 2 (truth (f a b)) (truth (f a′ b′))
+  test f = two (λ x y. truth (f x y))
+
+  -- operands past a code's arity do not matter
+  pub eval-uses : (k : ℕ) → (0 < arity k → a ≡ a′) → (1 < arity k → b ≡ b′) → (2 < arity k → c ≡ c′) → evalOf k a b c ≡ evalOf k a′ b′ c′
+  unfolding evalOf arity
+  eval-uses =
+      at {ns = arities} {l = results a b c} {m = results a′ b′ c′} (
+      none
+      then one (λ x. x)
+      then one (λ x. x)
+      then two addOf
+      then two subOf
+      then two bitAnd
+      then two bitOr
+      then two bitXor
+      then two shlOf
+      then two shrOf
+      then two sarOf
+      then one sxOf
+      then test (compareOf Eq)
+      then test (compareOf Ne)
+      then test (compareOf Lt)
+      then test (compareOf Ge)
+      then test (compareOf Ltu)
+      then test (compareOf Geu)
+      then two andNotOf
+      then three (λ x y z. choose (eqb x 0) z y)
+      then end)
+
+-- ---- at truth values
+
+pub and-truth : (s t : Bool) → evalOf 5 (truth s) (truth t) 0 ≡ truth (s && t)
+unfolding evalOf
+and-truth true true = refl
+and-truth true false = refl
+and-truth false t = refl
+
+pub or-truth : (s t : Bool) → evalOf 6 (truth s) (truth t) 0 ≡ truth (s || t)
+unfolding evalOf
+or-truth true true = refl
+or-truth true false = refl
+or-truth false t = refl
+
+pub and-not-truth : (s t : Bool) → evalOf 18 (truth s) (truth t) 0 ≡ truth (s && not t)
+unfolding evalOf
+and-not-truth true true = refl
+and-not-truth true false = refl
+and-not-truth false t = refl
+
+pub select-truth : (s : Bool) (x y : ℕ) → evalOf 19 (truth s) x y ≡ choose s x y
+unfolding evalOf
+select-truth true x y = refl
+select-truth false x y = refl

@@ -1,0 +1,58 @@
+-- Worked examples, one computed table: P4, P5 and P6 of the scope paper, then both ends of each code. Assumes nothing.
+use Prim.Native.Nat.{ℕ}
+use mathlib.Core.Bool.{Bool, true, _&&_}
+use mathlib.Core.List.{List, [], _∷_}
+use lib.IntN.{ℤ, pos, negsuc}
+use lib.Signed.{leZ}
+use lib.Dec.{T, eqb}
+use Rattle.word.specs.Word.{evalOf, signedOf}
+
+-- code k gives r on these operands
+abbrev gives : ℕ → ℕ → ℕ → ℕ → ℕ → Bool
+gives k a b c r = eqb (evalOf k a b c) r
+
+-- the word x is the signed number z
+abbrev reads : ℕ → ℤ → Bool
+reads x z = leZ (signedOf x) z && leZ z (signedOf x)
+
+abbrev every : List Bool → Bool
+every [] = true
+every (t ∷ l) = t && every l
+
+abbrev tests : List Bool
+tests =
+    -- P4
+    gives 11 32767 0 0 32767
+    ∷ gives 11 32768 0 0 4294934528
+    -- P5
+    ∷ gives 14 4294967096 0 0 1
+    ∷ gives 16 4294967096 0 0 0
+    -- P6
+    ∷ gives 4 0 1 0 4294967295
+    -- signed readings
+    ∷ reads 2147483647 (pos 2147483647)
+    ∷ reads 2147483648 (negsuc 2147483647)
+    ∷ reads 4294967295 (negsuc 0)
+    -- arithmetic and bits
+    ∷ gives 3 4294967295 1 0 0
+    ∷ gives 5 4294901760 16777215 0 16711680
+    ∷ gives 6 4294901760 16777215 0 4294967295
+    ∷ gives 7 4294901760 16777215 0 4278255615
+    -- shifts
+    ∷ gives 8 4294967295 33 0 4294967294
+    ∷ gives 9 4294967295 63 0 1
+    ∷ gives 10 2147483648 31 0 4294967295
+    ∷ gives 10 2147483647 31 0 0
+    -- wires
+    ∷ gives 18 4294967295 1 0 4294967294
+    ∷ gives 19 5 6 7 6
+    ∷ gives 19 0 6 7 7
+    -- codes that are none
+    ∷ gives 0 5 6 7 0
+    ∷ gives 20 5 6 7 0
+    ∷ gives 4294967295 5 6 7 0
+    ∷ []
+
+pub worked-examples : T (every tests)
+unfolding evalOf
+worked-examples = tt

@@ -1,0 +1,49 @@
+-- The texts of the worked examples on reading. Assumes nothing.
+use Prim.Native.Nat.{ℕ}
+use mathlib.Core.List.{List, [], _∷_, _++_}
+use Prim.Native.String.{String}
+use Rattle.cfg_line.specs.Name.{bytes}
+
+-- lines, each with its line feed
+abbrev pub lines : List String → List ℕ
+lines [] = []
+lines (l ∷ ls) = bytes l ++ (10 ∷ lines ls)
+
+-- P3: two blocks, of which the first goes to block 2, and to block 1
+unfoldable pub gotoTwo : List ℕ
+gotoTwo = lines ("graph,2,1" ∷ "block,0" ∷ "goto,2" ∷ "block,1" ∷ "halt" ∷ [])
+
+unfoldable pub gotoOne : List ℕ
+gotoOne = lines ("graph,2,1" ∷ "block,0" ∷ "goto,1" ∷ "block,1" ∷ "halt" ∷ [])
+
+-- a block of eight instructions, and one of nine
+unfoldable pub eight : List ℕ
+eight =
+    lines (
+    "graph,1,1" ∷ "block,0" ∷ "set,0,1" ∷ "set,0,2" ∷ "set,0,3" ∷ "set,0,4" ∷ "set,0,5" ∷ "set,0,6" ∷ "set,0,7" ∷ "set,0,-8" ∷ "halt" ∷ [])
+
+unfoldable pub nine : List ℕ
+nine =
+    lines (
+    "graph,1,1" ∷ "block,0" ∷ "set,0,1" ∷ "set,0,2" ∷ "set,0,3" ∷ "set,0,4" ∷ "set,0,5" ∷ "set,0,6" ∷ "set,0,7" ∷ "set,0,-8" ∷ "set,0,9" ∷ "halt" ∷ [])
+
+-- P7 as text
+unfoldable pub p7Text : List ℕ
+p7Text =
+    lines (
+    "graph,6,2"
+    ∷ "block,0"
+    ∷ "goto,1"
+    ∷ "block,1"
+    ∷ "ite,ne,0,1,2,5"
+    ∷ "block,2"
+    ∷ "ite,ltu,0,1,3,4"
+    ∷ "block,3"
+    ∷ "sub,1,1,0"
+    ∷ "goto,1"
+    ∷ "block,4"
+    ∷ "sub,0,0,1"
+    ∷ "goto,1"
+    ∷ "block,5"
+    ∷ "halt"
+    ∷ [])

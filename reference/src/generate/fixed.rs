@@ -1,0 +1,111 @@
+//! Cases that do not depend on the seed: examples, each named fault, sweeps.
+
+use super::examples::{self, P7};
+use crate::case::Case;
+use crate::graph::{Block, Comparison, Ending, Graph, Instruction, MAX_BLOCKS, MAX_REGISTERS};
+use crate::machine_table::{RECORDS_AT, RECORD_WORDS, WIRES_AT};
+use crate::print::print;
+
+/// Lines without a form, with a form not due, and with a number too large.
+const LINES: [&str; 48] = [
+    "", "set,0,-0", "set,0,-", "set,0,", "set,0,00", "set,0,-01", "set,0,+1", "set,0,2147483648",
+    "set,0,-2147483649", "set,0,2147483647", "set,0,-2147483648", "set,00,1", "set,256,1",
+    "set,,1", "set, 0,1", "set,0,1 ", "set,0,1\r", "copy,0", "copy,0,0,0", "add,0,0", "eq,0,0,0",
+    "mul,0,0,0", "Set,0,1", "halt,", "goto,", "goto,256", "block,256", "block,00", "graph,65,1",
+    "graph,64,1", "ite,eq,0,0,0", "ite,le,0,0,0,0", "ite,eq,0,0,256,0", "block,0", "block,1",
+    "block,255", "goto,0", "ite,eq,0,0,0,0", "set,2,0", "copy,0,2", "copy,2,0", "add,0,0,2",
+    "add,0,2,0", "goto,1", "ite,eq,0,0,1,0", "ite,eq,0,0,0,1", "ite,eq,2,0,1,0", "ite,eq,0,2,0,1",
+];
+
+const TEXTS: [&str; 22] = [
+    "\n",
+    "graph,0,1\n",
+    "graph,1,0\n",
+    "graph,1,17\n",
+    "graph,01,1\n",
+    "graph,256,1\n",
+    "graph,1,1",
+    "graph,1,1\nblock,0",
+    "graph,1,1\nblock,0\n",
+    "graph,1,1\nblock,0\nhalt",
+    "graph,1,1\nblock,0\nhalt\n",
+    "graph,1,1\nblock,0\nhalt\n\n",
+    "graph,1,1\nblock,0\nhalt\nx",
+    "graph,1,1\nblock,0\nhalt\nhalt\n",
+    "graph,1,1\nblock,0\nhalt\nhalt",
+    "halt\n",
+    "block,0\n",
+    "graph,1,1\nblock,0\nhalt\nblock,1\nhalt\n",
+    "graph,2,1\nblock,0\nhalt\n",
+    "graph,2,1\nblock,1\nhalt\nblock,0\nhalt\n",
+    "graph,1,1\nblock,0\nhalt\ngoto,255\n",
+    "graph,1,1\r\nblock,0\r\nhalt\r\n",
+];
+
+/// A graph with every kind of ending and of instruction words.
+const SMALL: &str = "graph,3,2\nblock,0\nset,0,5\nadd,1,0,1\nite,ltu,0,1,1,2\nblock,1\n\
+copy,1,0\ngoto,2\nblock,2\nsx,0,1\nhalt\n";
+
+fn named_faults() -> Vec<Case> {
+    let lines = LINES.iter().map(|line| format!("graph,1,2\nblock,0\n{line}\nhalt\n"));
+    let texts = TEXTS.iter().map(|text| text.to_string());
+    let all = lines.chain(texts).chain(texts_at_the_limit());
+    all.map(|text| Case::plain(text.as_bytes())).collect()
+}
+
+/// A right text followed by line feeds up to, and past, 16,384 bytes.
+fn texts_at_the_limit() -> Vec<String> {
+    let start = "graph,1,1\nblock,0\nhalt\n";
+    [16_384, 16_385].map(|length| start.to_string() + &"\n".repeat(length - start.len())).to_vec()
+}
+
+/// The longest text there is, and the graph with the most wires.
+pub fn largest_graphs() -> [Graph; 2] {
+    let last = MAX_REGISTERS - 1;
+    let ite =
+        |t: usize, f: usize| Ending::Ite { comparison: Comparison::Ltu, a: last, b: last, t, f };
+    let block = |ending| Block {
+        instructions: vec![Instruction::Set { d: last, literal: i32::MIN }; 8],
+        ending,
+    };
+    let n = MAX_BLOCKS;
+    let long = (0..n).map(|_| block(ite(n - 1, n - 1))).collect();
+    let wide = (0..n).map(|i| block(ite(i, (i + 1) % n))).collect();
+    [long, wide].map(|blocks| Graph { registers: MAX_REGISTERS, blocks })
+}
+
+/// Every word of the small graph's blocks, and some beyond, changed by one.
+fn graph_sweep() -> Vec<Case> {
+    let change = |index: u32| {
+        let mut case = Case::plain(SMALL.as_bytes());
+        case.graph_patches = vec![(index, 1 + index % 3)];
+        (case.block_budget, case.cycle_budget) = (20, 20);
+        case
+    };
+    (0..2 + 3 * 40).chain([122, 155, 2_560, 2_561, 2_562]).map(change).collect()
+}
+
+/// Every word of P7's machine that may be read, and some that may not.
+fn machine_sweep() -> Vec<Case> {
+    let records = RECORDS_AT..RECORDS_AT + 2 * RECORD_WORDS + 3;
+    let wires = WIRES_AT..WIRES_AT + 21 * 4;
+    let change = |index: usize| {
+        let mut case = Case::plain(P7.as_bytes());
+        let word = [1, 2, 16, 17, 20, 33, 34][index % 7];
+        case.machine_patches = vec![(index as u32, word)];
+        case.registers[..2].copy_from_slice(&[12, 18]);
+        (case.block_budget, case.cycle_budget) = (9, 20);
+        case
+    };
+    [0, 1, 2, 66].into_iter().chain(records).chain(wires).map(change).collect()
+}
+
+pub fn cases() -> Vec<Case> {
+    let largest = largest_graphs().map(|graph| Case::plain(print(&graph).as_bytes()));
+    let mut cases = examples::cases();
+    cases.extend(named_faults());
+    cases.extend(largest);
+    cases.extend(graph_sweep());
+    cases.extend(machine_sweep());
+    cases
+}

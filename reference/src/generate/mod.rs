@@ -1,0 +1,211 @@
+//! Cases from a seed: which damage, which buffers, which starts and budgets.
+
+pub mod examples;
+pub mod fixed;
+pub mod graph_damage;
+pub mod graphs;
+pub mod machine_damage;
+pub mod shapes;
+pub mod texts;
+pub mod words;
+
+use crate::answer::buffers_of;
+use crate::case::Case;
+use crate::graph_table::{self, GRAPH_WORDS};
+use crate::machine_table::{self, MACHINE_WORDS};
+use crate::print::print;
+use crate::random::Random;
+use crate::run;
+
+/// Most blocks of a graph run, and most wires worked out in a machine run.
+const MOST_BLOCKS: u32 = 20_000;
+const MOST_WIRES: u32 = 100_000;
+
+/// What a case is mainly about.
+#[derive(Clone, Copy, PartialEq, Eq)]
+enum Aim {
+    Valid,
+    Text,
+    LongText,
+    GraphTable,
+    MachineTable,
+    BareMachine,
+    Buffers,
+    Starts,
+}
+
+fn aim(random: &mut Random) -> Aim {
+    match random.below(1_000) {
+        0..=249 => Aim::Valid,
+        250..=519 => Aim::Text,
+        520..=527 => Aim::LongText,
+        528..=672 => Aim::GraphTable,
+        673..=862 => Aim::MachineTable,
+        863..=892 => Aim::BareMachine,
+        893..=932 => Aim::Buffers,
+        _ => Aim::Starts,
+    }
+}
+
+fn text(random: &mut Random, aim: Aim) -> Vec<u8> {
+    match aim {
+        Aim::Text | Aim::BareMachine => texts::damaged(random),
+        Aim::LongText => texts::long_text(random),
+        Aim::Valid => print(&graphs::graph(random)).into_bytes(),
+        _ if random.percent(55) => print(&graphs::small_graph(random)).into_bytes(),
+        _ => print(&graphs::graph(random)).into_bytes(),
+    }
+}
+
+/// The text's own length matters to writing, so take lengths around it.
+fn output_length(random: &mut Random, text: usize) -> u32 {
+    let text = text.min(16_990);
+    let choices = [text, text, text + 1, text.saturating_sub(1), 0, 1, 16_384, 17_000, text / 2];
+    random.pick(&choices) as u32
+}
+
+fn buffers(random: &mut Random, aim: Aim, case: &mut Case) {
+    case.output_length = match random.percent(40) {
+        true => output_length(random, case.text.len()),
+        false => random.pick(&[16_384, 12_000, 17_000]),
+    };
+    if random.percent(20) {
+        case.graph_length = random.pick(&[2_563, 2_570, 2_600]);
+        case.machine_length = random.pick(&[13_635, 13_634, 13_700]);
+    }
+    let length = random.pick(&[16, 16, 16, 16, 17, 20]);
+    case.registers = words::registers(random, length);
+    if aim == Aim::Buffers {
+        short_buffers(random, case);
+    }
+}
+
+fn short_buffers(random: &mut Random, case: &mut Case) {
+    match random.below(6) {
+        0 => case.graph_length = random.pick(&[2_561, 0, 1, 2, 2_560, 100]),
+        1 => case.machine_length = random.pick(&[13_633, 0, 1, 2, 1_346, 10_000]),
+        2 | 3 => case.registers.truncate(random.pick(&[15, 0, 1, 8, 15])),
+        4 => {
+            case.graph_length = 2_561;
+            case.machine_length = 13_633;
+        }
+        _ => {
+            case.registers.truncate(15);
+            case.graph_length = random.pick(&[2_561, 2_562]);
+            case.machine_length = random.pick(&[13_633, 13_634]);
+        }
+    }
+}
+
+fn damage(random: &mut Random, aim: Aim, case: &mut Case) {
+    let (graph, _) = buffers_of(case);
+    let whole = graph.len() >= GRAPH_WORDS && graph_table::decode(&graph).is_some();
+    if aim == Aim::GraphTable && whole {
+        case.graph_patches = graph_damage::patches(random, &graph);
+    }
+    let (_, machine) = buffers_of(case);
+    let made = machine.len() >= MACHINE_WORDS && machine_table::decode(&machine).is_some();
+    if aim == Aim::MachineTable && made {
+        case.machine_patches = machine_damage::patches(random, &machine);
+    }
+    if aim == Aim::BareMachine && !made {
+        case.machine_patches = machine_damage::bare_machine(random);
+        if random.percent(15) {
+            case.machine_patches.pop();
+        }
+    }
+}
+
+/// A start: mostly the entry, else any below the limit or just past it.
+fn start(random: &mut Random, aim: Aim, limit: usize) -> u32 {
+    let limit = limit as u32;
+    let chance = if aim == Aim::Starts { 75 } else { 25 };
+    if !random.percent(chance) {
+        return 0;
+    }
+    let inside = random.below(limit as usize) as u32;
+    match random.percent(if aim == Aim::Starts { 40 } else { 8 }) {
+        true => random.pick(&[limit, limit, limit + 1, 64, 255, 256, 2_147_483_648, u32::MAX]),
+        false => random.pick(&[inside, inside, limit - 1, 0]),
+    }
+}
+
+/// A budget, given the count at which the run halts when it does so soon.
+fn budget(random: &mut Random, halts_at: Option<u32>, most: u32) -> u32 {
+    let small = random.between(2, 60) as u32;
+    match halts_at {
+        // A huge budget only here: a program that does not halt would not end.
+        Some(_) if random.percent(12) => random.pick(&[u32::MAX, u32::MAX, u32::MAX - 1]),
+        Some(count) => random.pick(&[count, count, count - 1, count + 1, small, 0, 1, 1_000]),
+        None => match random.below(20) {
+            0 => most.min(3_000),
+            1 => most.min(255),
+            2 => most.min(256),
+            3 | 4 => 0,
+            5 | 6 => 1,
+            _ => most.min(small),
+        },
+    }
+}
+
+/// When the run halts within so many units.
+fn halting(outcome: run::Outcome) -> Option<u32> {
+    outcome.halted.then_some(outcome.count)
+}
+
+fn graph_run(random: &mut Random, aim: Aim, case: &mut Case, table: &[u32]) {
+    case.block_budget = random.pick(&[0, 1, 7, 50]);
+    let graph = table.get(..GRAPH_WORDS).and_then(graph_table::decode);
+    let Some(graph) = graph else {
+        case.start_block = start(random, aim, 2);
+        return;
+    };
+    case.start_block = start(random, aim, graph.blocks.len());
+    if (case.start_block as usize) < graph.blocks.len() && case.registers.len() >= 16 {
+        let from = case.start_block as usize;
+        let most = if random.percent(3) { MOST_BLOCKS } else { 2_000 };
+        let outcome = run::run_graph(&graph, &mut case.registers.clone(), from, most);
+        case.block_budget = budget(random, halting(outcome), most);
+    }
+}
+
+fn machine_run(random: &mut Random, aim: Aim, case: &mut Case, table: &[u32]) {
+    case.cycle_budget = random.pick(&[0, 1, 7, 50]);
+    let machine = table.get(..MACHINE_WORDS).and_then(machine_table::decode);
+    let Some(machine) = machine else {
+        case.start_state = start(random, aim, 2);
+        return;
+    };
+    case.start_state = start(random, aim, machine.states.len());
+    if (case.start_state as usize) < machine.states.len() && case.registers.len() >= 16 {
+        let from = case.start_state as usize;
+        let widest = machine.states.iter().map(|state| state.wires.len()).max().unwrap_or(0);
+        let most = (MOST_WIRES / (widest as u32 + 1)).clamp(50, 3_000);
+        let outcome = run::run_machine(&machine, &mut case.registers.clone(), from, most);
+        case.cycle_budget = budget(random, halting(outcome), most);
+    }
+}
+
+/// One case that depends on the seed and its index alone.
+pub fn case(seed: u64, index: u64) -> Case {
+    let mixed = Random::new(seed).draw() ^ Random::new(!index).draw();
+    let random = &mut Random::new(mixed);
+    let aim = aim(random);
+    let mut case = Case::plain(&text(random, aim));
+    buffers(random, aim, &mut case);
+    damage(random, aim, &mut case);
+    let (graph, machine) = buffers_of(&case);
+    graph_run(random, aim, &mut case, &graph);
+    machine_run(random, aim, &mut case, &machine);
+    case
+}
+
+/// Random cases, and among them, while they last, the fixed ones.
+pub fn cases(seed: u64, count: usize) -> Vec<Case> {
+    let mut fixed = fixed::cases().into_iter();
+    let mut choose = |index: usize| match index % 4 {
+        0 => fixed.next().unwrap_or_else(|| case(seed, index as u64)),
+        _ => case(seed, index as u64),
+    };
+    (0..count).map(&mut choose).collect()
+}

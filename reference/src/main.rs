@@ -1,0 +1,62 @@
+//! The commands: cases, answers, list, stats.
+
+use reference::answer::answer;
+use reference::case::{read_cases, Case};
+use reference::generate;
+use reference::listing::listing;
+use reference::stats::Stats;
+use std::io::{self, Read, Write};
+use std::process::ExitCode;
+
+const USAGE: &str = "usage: reference cases SEED COUNT > cases
+       reference answers < cases
+       reference list < text
+       reference stats < cases
+";
+
+fn input() -> Result<Vec<u8>, String> {
+    let mut bytes = Vec::new();
+    io::stdin().read_to_end(&mut bytes).map_err(|error| error.to_string())?;
+    Ok(bytes)
+}
+
+fn input_cases() -> Result<Vec<Case>, String> {
+    read_cases(&input()?).map_err(|index| format!("case {index} is damaged"))
+}
+
+fn cases(seed: &str, count: &str) -> Result<Vec<u8>, String> {
+    let seed: u64 = seed.parse().map_err(|_| String::from("SEED is no number"))?;
+    let count: usize = count.parse().map_err(|_| String::from("COUNT is no number"))?;
+    let mut stream = Vec::new();
+    generate::cases(seed, count).iter().for_each(|case| case.append_to(&mut stream));
+    Ok(stream)
+}
+
+fn answers() -> Result<Vec<u8>, String> {
+    let lines = input_cases()?.into_iter().map(|case| answer(&case).line() + "\n");
+    Ok(lines.collect::<String>().into_bytes())
+}
+
+fn command(arguments: &[&str]) -> Result<Vec<u8>, String> {
+    match *arguments {
+        ["cases", seed, count] => cases(seed, count),
+        ["answers"] => answers(),
+        ["list"] => Ok(listing(&input()?).into_bytes()),
+        ["stats"] => Ok(Stats::of(&input_cases()?).print().into_bytes()),
+        _ => Err(String::from(USAGE)),
+    }
+}
+
+fn main() -> ExitCode {
+    let arguments: Vec<String> = std::env::args().skip(1).collect();
+    let arguments: Vec<&str> = arguments.iter().map(String::as_str).collect();
+    let written = command(&arguments)
+        .and_then(|bytes| io::stdout().write_all(&bytes).map_err(|error| error.to_string()));
+    match written {
+        Ok(()) => ExitCode::SUCCESS,
+        Err(message) => {
+            eprintln!("{message}");
+            ExitCode::FAILURE
+        }
+    }
+}

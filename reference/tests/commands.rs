@@ -1,0 +1,46 @@
+//! The binary: its four commands over standard input and output.
+
+use reference::generate::examples::P7;
+use std::io::Write;
+use std::process::{Command, Output, Stdio};
+
+fn run(arguments: &[&str], input: &[u8]) -> Output {
+    let mut child = Command::new(env!("CARGO_BIN_EXE_reference"))
+        .args(arguments)
+        .stdin(Stdio::piped())
+        .stdout(Stdio::piped())
+        .stderr(Stdio::piped())
+        .spawn()
+        .expect("the binary starts");
+    let mut pipe = child.stdin.take().expect("a pipe");
+    pipe.write_all(input).expect("the binary reads its input");
+    drop(pipe);
+    child.wait_with_output().expect("the binary ends")
+}
+
+#[test]
+fn list() {
+    assert_eq!(run(&["list"], P7.as_bytes()).stdout, b"states,2,20\n0,0,1,2\n1,1,5,18\n");
+    assert_eq!(run(&["list"], b"").stdout, b"refused,3,1\n");
+    assert_eq!(run(&["list"], &[b'x'; 16_385]).stdout, b"refused,1,0\n");
+}
+
+#[test]
+fn answers_come_one_line_a_case() {
+    let cases = Command::new(env!("CARGO_BIN_EXE_reference"))
+        .args(["cases", "3", "90"])
+        .output()
+        .expect("the binary ends");
+    let answers = run(&["answers"], &cases.stdout).stdout;
+    assert_eq!(answers.iter().filter(|&&byte| byte == b'\n').count(), 90);
+    assert!(run(&["stats"], &cases.stdout).stdout.starts_with(b"read,0,"));
+    assert_eq!(run(&["answers"], b"").stdout, b"");
+}
+
+#[test]
+fn damaged_streams_and_unknown_commands_fail() {
+    let failed = run(&["answers"], &[1, 0, 0]);
+    assert!(!failed.status.success() && failed.stdout.is_empty());
+    let unknown = Command::new(env!("CARGO_BIN_EXE_reference")).output().expect("it ends");
+    assert!(!unknown.status.success());
+}

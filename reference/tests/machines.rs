@@ -1,0 +1,188 @@
+//! Runs of changed machine tables: what is refused 10 and what is not.
+
+mod common;
+
+use common::*;
+use reference::generate::examples::P7;
+use reference::generate::machine_damage::{Damage, Table, KEPT, REFUSED};
+use reference::machine_table::{self, MACHINE_WORDS, RECORDS_AT, RECORD_WORDS, WIRES_AT};
+use reference::operations::run_machine;
+use reference::random::Random;
+use reference::synthesis::synthesise;
+
+/// P7 on 12 and 18 with these words changed.
+fn run_changed(patches: &[(usize, u32)]) -> (u32, Vec<u32>) {
+    let mut table = machine_table_of(P7);
+    for &(at, word) in patches {
+        table[at] = word;
+    }
+    let mut words = registers(&[12, 18]);
+    let answer = run_machine(&table, &mut words, 0, 100);
+    if answer.number != 0 {
+        assert_eq!((answer, &words), (refused(answer.number), &registers(&[12, 18])));
+    }
+    (answer.number, words)
+}
+
+fn is_refused(patches: &[(usize, u32)]) {
+    assert_eq!(run_changed(patches).0, 10, "{patches:?}");
+}
+
+/// The change is not read: the run answers as before.
+fn is_unread(patches: &[(usize, u32)]) {
+    assert_eq!(run_changed(patches), (0, registers(&[6, 6])), "{patches:?}");
+}
+
+const STATE_1: usize = RECORDS_AT + RECORD_WORDS;
+const STATE_2: usize = STATE_1 + RECORD_WORDS;
+
+fn wire(index: usize) -> usize {
+    WIRES_AT + 4 * index
+}
+
+#[test]
+fn counts() {
+    for n in [0, 65, 255, u32::MAX] {
+        is_refused(&[(0, n)]);
+    }
+    for r in [0, 17, 255, u32::MAX] {
+        is_refused(&[(1, r)]);
+    }
+    // With one register the references to the other are refused.
+    is_refused(&[(1, 1)]);
+}
+
+#[test]
+fn ranges() {
+    is_refused(&[(STATE_1, 3_055)]);
+    is_refused(&[(STATE_1 + 1, 3_071)]);
+    is_refused(&[(STATE_1, u32::MAX), (STATE_1 + 1, 1)]);
+    is_refused(&[(STATE_1, u32::MAX - 17)]);
+    is_refused(&[(STATE_1, u32::MAX - 15)]);
+    is_refused(&[(STATE_1 + 1, u32::MAX)]);
+    is_refused(&[(STATE_1, 1 << 31), (STATE_1 + 1, 1 << 31)]);
+    // A third state without wires may stand anywhere up to 3,072.
+    for (first, number) in [(0, 0), (1, 0), (2, 0), (7, 0), (20, 0), (3_072, 0), (3_073, 10)] {
+        assert_eq!(run_changed(&[(0, 3), (STATE_2, first)]).0, number, "{first}");
+    }
+    is_refused(&[(0, 3), (STATE_2, u32::MAX)]);
+}
+
+#[test]
+fn a_range_may_end_at_3072() {
+    let table = machine_table_of(P7);
+    let mut patches: Vec<(usize, u32)> =
+        (0..18 * 4).map(|i| (wire(3_054) + i, table[wire(2) + i])).collect();
+    patches.push((STATE_1, 3_054));
+    is_unread(&patches);
+    // Its old wires then belong to no state.
+    patches.push((wire(2), 99));
+    is_unread(&patches);
+    patches.push((STATE_1, 3_055));
+    is_refused(&patches);
+}
+
+#[test]
+fn sharing() {
+    // State 2 has one wire: a `set` of state 0, of state 1, or of none.
+    for (first, number) in [(0, 10), (1, 10), (2, 10), (18, 10), (20, 0)] {
+        let number_of = run_changed(&[(0, 3), (STATE_2, first), (STATE_2 + 1, 1), (wire(20), 1)]).0;
+        assert_eq!(number_of, number, "{first}");
+    }
+    is_refused(&[(STATE_1, 1)]);
+    is_refused(&[(RECORDS_AT + 1, 3)]);
+}
+
+#[test]
+fn codes_and_references() {
+    for code in [0, 20, 255, u32::MAX] {
+        is_refused(&[(wire(5), code)]);
+    }
+    // Wire 13 of the table is wire 11 of state 1: references up to 26.
+    for slot in 1..=3 {
+        for reference in [2, 15, 27, 28, 33, 34, u32::MAX] {
+            is_refused(&[(wire(13) + slot, reference)]);
+        }
+        for reference in [0, 1, 16, 26] {
+            assert_eq!(run_changed(&[(wire(13) + slot, reference)]).0, 0);
+        }
+    }
+    for slot in 2..5 {
+        for reference in [2, 15, 34, u32::MAX] {
+            is_refused(&[(STATE_1 + slot, reference)]);
+        }
+        for reference in [0, 1, 16, 33] {
+            // A loop that no longer ends is spent, not refused.
+            assert_eq!(run_changed(&[(STATE_1 + slot, reference)]).0, 0);
+        }
+    }
+}
+
+#[test]
+fn words_not_read() {
+    is_unread(&[(2, 77), (3, u32::MAX), (65, 1), (66, 9), (129, u32::MAX)]);
+    is_unread(&[(STATE_2, u32::MAX), (STATE_2 + 1, 5), (STATE_2 + 2, 99), (WIRES_AT - 1, 9)]);
+    is_unread(&[(STATE_1 + 5, 99), (STATE_1 + 18, u32::MAX), (RECORDS_AT + 5, 15)]);
+    is_unread(&[(wire(20), 99), (MACHINE_WORDS - 1, 3)]);
+    is_unread(&[(wire(0) + 2, 99), (wire(0) + 3, 99), (wire(3) + 3, 99), (wire(9) + 3, 99)]);
+}
+
+#[test]
+fn next_states_not_below_n_halt() {
+    for state in [2, 3, 254, 255, 256, u32::MAX] {
+        let mut table = machine_table_of(P7);
+        table[wire(1) + 1] = state;
+        assert_eq!(run_machine(&table, &mut registers(&[12, 18]), 0, 1), halted(1));
+        assert_eq!(run_machine(&table, &mut registers(&[12, 18]), 0, 0), spent(0, 0));
+    }
+    let mut table = machine_table_of(P7);
+    table[0] = 1;
+    assert_eq!(run_machine(&table, &mut registers(&[12, 18]), 0, 9), halted(1));
+    assert_eq!(run_machine(&table, &mut registers(&[12, 18]), 1, 9), refused(9));
+}
+
+/// The registers of the halting cycle are taken all the same.
+#[test]
+fn a_halting_cycle_takes_its_registers() {
+    let mut table = vec![u32::MAX; MACHINE_WORDS];
+    (table[0], table[1]) = (1, 2);
+    table[RECORDS_AT..RECORDS_AT + 5].copy_from_slice(&[3_070, 2, 17, 17, 16]);
+    table[wire(3_070)..wire(3_070) + 3].copy_from_slice(&[18, 0, 1]);
+    table[wire(3_071)..].copy_from_slice(&[19, 16, 1, 0]);
+    let mut words = registers(&[0xF0F0, 0xFF00, 5]);
+    assert_eq!(run_machine(&table, &mut words, 0, 7), halted(1));
+    assert_eq!(words, registers(&[0xFF00, 0x00F0, 5]));
+}
+
+#[test]
+fn orders_of_refusals() {
+    let table = machine_table_of(P7);
+    assert_eq!(run_machine(&table[..MACHINE_WORDS - 1], &mut [0; 16], 9, 1), refused(7));
+    assert_eq!(run_machine(&[0; MACHINE_WORDS], &mut [0; 15], 9, 1), refused(7));
+    assert_eq!(run_machine(&[0; MACHINE_WORDS], &mut [0; 16], 9, 1), refused(10));
+    assert_eq!(run_machine(&table, &mut [0; 16], 2, 1), refused(9));
+    assert_eq!(run_machine(&table, &mut [0; 16], u32::MAX, 0), refused(9));
+    assert_eq!(run_machine(&table, &mut [0; 20], 1, 0), spent(0, 1));
+}
+
+/// The generator's kinds of damage do what their lists say.
+#[test]
+fn generated_damage() {
+    let mut random = Random::new(41);
+    for graph in many_graphs(42, 150) {
+        let (grouping, machine) = synthesise(&graph);
+        let words = machine_table::encode(&grouping, &machine);
+        let table = Table { words: &words };
+        let mut accepted = |damage: &Damage| {
+            let mut changed = words.clone();
+            for (at, word) in damage(&mut random, &table) {
+                if let Some(place) = changed.get_mut(at as usize) {
+                    *place = word;
+                }
+            }
+            machine_table::decode(&changed).is_some()
+        };
+        assert!(REFUSED.iter().all(|damage| !accepted(damage)));
+        assert!(KEPT.iter().all(|damage| accepted(damage)));
+    }
+}

@@ -28,3 +28,4 @@ pub mod WireValidity
 pub mod StateValidity
 pub mod WireCount
 pub mod SynthesisedMachine
+pub mod BlocksLaws

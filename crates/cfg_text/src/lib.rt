@@ -168,7 +168,7 @@ fn join(p: Place, i: Instruction, words: &mut [u32]) -> Moved
         → Stands p (now (words .entry)) (inside b r bs is)
         → Agrees m (now (words .exit)) (next (inside b r bs is) (Line.Instruction i))) ⌝ }
 {
-    if 8 <= p.count {
+    if Block::INSTRUCTIONS <= (p.count as usize) {
         return Moved::Stop(3);
     }
     if registers_below(i, p.registers) {
@@ -320,7 +320,7 @@ pub fn read_text(text: &[u8], table: &mut [u32]) -> ReadAnswer
     if table.len() < Graph::WORDS {
         return ReadAnswer::Refused(7, 0);
     }
-    let mut words = [0u32; 2562];
+    let mut words = [0u32; Graph::WORDS];
     let answer = read_lines(text, &mut words);
     let ReadAnswer::Read = answer else {
         return answer;

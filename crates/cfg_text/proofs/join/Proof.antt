@@ -43,6 +43,7 @@ pub join-spec : {M : Type 1} → statement M
 join-spec =
     tie.close
     (tie.spec
+    (λ c. search needs)
     returns
     (λ c κs. search needs)
     (λ c. search needs)

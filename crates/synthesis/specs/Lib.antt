@@ -1,3 +1,4 @@
 pub mod Placement
+pub mod PlacementBytes
 pub mod Wires
 pub mod Synthesis

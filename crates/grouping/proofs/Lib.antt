@@ -4,3 +4,14 @@ pub mod LoopLaws
 pub mod PopulationLaws
 pub mod DetectionLaws
 pub mod GroupingLaws
+pub mod Marks
+pub mod VisitStack
+pub mod ByteStack
+pub mod LoopSearch
+pub mod DetectionSearch
+pub mod PopulationSearch
+pub mod StarterLaws
+pub mod EdgeBytes
+pub mod VisitMaps
+pub mod GraphSearches
+pub mod GroupingRounds

@@ -1,2 +1,4 @@
 pub mod Visit
 pub mod Grouping
+pub mod Bytes
+pub mod Answer

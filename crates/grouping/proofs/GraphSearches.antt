@@ -1,0 +1,128 @@
+-- The three searches on a graph's edge bytes are those on the graph. Assumes nothing.
+use Prim.Native.Nat.{ℕ, zero, suc, _+_, _-_, _≤_, _<_}
+use mathlib.Core.Bool.{Bool, true, false, not, _&&_, _||_}
+use mathlib.Core.Logic.{_⊎_, inl, inr}
+use mathlib.Core.Path.{_≡_, refl, sym, _∙_, ap, ap₂, fun-ext}
+use mathlib.Core.List.{List, [], _∷_, _++_}
+use native.Mathlib.Omega.{arith}
+use lib.Dec.{eqb}
+use lib.ListN.{length, getD, set, replicate, length-set, length-replicate}
+use Rattle.runs.specs.Lists.{mem, padded}
+use Rattle.runs.proofs.Sets.{In, Distinct}
+use Rattle.cfg.specs.Graph.{CFG, successors}
+use Rattle.fsmd.specs.Layout.{none}
+use Rattle.grouping.specs.declared.Detected.{Detected}
+use Rattle.grouping.specs.Visit.{Visitor, visit}
+use Rattle.grouping.specs.Grouping.{Loops, looping, loops, populating, populate, illegal, Detection, visited, illegalTo, detectStop, detectTurn, detectEnter, detecting, detect}
+use Rattle.grouping.specs.Bytes.{edgesIn, loopStarters, taken, takenFrom, population, detectedOf, detection}
+use Rattle.grouping.proofs.Reach.{Closed, Reached, reached-below}
+use Rattle.grouping.proofs.LoopLaws.{loops-fuel}
+use Rattle.grouping.proofs.PopulationLaws.{populateWith, populate-fuel}
+use Rattle.grouping.proofs.DetectionLaws.{detect-fuel}
+use Rattle.grouping.proofs.VisitMaps.{Maps, visit-maps}
+
+-- ---- padding
+
+getD-past : (n d x : ℕ) → getD (padded n d []) x d ≡ d
+getD-past zero d x = refl
+getD-past (suc n) d zero = refl
+getD-past (suc n) d (suc x) = getD-past n d x
+
+padded-at : (n d : ℕ) (l : List ℕ) → length l ≤ n → (x : ℕ) → getD (padded n d l) x d ≡ getD l x d
+padded-at n d [] h x = getD-past n d x
+padded-at zero d (y ∷ l) h x = absurd (omega arith)
+padded-at (suc n) d (y ∷ l) h zero = refl
+padded-at (suc n) d (y ∷ l) h (suc x) = padded-at n d l (omega arith) x
+
+padded-set : (n d : ℕ) (l : List ℕ) (x y : ℕ) → x < length l → length l ≤ n → set (padded n d l) x y ≡ padded n d (set l x y)
+padded-set n d [] x y h k = absurd (omega arith)
+padded-set zero d (z ∷ l) x y h k = absurd (omega arith)
+padded-set (suc n) d (z ∷ l) zero y h k = refl
+padded-set (suc n) d (z ∷ l) (suc x) y h k = ap (λ (m : List ℕ). z ∷ m) (padded-set n d l x y (omega arith) (omega arith))
+
+padded-blank : (n m d : ℕ) → padded n d (replicate m d) ≡ replicate n d
+padded-blank zero m d = refl
+padded-blank (suc n) zero d = ap (λ (l : List ℕ). d ∷ l) (padded-blank n zero d)
+padded-blank (suc n) (suc m) d = ap (λ (l : List ℕ). d ∷ l) (padded-blank n m d)
+
+pub padded-append : (n d : ℕ) (l : List ℕ) → length l ≤ n → padded n d l ≡ l ++ replicate (n - length l) d
+padded-append n d [] h = let e : n - 0 ≡ n = omega arith in rw e (go n)
+  where
+    go : (m : ℕ) → padded m d [] ≡ replicate m d
+    go zero = refl
+    go (suc m) = ap (λ (l : List ℕ). d ∷ l) (go m)
+padded-append zero d (y ∷ l) h = absurd (omega arith)
+padded-append (suc n) d (y ∷ l) h =
+    let e : suc n - suc (length l) ≡ n - length l = omega arith in
+    rw e (ap (λ (m : List ℕ). y ∷ m) (padded-append n d l (omega arith)))
+
+-- ---- the searches
+
+module _ (g : CFG) (a : Closed g) where
+  -- population on longer lists
+  populating-maps : (starters : List ℕ) (r k : ℕ)
+      → Maps (populating starters r k) (populating starters r k) (padded 64 none) (λ (s : List ℕ). length s ≡ length (g .blocks)) (length (g .blocks))
+  populating-maps starters r k =
+      record {
+        stops = λ path x s l i. ap (λ (y : ℕ). not (eqb y none) || (mem x starters && not (eqb x r))) (padded-at 64 none s (omega (arith, a .few-blocks)) x);
+        turns = λ path x s l i. (refl, i);
+        enters = λ x s l i. (padded-set 64 none s x k (omega arith) (omega (arith, a .few-blocks)), length-set s x k ∙ i);
+        finishes = λ x s l i. (refl, i);
+      }
+
+-- detection by states that agree
+visitorOf : (List ℕ → ℕ → Detection → Bool) → (List ℕ → ℕ → Detection → Detection) → Visitor Detection
+visitorOf stop turn = record { stop = stop; turn = turn; enter = detectEnter; finish = λ x d. d }
+
+module _ (starters s t : List ℕ) (e : (x : ℕ) → getD s x none ≡ getD t x none) where
+  illegal-alike : (path : List ℕ) (y : ℕ) → illegal starters s path y ≡ illegal starters t path y
+  illegal-alike [] y = refl
+  illegal-alike (x ∷ path) y = rw (e x, e y)
+
+  stop-alike : (path : List ℕ) (y : ℕ) (d : Detection) → detectStop starters s path y d ≡ detectStop starters t path y d
+  stop-alike path y (illegalTo z) = refl
+  stop-alike path y (visited seen) = ap (λ (b : Bool). b || mem y seen) (illegal-alike path y)
+
+  turn-alike : (path : List ℕ) (y : ℕ) (d : Detection) → detectTurn starters s path y d ≡ detectTurn starters t path y d
+  turn-alike path y (illegalTo z) = refl
+  turn-alike path y (visited seen) = rw (illegal-alike path y, detectTurn)
+
+  detecting-alike : detecting starters s ≡ detecting starters t
+  unfolding visitorOf
+  detecting-alike =
+      ap₂ visitorOf (fun-ext (λ path. fun-ext (λ y. fun-ext (λ d. stop-alike path y d)))) (fun-ext (λ path. fun-ext (λ y. fun-ext (λ d. turn-alike path y d))))
+
+module _ (g : CFG) (a : Closed g) (bytes : List ℕ) (edges : (n : ℕ) → edgesIn bytes n ≡ successors g n) where
+  next : edgesIn bytes ≡ successors g
+  next = fun-ext edges
+
+  pub loops-bytes : loopStarters bytes ≡ loops g .starters
+  unfolding loopStarters
+  loops-bytes =
+      ap (λ (n : ℕ → List ℕ). visit looping n 65 [] 0 (record { finished = []; starters = 0 ∷ [] }) .starters) next
+      ∙ ap (λ (l : Loops). l .starters) (loops-fuel g a 65 (omega (arith, a .few-blocks)))
+
+  module _ (starters : List ℕ) where
+    from-bytes : (k : ℕ) (rs s : List ℕ) → ((r : ℕ) → In r rs → r < length (g .blocks)) → length s ≡ length (g .blocks)
+        → takenFrom bytes starters k rs (padded 64 none s) ≡ padded 64 none (populateWith 65 g starters k rs s)
+    unfolding takenFrom taken
+    from-bytes k [] s low i = refl
+    from-bytes k (r ∷ rs) s low i =
+        let m = visit-maps (populating-maps g a starters r k) (successors g) (λ u x j. a .inside u x j) 65 [] r s (low r (inl refl)) i in
+        ap (λ (n : ℕ → List ℕ). takenFrom bytes starters (suc k) rs (visit (populating starters r k) n 65 [] r (padded 64 none s))) next
+        ∙ ap (takenFrom bytes starters (suc k) rs) (m .0)
+        ∙ from-bytes (suc k) rs (visit (populating starters r k) (successors g) 65 [] r s) (λ x j. low x (inr j)) (m .1)
+
+    pub population-bytes : Distinct starters → ((x : ℕ) → In x starters → Reached g x) → population bytes starters ≡ padded 64 none (populate g starters)
+    unfolding population
+    population-bytes distinct known =
+        ap (takenFrom bytes starters 0 starters) (sym (padded-blank 64 (length (g .blocks)) none))
+        ∙ from-bytes 0 starters (replicate (length (g .blocks)) none) (λ r i. reached-below a (known r i)) (length-replicate (length (g .blocks)) none)
+        ∙ ap (padded 64 none) (populate-fuel g a starters distinct known 65 (omega (arith, a .few-blocks)))
+
+    pub detection-bytes : (states : List ℕ) → length states ≤ 64 → detection bytes starters (padded 64 none states) ≡ detectedOf (detect g starters states)
+    unfolding detection
+    detection-bytes states h =
+        ap₂ (λ (n : ℕ → List ℕ) (v : Visitor Detection). detectedOf (visit v n 65 [] 0 (visited []))) next
+        (detecting-alike starters (padded 64 none states) states (padded-at 64 none states h))
+        ∙ ap detectedOf (detect-fuel g a starters states 65 (omega (arith, a .few-blocks)))

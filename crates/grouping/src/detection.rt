@@ -1,0 +1,60 @@
+// Detection: a depth-first visit from block 0 that tests each edge before going down it.
+use crate::Detected;
+use crate::Starters;
+use crate::edges;
+use cfg::Graph;
+ghost use mathlib.Core.Path.{_≡_};
+ghost use Prim.Native.Nat.{_<_};
+ghost use Rattle.cfg.specs.Layout.{maxBlocks};
+ghost use Rattle.grouping.specs.Bytes.{Listed, startersOf, illegalBy, detection};
+
+// An edge between different states whose target is no starter.
+fn illegal(states: &[u8], starters: Starters, block: usize, target: usize) -> bool
+    requires { ⌜ target < maxBlocks ⌝ }
+    ensures { λ r. ⌜ r ≡ illegalBy (now (states .entry)) (starters .marks) block target ⌝ }
+{
+    let own = edges::at(states, block);
+    let other = edges::at(states, target);
+    if own == other {
+        false
+    } else {
+        starters.marks[target] == 0
+    }
+}
+
+pub fn detect(edges: &[u8], states: &[u8], starters: Starters) -> Detected
+    requires { ⌜ Listed starters ⌝ }
+    ensures { λ r. ⌜ r ≡ detection (now (edges .entry)) (startersOf starters) (now (states .entry)) ⌝ }
+{
+    let mut seen = [0u8; Graph::BLOCKS];
+    let mut stack = [0u8; Graph::BLOCKS];
+    let mut passed = [0u8; Graph::BLOCKS];
+    let mut depth: usize = 1;
+    let mut found = Detected::Legal;
+    seen[0] = 1;
+    'visit: while depth > 0 {
+        let block = edges::wide(stack[depth - 1]);
+        let mut k = edges::wide(passed[depth - 1]);
+        'edges: while k < 2 {
+            let to = edges::at(edges, 2 * block + k);
+            let t = edges::wide(to);
+            k += 1;
+            if t < Graph::BLOCKS {
+                if illegal(states, starters, block, t) {
+                    found = Detected::IllegalTo(to);
+                    break 'visit;
+                }
+                if seen[t] == 0 {
+                    passed[depth - 1] = k as u8;
+                    seen[t] = 1;
+                    stack[depth] = to;
+                    passed[depth] = 0;
+                    depth += 1;
+                    continue 'visit;
+                }
+            }
+        }
+        depth -= 1;
+    }
+    found
+}

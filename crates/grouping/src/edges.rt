@@ -1,0 +1,49 @@
+// The successors of a graph's blocks as bytes, two a block, true first, 255 where there is none.
+use cfg::Block;
+use cfg::Ending;
+use cfg::Graph;
+ghost use mathlib.Core.Path.{_≡_};
+ghost use mathlib.Core.Bool.{true};
+ghost use Prim.Native.Nat.{ℕ, _<_};
+ghost use lib.ListN.{getD};
+ghost use Rattle.cfg.specs.Graph.{successors};
+ghost use Rattle.cfg.specs.Table.{graphOf, admitted};
+ghost use Rattle.fsmd.specs.Layout.{none};
+ghost use Rattle.grouping.specs.Bytes.{edgesIn};
+
+// The byte at i, or 255 past the end.
+pub fn at(bytes: &[u8], i: usize) -> u8
+    ensures { λ r. ⌜ r ≡ getD (now (bytes .entry)) i none ⌝ }
+{
+    if i < bytes.len() { bytes[i] } else { 255 }
+}
+
+pub fn wide(x: u8) -> usize
+    ensures { λ r. ⌜ (r ≡ x) × (r < 256) ⌝ }
+{
+    x as usize
+}
+
+pub fn edges_of(table: &[u32]) -> [u8; 128]
+    requires { ⌜ admitted (now table) ≡ true ⌝ }
+    ensures { λ r. ⌜ ((n : ℕ) → edgesIn r n ≡ successors (graphOf (now (table .entry))) n) ⌝ }
+{
+    let mut edges = [255u8; 128];
+    let blocks = table[0] as usize;
+    let mut n = 0;
+    while n < blocks {
+        let ending = cfg::decode::ending_at(table, Graph::HEAD + Block::WORDS * n + Block::ENDING);
+        match ending {
+            Ending::Goto(t) => {
+                edges[2 * n] = t as u8;
+            }
+            Ending::Ite(_, t, f) => {
+                edges[2 * n] = t as u8;
+                edges[2 * n + 1] = f as u8;
+            }
+            Ending::Halt => {}
+        }
+        n += 1;
+    }
+    edges
+}

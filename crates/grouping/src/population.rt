@@ -1,0 +1,63 @@
+// Population: states in order of creation, each depth-first from its starter.
+use crate::Starters;
+use crate::edges;
+use cfg::Graph;
+ghost use mathlib.Core.Path.{_≡_};
+ghost use Prim.Native.Nat.{_<_};
+ghost use lib.ListN.{length, getD};
+ghost use Rattle.cfg.specs.Layout.{maxBlocks};
+ghost use Rattle.grouping.specs.Bytes.{Listed, startersOf, taken, population};
+
+// State k takes the blocks not yet taken that its starter leads to, up to the starters of other states.
+fn take_state(edges: &[u8], starters: Starters, k: u8, states: &mut [u8])
+    requires { ⌜ Listed starters × (k < starters .count) × (length (now states) ≡ maxBlocks) ⌝ }
+    ensures { λ r. ⌜ now (states .exit) ≡ taken (now (edges .entry)) (startersOf starters) (getD (starters .list) k 0) k (now (states .entry)) ⌝ }
+{
+    let number = edges::wide(k);
+    let first = starters.list[number];
+    let root = edges::wide(first);
+    if states[root] != 255 {
+        return;
+    }
+    let mut stack = [0u8; Graph::BLOCKS];
+    let mut passed = [0u8; Graph::BLOCKS];
+    let mut depth: usize = 1;
+    states[root] = k;
+    stack[0] = first;
+    'visit: while depth > 0 {
+        let block = edges::wide(stack[depth - 1]);
+        let mut j = edges::wide(passed[depth - 1]);
+        'edges: while j < 2 {
+            let to = edges::at(edges, 2 * block + j);
+            let t = edges::wide(to);
+            j += 1;
+            if t < Graph::BLOCKS {
+                if states[t] == 255 {
+                    if starters.marks[t] == 0 {
+                        passed[depth - 1] = j as u8;
+                        states[t] = k;
+                        stack[depth] = to;
+                        passed[depth] = 0;
+                        depth += 1;
+                        continue 'visit;
+                    }
+                }
+            }
+        }
+        depth -= 1;
+    }
+}
+
+// The state of each block, 255 where none has taken it.
+pub fn populate(edges: &[u8], starters: Starters) -> [u8; 64]
+    requires { ⌜ Listed starters ⌝ }
+    ensures { λ r. ⌜ r ≡ population (now (edges .entry)) (startersOf starters) ⌝ }
+{
+    let mut states = [255u8; Graph::BLOCKS];
+    let mut k: u8 = 0;
+    while edges::wide(k) < starters.count {
+        take_state(edges, starters, k, &mut states);
+        k += 1;
+    }
+    states
+}

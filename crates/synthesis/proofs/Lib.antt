@@ -1,4 +1,6 @@
 pub mod PlacementLaws
+pub mod PlacementSteps
+pub mod PlacedOrder
 pub mod StateOrder
 pub mod GraphFacts
 pub mod WireValues

@@ -14,9 +14,13 @@ use Rattle.synthesis.specs.Placement.{placeNext}
 abbrev pub marked : List ℕ → ℕ → Bool
 marked marks x = not (eqb (getD marks x 0) 0)
 
--- the blocks of state k from number n up, of which m are left
+-- x is a block of state k
+abbrev pub ofState : List ℕ → ℕ → ℕ → Bool
+ofState states k x = eqb (getD states x none) k
+
+-- the blocks of state k among the n from number x up
 abbrev pub membersFrom : List ℕ → ℕ → ℕ → ℕ → List ℕ
-membersFrom states k n m = only (λ x. eqb (getD states x none) k) (upFrom n m)
+membersFrom states k x n = only (ofState states k) (upFrom x n)
 
 abbrev pub membersIn : List ℕ → ℕ → List ℕ
 membersIn states k = membersFrom states k 0 maxBlocks

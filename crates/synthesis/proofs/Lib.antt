@@ -13,3 +13,4 @@ pub mod WireValidity
 pub mod StateValidity
 pub mod WireCount
 pub mod SynthesisedMachine
+pub mod TableWords

@@ -6,11 +6,11 @@ use mathlib.Core.List.{List, [], _∷_}
 use lib.ListN.{length, getD}
 use borrow.Author.Tests.{eq-eqb, ne-eqb}
 use Rattle.word.specs.declared.Comparison.the-variants.{Eq, Ne, Lt, Ge, Ltu, Geu}
+use Rattle.runs.proofs.ListLaws.{getD-map-upFrom}
 use Rattle.cfg.specs.declared.Ending.the-variants.{Goto, Ite, Halt}
 use Rattle.cfg.specs.Layout.{maxInstructions, endingOffset, blockOffset}
 use Rattle.cfg.specs.Graph.{noInstruction}
 use Rattle.cfg.specs.Table.{comparisonAt, instructionAt, endingAt, blockAt}
-use Rattle.runs.proofs.ListLaws.{getD-map-upFrom}
 
 -- ---- comparisons
 

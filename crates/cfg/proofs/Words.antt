@@ -1,6 +1,5 @@
 -- The admission test word by word, and that it is the definition. Assumes nothing.
 use Prim.Native.Nat.{ℕ, zero, suc, _+_, _-_, _*_, _≤_, _<_}
-use native.Mathlib.Nat.{add-zero}
 use native.Mathlib.Numerals.{add-one}
 use native.Mathlib.Omega.{arith}
 use mathlib.Core.Path.{_≡_, refl, sym, ap, _∙_}
@@ -13,13 +12,12 @@ use borrow.Author.Tests.{eq-eqb, ne-eqb, lt-leb, le-leb}
 use Rattle.word.specs.declared.Comparison.the-variants.{Eq, Ne, Lt, Ge, Ltu, Geu}
 use Rattle.word.specs.Word.{arity, codeOf as comparisonCode}
 use Rattle.runs.specs.Lists.{upFrom, same, every, padded, concatMap}
-use Rattle.runs.proofs.ListLaws.{eqb-sym, same-front, same-append, same-zeros, every-append, every-and, every-map, padded-append, take-map-upFrom, drop-map-upFrom}
+use Rattle.runs.proofs.ListLaws.{eqb-sym, same-front, same-append, same-zeros, every-and, every-map, padded-append, take-map-upFrom, drop-map-upFrom}
 use Rattle.cfg.specs.declared.Instruction.{Instruction}
-use Rattle.cfg.specs.declared.Condition.{Condition}
 use Rattle.cfg.specs.declared.Ending.{Ending}
 use Rattle.cfg.specs.declared.Ending.the-variants.{Goto, Ite, Halt}
 use Rattle.cfg.specs.declared.Block.{Block}
-use Rattle.cfg.specs.Layout.{maxBlocks, maxRegisters, maxInstructions, headWords, instructionWords, codeOffset, endingOffset, endingWords, blockWords, graphWords, blockOffset}
+use Rattle.cfg.specs.Layout.{maxBlocks, maxRegisters, maxInstructions, endingWords, blockOffset}
 use Rattle.cfg.specs.Graph.{CFG, unused, codeOf, validInstruction, validEnding, validBlock, validGraph}
 use Rattle.cfg.specs.Table.{instructionWordsOf, endingWordsOf, blockWordsOf, tableOf, comparisonAt, instructionAt, endingAt, blockAt, graphOf, admitted}
 use Rattle.cfg.specs.Fits.{zeros, endingFits, blockFits}

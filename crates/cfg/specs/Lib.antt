@@ -3,3 +3,4 @@ pub mod Graph
 pub mod Table
 pub mod Run
 pub mod Fits
+pub mod Steps

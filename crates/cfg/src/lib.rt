@@ -1,8 +1,11 @@
 // The control-flow graph: limits, blocks, and the layout of its table.
 use word::Comparison;
+ghost use mathlib.Core.Path.{_≡_};
+ghost use Rattle.cfg.specs.Graph.{noInstruction, emptyBlock};
 
 pub mod decode; // decode.rt: a table's words as blocks
 pub mod admission; // admission.rt: which tables are admitted
+pub mod run; // run.rt: a graph's run with a budget
 
 // The head of a graph table: how many blocks and registers the graph has.
 pub struct Graph {
@@ -33,7 +36,9 @@ impl Instruction {
     pub const WORDS: usize = 4;
 
     // The words of no instruction.
-    pub fn none() -> Instruction {
+    pub fn none() -> Instruction
+        ensures { λ r. ⌜ r ≡ noInstruction ⌝ }
+    {
         Instruction {
             code: 0,
             d: 0,
@@ -77,7 +82,9 @@ impl Block {
     pub const LAST: usize = 39;
 
     // No instruction, and a halt.
-    pub fn empty() -> Block {
+    pub fn empty() -> Block
+        ensures { λ r. ⌜ r ≡ emptyBlock ⌝ }
+    {
         Block {
             count: 0,
             instructions: [Instruction::none(); 8],

@@ -1,6 +1,6 @@
 -- Laws of the lists' definitions: tests, counting up, padding. Assumes nothing.
 use Prim.Native.Nat.{ℕ, zero, suc, _+_, _-_, _≤_, _<_}
-use native.Mathlib.Nat.{add-zero, zero-add}
+use native.Mathlib.Nat.{add-zero}
 use native.Mathlib.Numerals.{add-one}
 use native.Mathlib.Omega.{arith}
 use mathlib.Core.Path.{_≡_, refl, sym, ap, _∙_}
@@ -82,14 +82,20 @@ length-upFrom k (suc n) = ap suc (length-upFrom (suc k) n)
 pub getD-upFrom : (k n i d : ℕ) → i < n → getD (upFrom k n) i d ≡ k + i
 getD-upFrom k zero i d h = absurd (omega arith)
 getD-upFrom k (suc n) zero d h = sym (add-zero k)
-getD-upFrom k (suc n) (suc i) d h = let e = getD-upFrom (suc k) n i d (omega arith) in e ∙ omega arith
+getD-upFrom k (suc n) (suc i) d h =
+    let e = getD-upFrom (suc k) n i d (omega arith) in
+    e ∙ omega arith
 
 -- one more number, from the front
 pub upFrom-cons : (i n : ℕ) → i < n → upFrom i (n - i) ≡ i ∷ upFrom (i + 1) (n - (i + 1))
-upFrom-cons i n h = let e : n - i ≡ suc (n - (i + 1)) = omega arith in rw (e, add-one)
+upFrom-cons i n h =
+    let e : n - i ≡ suc (n - (i + 1)) = omega arith in
+    rw (e, add-one)
 
 pub upFrom-done : (i n : ℕ) → n ≤ i → upFrom i (n - i) ≡ []
-upFrom-done i n h = let e : n - i ≡ 0 = omega arith in rw e
+upFrom-done i n h =
+    let e : n - i ≡ 0 = omega arith in
+    rw e
 
 module _ {A : Type 0} where
   -- ---- every
@@ -159,7 +165,9 @@ take-map-upFrom f k zero (suc c) h = absurd (omega arith)
 take-map-upFrom {B = B} f k (suc m) (suc c) h = ap (λ (l : List B). f k ∷ l) (take-map-upFrom f (suc k) m c (omega arith))
 
 pub drop-map-upFrom {ℓ} : {B : Type ℓ} (f : ℕ → B) (k m c : ℕ) → c ≤ m → drop c (map f (upFrom k m)) ≡ map f (upFrom (k + c) (m - c))
-drop-map-upFrom f k m zero h = let e : m - 0 ≡ m = omega arith in rw (add-zero, e)
+drop-map-upFrom f k m zero h =
+    let e : m - 0 ≡ m = omega arith in
+    rw (add-zero, e)
 drop-map-upFrom f k zero (suc c) h = absurd (omega arith)
 drop-map-upFrom f k (suc m) (suc c) h =
     let e : k + suc c ≡ suc k + c = omega arith in

@@ -4,10 +4,12 @@ use native.Mathlib.Nat.{zero-add, suc-add}
 use native.Mathlib.Omega.{arith}
 use mathlib.Core.Path.{_≡_, refl, sym, ap, _∙_}
 use Rattle.runs.specs.declared.RunAnswer.the-variants.{Halted, Spent}
-use Rattle.runs.specs.Runs.{Place, standing, halted, Configuration, onward, times, stepsRun, outcome, answer, registersAfter}
+use Rattle.runs.specs.Runs.{Place, standing, halted, Configuration, onward, times, stepsRun, answer, registersAfter}
 
 pub never-both : (p : Place) (n : ℕ) → p ≡ standing n → p ≡ halted → ⊥
-never-both p n h k = let z : _≡_ {A = ℕ} 0 1 = cc in omega arith
+never-both p n h k =
+    let z : _≡_ {A = ℕ} 0 1 = cc in
+    omega arith
 
 module _ (step : Configuration → Configuration) where
   -- ---- one step unrolled

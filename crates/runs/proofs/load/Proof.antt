@@ -1,10 +1,11 @@
-use Rattle.runs.proofs.ListLaws.{copied-more}
-use lib.ListN.{take, drop, replicate}
+-- `runs::load` meets its contract. Assumes nothing.
+use Prim.Native.Nat.{_-_, _≤_}
+use native.Mathlib.Omega.{arith}
 use mathlib.Core.List.{_++_, append-nil}
 use mathlib.Core.Path.{_≡_, refl, _∙_}
-use native.Mathlib.Omega.{arith}
-use Prim.Native.Nat.{_-_, _≤_}
+use lib.ListN.{take, drop, replicate}
 use borrow.Author.Needs.{needs}
+use Rattle.runs.proofs.ListLaws.{copied-more}
 use Rattle.runs.proofs.load.Statement.{statement}
 use Rattle.runs.proofs.load.Tie as tie
 
@@ -18,10 +19,16 @@ loop-holds : tie.Need-loop-holds Inv-loop μ-loop
 loop-holds c = (omega arith, refl)
 
 loop-again : tie.Need-loop-again Inv-loop μ-loop
-loop-again c = let k = c .before .before .before in let l = c .before .before .loop in (omega arith, rw (l .inv .1) (copied-more (replicate 16 0) (k .args .buffer .now) (l .i) (c .before .loop-test .taken) (omega arith)))
+loop-again c =
+    let k = c .before .before .before in
+    let l = c .before .before .loop in
+    (omega arith, rw (l .inv .1) (copied-more (replicate 16 0) (k .args .buffer .now) (l .i) (c .before .loop-test .taken) (omega arith)))
 
 returns : tie.Need-returns Inv-loop μ-loop
-returns c = let l = c .before .loop in let e : l .i ≡ 16 = omega arith in l .inv .1 ∙ rw (e, append-nil)
+returns c =
+    let l = c .before .loop in
+    let e : l .i ≡ 16 = omega arith in
+    l .inv .1 ∙ rw (e, append-nil)
 
 pub load-spec : {M : Type 1} → statement M
 load-spec =

@@ -1,30 +1,57 @@
-use Rattle.cfg.proofs.Words.{no-block, many-blocks, no-register, many-registers, by-blocks}
-use borrow.Author.Tests.{not-true, not-false}
-use lib.ListN.{getD}
+-- `cfg::admission::is_admitted` meets its contract. Assumes nothing.
+use Prim.Native.Nat.{_+_, _-_, _*_}
 use native.Mathlib.Omega.{arith}
 use mathlib.Core.Path.{_≡_, sym, _∙_}
-use Prim.Native.Nat.{_+_, _-_, _*_}
+use lib.ListN.{getD}
+use borrow.Author.Tests.{not-true, not-false}
 use borrow.Author.Needs.{needs}
+use Rattle.cfg.proofs.Words.{no-block, many-blocks, no-register, many-registers, by-blocks}
 use Rattle.cfg.proofs.admission.is_admitted.Statement.{statement}
 use Rattle.cfg.proofs.admission.is_admitted.Tie as tie
 
 returns : tie.Need-returns
-returns c = let t = c .before .before .before .before .before .args .table .now in let e = c .before .before .before .head-of .ensures in sym (no-block t (omega arith))
+returns c =
+    let t = c .before .before .before .before .before .args .table .now in
+    let e = c .before .before .before .head-of .ensures in
+    sym (no-block t (omega arith))
 
 returns-2 : tie.Need-returns-2
-returns-2 c = let t = c .before .before .before .before .before .before .args .table .now in let e = c .before .before .before .before .head-of .ensures in sym (many-blocks t (omega arith) (omega arith))
+returns-2 c =
+    let t = c .before .before .before .before .before .before .args .table .now in
+    let e = c .before .before .before .before .head-of .ensures in
+    sym (many-blocks t (omega arith) (omega arith))
 
 returns-3 : tie.Need-returns-3
-returns-3 c = let t = c .before .before .before .before .before .before .before .args .table .now in let e = c .before .before .before .before .before .head-of .ensures in sym (no-register t (omega arith) (omega arith) (omega arith))
+returns-3 c =
+    let t = c .before .before .before .before .before .before .before .args .table .now in
+    let e = c .before .before .before .before .before .head-of .ensures in
+    sym (no-register t (omega arith) (omega arith) (omega arith))
 
 returns-4 : tie.Need-returns-4
-returns-4 c = let t = c .before .before .before .before .before .before .before .before .args .table .now in let e = c .before .before .before .before .before .before .head-of .ensures in sym (many-registers t (omega arith) (omega arith) (omega arith) (omega arith))
+returns-4 c =
+    let t = c .before .before .before .before .before .before .before .before .args .table .now in
+    let e = c .before .before .before .before .before .before .head-of .ensures in
+    sym (many-registers t (omega arith) (omega arith) (omega arith) (omega arith))
 
 returns-5 : tie.Need-returns-5
-returns-5 c = let t = c .before .before .before .before .before .before .before .before .before .before .args .table .now in let e = c .before .before .before .before .before .before .before .before .head-of .ensures in let p = c .before .before .before .before .before .before .before .before .before .before .pre in let q = by-blocks t p (omega (arith, c .before .before .before .before .before)) (omega (arith, c .before .before .before .before)) (omega (arith, c .before .before .before)) (omega (arith, c .before .before)) in let f = rw (e .0, e .1) at (c .before .blocks-fit .ensures) in sym (q ∙ rw (← f, not-true (c .before .blocks-fit .result) (c .if5 .taken)))
+returns-5 c =
+    let t = c .before .before .before .before .before .before .before .before .before .before .args .table .now in
+    let e = c .before .before .before .before .before .before .before .before .head-of .ensures in
+    let p = c .before .before .before .before .before .before .before .before .before .before .pre in
+    let q = by-blocks t p (omega (arith, c .before .before .before .before .before)) (omega (arith, c .before .before .before .before)) (omega (arith, c .before .before .before)) (omega (arith, c .before .before)) in
+    let f = rw (e .0, e .1) at (c .before .blocks-fit .ensures) in
+    sym (q ∙ rw (← f, not-true (c .before .blocks-fit .result) (c .if5 .taken)))
 
 returns-6 : tie.Need-returns-6
-returns-6 c = let t = c .before .before .before .before .before .before .before .before .before .before .before .args .table .now in let e = c .before .before .before .before .before .before .before .before .before .head-of .ensures in let p = c .before .before .before .before .before .before .before .before .before .before .before .pre in let q = by-blocks t p (omega (arith, c .before .before .before .before .before .before)) (omega (arith, c .before .before .before .before .before)) (omega (arith, c .before .before .before .before)) (omega (arith, c .before .before .before)) in let f = rw (e .0, e .1) at (c .before .before .blocks-fit .ensures) in let z = rw (e .0) at (c .all-zero .ensures) in let n : 2562 - (2 + 40 * getD t 0 0) ≡ 2560 - 40 * getD t 0 0 = omega arith in sym (q ∙ rw (← f, ← n, ← z, not-false (c .before .before .blocks-fit .result) (c .before .if5 .left)))
+returns-6 c =
+    let t = c .before .before .before .before .before .before .before .before .before .before .before .args .table .now in
+    let e = c .before .before .before .before .before .before .before .before .before .head-of .ensures in
+    let p = c .before .before .before .before .before .before .before .before .before .before .before .pre in
+    let q = by-blocks t p (omega (arith, c .before .before .before .before .before .before)) (omega (arith, c .before .before .before .before .before)) (omega (arith, c .before .before .before .before)) (omega (arith, c .before .before .before)) in
+    let f = rw (e .0, e .1) at (c .before .before .blocks-fit .ensures) in
+    let z = rw (e .0) at (c .all-zero .ensures) in
+    let n : 2562 - (2 + 40 * getD t 0 0) ≡ 2560 - 40 * getD t 0 0 = omega arith in
+    sym (q ∙ rw (← f, ← n, ← z, not-false (c .before .before .blocks-fit .result) (c .before .if5 .left)))
 
 pub is-admitted-spec : {M : Type 1} → statement M
 is-admitted-spec =

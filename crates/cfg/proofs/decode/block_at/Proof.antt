@@ -1,6 +1,7 @@
-use Rattle.cfg.specs.Table.{blockAt}
+-- `cfg::decode::block_at` meets its contract. Assumes nothing.
 use native.Mathlib.Omega.{arith}
 use borrow.Author.Needs.{needs}
+use Rattle.cfg.specs.Table.{blockAt}
 use Rattle.cfg.proofs.decode.block_at.Statement.{statement}
 use Rattle.cfg.proofs.decode.block_at.Tie as tie
 

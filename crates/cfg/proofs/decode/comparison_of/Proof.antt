@@ -1,6 +1,6 @@
-use Rattle.cfg.proofs.Blocks.{no-comparison}
+-- `cfg::decode::comparison_of` meets its contract. Assumes nothing.
 use mathlib.Core.Path.{sym}
-use borrow.Author.Needs.{needs}
+use Rattle.cfg.proofs.Blocks.{no-comparison}
 use Rattle.cfg.proofs.decode.comparison_of.Statement.{statement}
 use Rattle.cfg.proofs.decode.comparison_of.Tie as tie
 

@@ -1,6 +1,7 @@
-use Rattle.cfg.specs.Table.{instructionAt}
+-- `cfg::decode::instruction_at` meets its contract. Assumes nothing.
 use mathlib.Core.Path.{refl}
 use borrow.Author.Needs.{needs}
+use Rattle.cfg.specs.Table.{instructionAt}
 use Rattle.cfg.proofs.decode.instruction_at.Statement.{statement}
 use Rattle.cfg.proofs.decode.instruction_at.Tie as tie
 

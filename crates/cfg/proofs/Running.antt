@@ -1,0 +1,223 @@
+-- Laws of a graph's run: instructions, blocks, steps, and the answers of "Run graph". Assumes nothing.
+use Prim.Native.Nat.{ℕ, suc, _+_, _%_, _≤_, _<_}
+use native.Mathlib.Numerals.{add-one}
+use native.Mathlib.Omega.{arith}
+use mathlib.Core.Path.{_≡_, refl, ap, _∙_}
+use mathlib.Core.Bool.{Bool, true, false, not, _||_}
+use mathlib.Core.List.{List, [], _∷_, _++_}
+use lib.Dec.{eqb, ltb}
+use lib.ListN.{length, getD, take, drop, set, drop-of-length-le}
+use lib.Seq.{drop-cons, getD-take, length-take-le}
+use borrow.Author.Tests.{eqb-true, eqb-false, eq-eqb, ne-eqb, lt-ltb, le-ltb}
+use Rattle.word.specs.Word.{choose, evalOf, arity}
+use Rattle.runs.specs.Runs.{Place, standing, halted, Configuration, startAt, answer, registersAfter}
+use Rattle.runs.specs.declared.RunAnswer.the-variants.{Refused}
+use Rattle.runs.proofs.RunLaws.{Reached, reached-step}
+use Rattle.cfg.specs.declared.Instruction.{Instruction}
+use Rattle.cfg.specs.declared.Ending.{Ending}
+use Rattle.cfg.specs.declared.Ending.the-variants.{Goto, Ite, Halt}
+use Rattle.cfg.specs.declared.Block.{Block}
+use Rattle.cfg.specs.Layout.{maxRegisters, graphWords}
+use Rattle.cfg.specs.Graph.{CFG, noInstruction, blockOf, codeOf, execute, executeAll, holds, leave, runBlock, step}
+use Rattle.cfg.specs.Table.{blockAt, graphOf, admitted}
+use Rattle.cfg.specs.Run.{refusal, runAnswer, runRegisters}
+use Rattle.cfg.specs.Steps.{Within, EndingWithin, BlockWithin}
+use Rattle.cfg.proofs.Blocks.{instructions-length}
+use Rattle.cfg.proofs.Admitted.{Admitted, ValidInstruction, ValidEnding, block-below}
+
+-- ---- one instruction
+
+module _ (k a x y : ℕ) where
+  -- a set's value is its literal
+  pub value-set : k ≡ 1 → evalOf k (choose (eqb k 1) a x) y 0 ≡ a
+  unfolding evalOf
+  value-set h =
+      let first : choose (eqb k 1) a x ≡ a = rw (eq-eqb k 1 h) in
+      ap (λ (z : ℕ). evalOf k z y 0) first ∙ rw h
+
+  pub value-other : (k ≡ 1 → ⊥) → evalOf k (choose (eqb k 1) a x) y 0 ≡ evalOf k x y 0
+  value-other h = rw (ne-eqb k 1 h)
+
+execute-opens : (i : Instruction) (rs : List ℕ)
+    → execute i rs ≡ set rs (i .d) (evalOf (i .code) (choose (eqb (i .code) 1) (i .a) (getD rs (i .a) 0)) (getD rs (i .b) 0) 0)
+unfolding execute
+execute-opens i rs = refl
+
+-- only registers of the file are read, so their numbers may be taken modulo 16
+pub execute-is : (i : Instruction) (rs : List ℕ) → Within i
+    → execute i rs ≡ set rs (i .d) (evalOf (i .code) (choose (eqb (i .code) 1) (i .a) (getD rs (i .a % 16) 0)) (getD rs (i .b % 16) 0) 0)
+execute-is i rs w =
+    let second : i .b % 16 ≡ i .b = (let l = w .second in omega arith) in
+    execute-opens i rs ∙ rw second (ap (λ (z : ℕ). set rs (i .d) (evalOf (i .code) z (getD rs (i .b) 0) 0)) (first (eqb (i .code) 1) refl))
+  where
+    first : (t : Bool) → eqb (i .code) 1 ≡ t → choose t (i .a) (getD rs (i .a) 0) ≡ choose t (i .a) (getD rs (i .a % 16) 0)
+    first true e = refl
+    first false e =
+        let l = w .first (eqb-false (i .code) 1 e) in
+        let m : i .a % 16 ≡ i .a = omega arith in
+        rw m
+
+-- ---- a block's instructions, one after another
+
+execute-nil : (rs : List ℕ) → executeAll [] rs ≡ rs
+unfolding executeAll
+execute-nil rs = refl
+
+execute-cons : (i : Instruction) (is : List Instruction) (rs : List ℕ) → executeAll (i ∷ is) rs ≡ executeAll is (execute i rs)
+unfolding executeAll
+execute-cons i is rs = refl
+
+module _ (k : Block) (fits : k .count ≤ length (k .instructions)) where
+  pub code-next : (i : ℕ) (rs : List ℕ) → i < k .count
+      → executeAll (drop i (codeOf k)) rs ≡ executeAll (drop (i + 1) (codeOf k)) (execute (getD (k .instructions) i noInstruction) rs)
+  code-next i rs h =
+      let n = length-take-le (k .count) (k .instructions) fits in
+      let e = getD-take (k .count) (k .instructions) i noInstruction h in
+      ap (λ (l : List Instruction). executeAll l rs) (drop-cons (codeOf k) i noInstruction (omega arith))
+      ∙ execute-cons (getD (codeOf k) i noInstruction) (drop (suc i) (codeOf k)) rs
+      ∙ rw (e, add-one)
+
+  pub code-done : (i : ℕ) (rs : List ℕ) → k .count ≤ i → executeAll (drop i (codeOf k)) rs ≡ rs
+  code-done i rs h =
+      let n = length-take-le (k .count) (k .instructions) fits in
+      ap (λ (l : List Instruction). executeAll l rs) (drop-of-length-le (codeOf k) {i = i} (omega arith)) ∙ execute-nil rs
+
+-- ---- what admission gives of a block that is run
+
+within-valid : (r : ℕ) (i : Instruction) → 1 ≤ r → r ≤ maxRegisters → ValidInstruction r i → Within i
+within-valid r i s h v = record {
+  first = λ e. let l = v .first e in omega arith;
+  second = go (eqb (arity (i .code)) 2) refl;
+}
+  where
+    go : (t : Bool) → eqb (arity (i .code)) 2 ≡ t → i .b < maxRegisters
+    go true e = let l = v .second (eqb-true (arity (i .code)) 2 e) in omega arith
+    go false e = let l = v .noSecond (eqb-false (arity (i .code)) 2 e) in omega arith
+
+module _ (t : List ℕ) (a : Admitted t) (n : ℕ) (below : n < getD t 0 0) where
+  pub block-within : BlockWithin (blockAt t n)
+  block-within =
+      let v = a .block n below in
+      let l = instructions-length t n in
+      let f = v .few in
+      record {
+        few = v .few;
+        fits = omega arith;
+        each = λ i h.
+            within-valid (getD t 1 0) (getD (blockAt t n .instructions) i noInstruction) (a .someRegister) (a .fewRegisters) (v .instruction i h (omega arith));
+      }
+
+  pub ending-within : EndingWithin (blockAt t n .ending)
+  ending-within = go (blockAt t n .ending) (a .block n below .ended)
+    where
+      go : (e : Ending) → ValidEnding (getD t 0 0) (getD t 1 0) e → EndingWithin e
+      go (Goto m) v = tt
+      go (Ite c m f) v =
+          let r = a .fewRegisters in
+          let p = v .first in
+          let q = v .second in
+          record { first = omega arith; second = omega arith }
+      go Halt v = tt
+
+leave-below : (b r : ℕ) (e : Ending) (rs : List ℕ) (m : ℕ) → ValidEnding b r e → leave e rs ≡ standing m → m < b
+unfolding leave
+leave-below b r (Goto t) rs m v h =
+    let e : t ≡ m = cc in
+    omega arith
+leave-below b r (Ite c t f) rs m v h = go (holds c rs) h
+  where
+    go : (p : Bool) → standing (choose p t f) ≡ standing m → m < b
+    go true e = let q : t ≡ m = cc in let l = v .holds in omega arith
+    go false e = let q : f ≡ m = cc in let l = v .fails in omega arith
+leave-below b r Halt rs m v h = absurd (let z : _≡_ {A = ℕ} 0 1 = cc in omega arith)
+
+pub next-below : (t : List ℕ) → Admitted t → (n : ℕ) → n < getD t 0 0 → (rs : List ℕ) (m : ℕ) → leave (blockAt t n .ending) rs ≡ standing m → m < getD t 0 0
+next-below t a n l rs m h = leave-below (getD t 0 0) (getD t 1 0) (blockAt t n .ending) rs m (a .block n l .ended) h
+
+-- ---- one step
+
+pub halted-stays : (g : CFG) (c : Configuration) → c .place ≡ halted → step g c ≡ c
+unfolding step
+halted-stays g c h = rw h
+
+run-is : (k : Block) (rs : List ℕ) → runBlock k rs ≡ record { place = leave (k .ending) (executeAll (codeOf k) rs); registers = executeAll (codeOf k) rs }
+unfolding runBlock
+run-is k rs = refl
+
+step-is : (g : CFG) (n : ℕ) (rs : List ℕ) → step g (startAt n rs) ≡ runBlock (blockOf g n) rs
+unfolding step
+step-is g n rs = refl
+
+-- the block stood at is run
+pub step-block : (t : List ℕ) (n : ℕ) (rs : List ℕ) → n < getD t 0 0
+    → step (graphOf t) (startAt n rs)
+    ≡ record { place = leave (blockAt t n .ending) (executeAll (codeOf (blockAt t n)) rs); registers = executeAll (codeOf (blockAt t n)) rs }
+step-block t n rs h = step-is (graphOf t) n rs ∙ ap (λ (k : Block). runBlock k rs) (block-below t n h) ∙ run-is (blockAt t n) rs
+
+-- a turn of the loop
+pub turn : (t : List ℕ) (budget : ℕ) (c₀ : Configuration) (count n : ℕ) (rs after : List ℕ) (p : Place) → n < getD t 0 0 → count < budget
+    → Reached (step (graphOf t)) budget c₀ count (startAt n rs)
+    → after ≡ executeAll (codeOf (blockAt t n)) rs
+    → p ≡ leave (blockAt t n .ending) after
+    → Reached (step (graphOf t)) budget c₀ (count + 1) (record { place = p; registers = after })
+turn t budget c₀ count n rs after p l h r e q =
+    rw (q, e, ← step-block t n rs l) (reached-step (step (graphOf t)) budget c₀ count (startAt n rs) r n refl h)
+
+-- ---- refusals, and the answer where there is none
+
+module _ (t rs : List ℕ) (start : ℕ) where
+  refusal-is : refusal t rs start
+      ≡ choose (ltb (length t) graphWords || ltb (length rs) maxRegisters) 7
+      (choose (not (admitted t)) 6 (choose (not (ltb start (getD t 0 0))) 9 0))
+  unfolding refusal
+  refusal-is = refl
+
+  pub short-table : length t < graphWords → refusal t rs start ≡ 7
+  short-table h = refusal-is ∙ rw (lt-ltb (length t) graphWords h)
+
+  module _ (l : graphWords ≤ length t) where
+    pub short-registers : length rs < maxRegisters → refusal t rs start ≡ 7
+    short-registers h = refusal-is ∙ rw (le-ltb (length t) graphWords l, lt-ltb (length rs) maxRegisters h)
+
+    module _ (m : maxRegisters ≤ length rs) where
+      long-enough : refusal t rs start ≡ choose (not (admitted t)) 6 (choose (not (ltb start (getD t 0 0))) 9 0)
+      long-enough = refusal-is ∙ rw (le-ltb (length t) graphWords l, le-ltb (length rs) maxRegisters m)
+
+      pub not-admitted : admitted t ≡ false → refusal t rs start ≡ 6
+      not-admitted h = long-enough ∙ rw h
+
+      pub no-start : admitted t ≡ true → getD t 0 0 ≤ start → refusal t rs start ≡ 9
+      no-start h k = long-enough ∙ rw (h, le-ltb start (getD t 0 0) k)
+
+      pub none-refused : admitted t ≡ true → start < getD t 0 0 → refusal t rs start ≡ 0
+      none-refused h k = long-enough ∙ rw (h, lt-ltb start (getD t 0 0) k)
+
+module _ (t rs : List ℕ) (start budget : ℕ) where
+  answer-is : runAnswer t rs start budget
+      ≡ choose (eqb (refusal t rs start) 0)
+      (answer (step (graphOf t)) budget (startAt start (take maxRegisters rs)))
+      (Refused (refusal t rs start))
+  unfolding runAnswer
+  answer-is = refl
+
+  after-is : runRegisters t rs start budget
+      ≡ choose (eqb (refusal t rs start) 0)
+      (registersAfter (step (graphOf t)) budget (startAt start (take maxRegisters rs)) ++ drop maxRegisters rs)
+      rs
+  unfolding runRegisters
+  after-is = refl
+
+  module _ (n : ℕ) (h : refusal t rs start ≡ suc n) where
+    pub refused : runAnswer t rs start budget ≡ Refused (suc n)
+    refused = answer-is ∙ rw (h, ne-eqb (suc n) 0 (λ e. omega arith))
+
+    pub refused-registers : runRegisters t rs start budget ≡ rs
+    refused-registers = after-is ∙ rw (h, ne-eqb (suc n) 0 (λ e. omega arith))
+
+  module _ (h : refusal t rs start ≡ 0) where
+    pub accepted : runAnswer t rs start budget ≡ answer (step (graphOf t)) budget (startAt start (take maxRegisters rs))
+    accepted = answer-is ∙ rw h
+
+    pub accepted-registers : runRegisters t rs start budget
+        ≡ registersAfter (step (graphOf t)) budget (startAt start (take maxRegisters rs)) ++ drop maxRegisters rs
+    accepted-registers = after-is ∙ rw h

@@ -1,0 +1,37 @@
+-- What the parts of a graph's run give: cited by inner functions alone. Assumes nothing.
+use Prim.Native.Nat.{ℕ, _≤_, _<_}
+use mathlib.Core.Path.{_≡_}
+use lib.ListN.{length, getD}
+use Rattle.runs.specs.Runs.{Place, standing, halted}
+use Rattle.cfg.specs.declared.Instruction.{Instruction}
+use Rattle.cfg.specs.declared.Condition.{Condition}
+use Rattle.cfg.specs.declared.Ending.{Ending}
+use Rattle.cfg.specs.declared.Ending.the-variants.{Goto, Ite, Halt}
+use Rattle.cfg.specs.declared.Block.{Block}
+use Rattle.cfg.specs.declared.run.Next.{Next}
+use Rattle.cfg.specs.declared.run.Next.the-variants.{To, Nowhere}
+use Rattle.cfg.specs.Layout.{maxRegisters, maxInstructions}
+use Rattle.cfg.specs.Graph.{noInstruction}
+
+-- an instruction reads registers of the register file; a set reads none
+pub record Within (i : Instruction) : Type 0 where
+  pub first : (i .code ≡ 1 → ⊥) → i .a < maxRegisters
+  pub second : i .b < maxRegisters
+
+pub record IteWithin (c : Condition) : Type 0 where
+  pub first : c .a < maxRegisters
+  pub second : c .b < maxRegisters
+
+abbrev pub EndingWithin : Ending → Type 0
+EndingWithin (Goto t) = Unit {0}
+EndingWithin (Ite c t f) = IteWithin c
+EndingWithin Halt = Unit {0}
+
+pub record BlockWithin (k : Block) : Type 0 where
+  pub few : k .count ≤ maxInstructions
+  pub fits : k .count ≤ length (k .instructions)
+  pub each : (i : ℕ) → i < k .count → Within (getD (k .instructions) i noInstruction)
+
+abbrev pub placeOf : Next → Place
+placeOf (To t) = standing t
+placeOf Nowhere = halted

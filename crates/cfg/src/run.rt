@@ -1,0 +1,137 @@
+// A graph's run with a budget of blocks.
+use crate::Block;
+use crate::Ending;
+use crate::Graph;
+use crate::Instruction;
+use crate::admission;
+use crate::decode;
+use runs::RunAnswer;
+use word::Registers;
+ghost use mathlib.Core.Bool.{true};
+ghost use mathlib.Core.Path.{_≡_};
+ghost use Prim.Native.Nat.{_<_};
+ghost use lib.Dec.{eqb};
+ghost use lib.ListN.{getD};
+ghost use Rattle.word.specs.Word.{choose, evalOf};
+ghost use Rattle.runs.specs.Runs.{startAt, answer, registersAfter};
+ghost use Rattle.cfg.specs.Graph.{codeOf, executeAll, leave, step};
+ghost use Rattle.cfg.specs.Table.{graphOf, admitted};
+ghost use Rattle.cfg.specs.Steps.{EndingWithin, BlockWithin, placeOf};
+ghost use Rattle.cfg.specs.Run.{runAnswer, runRegisters};
+
+// The block that comes next.
+pub enum Next {
+    To(u32),
+    Nowhere,
+}
+
+// A run's answer, and the registers that it leaves.
+pub struct Ran {
+    pub answer: RunAnswer,
+    pub registers: Registers,
+}
+
+// What the instruction writes, of the words in the registers that its operands name.
+fn value_of(i: Instruction, x: u32, y: u32) -> u32
+    ensures { λ r. ⌜ r ≡ evalOf (i .code) (choose (eqb (i .code) 1) (i .a) x) y 0 ⌝ }
+{
+    if i.code == 1 {
+        return i.a;
+    }
+    word::eval(i.code, x, y, 0)
+}
+
+// The block's instructions in order, each seeing the one before.
+fn execute_all(block: Block, file: Registers) -> Registers
+    requires { ⌜ BlockWithin block ⌝ }
+    ensures { λ r. ⌜ r .words ≡ executeAll (codeOf block) (file .words) ⌝ }
+{
+    let count = block.count as usize;
+    let mut current = file;
+    let mut i = 0;
+    while i < count {
+        let next = block.instructions[i];
+        // A set's literal names no register: whatever is read there is not used.
+        let a = next.a as usize % Registers::COUNT;
+        let b = next.b as usize % Registers::COUNT;
+        let value = value_of(next, current.words[a], current.words[b]);
+        let after = current.put(next.d as usize, value);
+        current = after;
+        i += 1;
+    }
+    current
+}
+
+fn next_of(ending: Ending, file: Registers) -> Next
+    requires { ⌜ EndingWithin ending ⌝ }
+    ensures { λ r. ⌜ placeOf r ≡ leave ending (file .words) ⌝ }
+{
+    match ending {
+        Ending::Goto(t) => Next::To(t),
+        Ending::Ite(c, t, f) => {
+            let a = c.a as usize;
+            let b = c.b as usize;
+            let comparison = c.comparison;
+            if word::compare(comparison, file.words[a], file.words[b]) {
+                Next::To(t)
+            } else {
+                Next::To(f)
+            }
+        }
+        Ending::Halt => Next::Nowhere,
+    }
+}
+
+// The table is checked before: nothing of admission is done here.
+fn run_blocks(table: &[u32], start: u32, budget: u32, file: Registers) -> Ran
+    requires { ⌜ (admitted (now table) ≡ true) × (start < getD (now table) 0 0) ⌝ }
+    ensures { λ r. ⌜ (r .answer ≡ answer (step (graphOf (now (table .entry)))) budget (startAt start (file .words))) × (r .registers .words ≡ registersAfter (step (graphOf (now (table .entry)))) budget (startAt start (file .words))) ⌝ }
+{
+    let mut at = start;
+    let mut current = file;
+    let mut count = 0;
+    while count < budget {
+        let block = decode::block_at(table, at as usize);
+        let after = execute_all(block, current);
+        current = after;
+        count += 1;
+        let ending = block.ending;
+        match next_of(ending, current) {
+            Next::To(t) => at = t,
+            Next::Nowhere => {
+                return Ran {
+                    answer: RunAnswer::Halted(count),
+                    registers: current,
+                };
+            }
+        }
+    }
+    Ran {
+        answer: RunAnswer::Spent(count, at),
+        registers: current,
+    }
+}
+
+// "Run graph": from a start block, with a budget of blocks.
+pub fn run_graph(table: &[u32], registers: &mut [u32], start: u32, budget: u32) -> RunAnswer
+    ensures { λ r. ⌜ r ≡ runAnswer (now (table .entry)) (now (registers .entry)) start budget ⌝ }
+    ensures { λ r. ⌜ now (registers .exit) ≡ runRegisters (now (table .entry)) (now (registers .entry)) start budget ⌝ }
+{
+    if table.len() < Graph::WORDS {
+        return RunAnswer::Refused(7);
+    }
+    if registers.len() < Graph::REGISTERS {
+        return RunAnswer::Refused(7);
+    }
+    if !admission::is_admitted(table) {
+        return RunAnswer::Refused(6);
+    }
+    let head = decode::head_of(table);
+    if head.blocks <= start {
+        return RunAnswer::Refused(9);
+    }
+    let file = runs::load(registers);
+    let ran = run_blocks(table, start, budget, file);
+    runs::store(registers, ran.registers);
+    ran.answer
+}

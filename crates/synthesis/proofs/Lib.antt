@@ -14,3 +14,6 @@ pub mod StateValidity
 pub mod WireCount
 pub mod SynthesisedMachine
 pub mod TableWords
+pub mod TableWrites
+pub mod MachineTable
+pub mod TableFilled

@@ -56,16 +56,6 @@ only-length p (x ∷ l) = go (p x) (only-length p l)
     go true h = omega arith
     go false h = omega arith
 
--- a list filled up with d reads as it does
-getD-filled : (n d : ℕ) (l : List ℕ) (x : ℕ) → length l ≤ n → getD (padded n d l) x d ≡ getD l x d
-getD-filled n d l x h = go (decLt x n)
-  where
-    go : Dec (x < n) → getD (padded n d l) x d ≡ getD l x d
-    go (yes e) = getD-padded n d l x e
-    go (no e) =
-        List·getD-eq-default (padded n d l) d {n = x} (rw length-padded (omega arith))
-        ∙ sym (List·getD-eq-default l d {n = x} (omega arith))
-
 module _ (g : CFG) (a : Closed g) (k : ℕ) (k-in : k < length (groups g .starters)) where
   states-length : length (groups g .states) ≡ length (g .blocks)
   states-length = grouped g a .all-blocks
@@ -80,14 +70,12 @@ module _ (g : CFG) (a : Closed g) (k : ℕ) (k-in : k < length (groups g .starte
       let d : getD (groups g .states) x none ≡ none = List·getD-eq-default (groups g .states) none {n = x} (omega (arith, states-length)) in
       omega (arith, k-low))
 
-  pub members-alike : membersIn (padded 64 none (groups g .states)) k ≡ members g (groups g) k
+  pub members-alike : membersIn (groups g .states) k ≡ members g (groups g) k
   unfolding members
   members-alike =
       let b = a .few-blocks in
       let n : 64 ≡ length (g .blocks) + (64 - length (g .blocks)) = omega arith in
-      ap (λ (p : ℕ → Bool). only p (upFrom 0 64))
-      (fun-ext (λ x. ap (λ (m : ℕ). eqb m k) (getD-filled 64 none (groups g .states) x (omega (arith, states-length)))))
-      ∙ ap (λ (m : ℕ). only (ofState (groups g .states) k) (upFrom 0 m)) n
+      ap (λ (m : ℕ). only (ofState (groups g .states) k) (upFrom 0 m)) n
       ∙ only-more (ofState (groups g .states) k) 0 (length (g .blocks)) (64 - length (g .blocks)) (λ x h. outside x (omega arith))
 
   members-few : length (members g (groups g) k) ≤ 64
@@ -98,7 +86,7 @@ module _ (g : CFG) (a : Closed g) (k : ℕ) (k-in : k < length (groups g .starte
       omega (arith, length-upFrom 0 (length (g .blocks)))
 
   pub placed-order : (edges starts : List ℕ) → ((n : ℕ) → edgesIn edges n ≡ successors g n)
-      → ((x : ℕ) → marked starts x ≡ mem x (groups g .starters)) → placeIn edges starts (membersIn (padded 64 none (groups g .states)) k) 64 [] ≡ order g (groups g) k
+      → ((x : ℕ) → marked starts x ≡ mem x (groups g .starters)) → placeIn edges starts (membersIn (groups g .states) k) 64 [] ≡ order g (groups g) k
   placed-order edges starts e m =
       ap (λ (l : List ℕ). placeIn edges starts l 64 []) members-alike
       ∙ place-alike g (groups g) edges starts (members g (groups g) k) e m 64 []

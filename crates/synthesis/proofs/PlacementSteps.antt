@@ -144,7 +144,7 @@ pub record Placing (edges starts blocks placed list : List ℕ) (count : ℕ) : 
   pub marks : (x : ℕ) → marked placed x ≡ mem x before
   pub rest : placeIn edges starts blocks 64 [] ≡ take count list ++ placeIn edges starts blocks (64 - count) before
 
-no-marks : (x : ℕ) → marked (replicate 64 0) x ≡ false
+pub no-marks : (x : ℕ) → marked (replicate 64 0) x ≡ false
 no-marks x = go (decLt x 64)
   where
     go : Dec (x < 64) → marked (replicate 64 0) x ≡ false
@@ -161,7 +161,7 @@ placing-begins edges starts blocks = record {
   rest = refl;
 }
 
-marked-set : (marks : List ℕ) (x y : ℕ) → x < length marks → marked (set marks x 1) y ≡ eqb y x || marked marks y
+pub marked-set : (marks : List ℕ) (x y : ℕ) → x < length marks → marked (set marks x 1) y ≡ eqb y x || marked marks y
 marked-set marks x y h = go (compared y x)
   where
     go : Compared y x → marked (set marks x 1) y ≡ eqb y x || marked marks y

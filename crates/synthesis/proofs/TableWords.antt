@@ -13,8 +13,7 @@ use Rattle.fsmd.specs.declared.Wire.{Wire}
 use Rattle.fsmd.specs.Layout.{maxStates, maxRegisters, maxWires, wireWords, recordWords}
 use Rattle.fsmd.specs.Machine.{State}
 use Rattle.fsmd.specs.Table.{wireWordsOf, recordsOf, tableOf}
-use Rattle.fsmd.proofs.ReadBack.{wireCount}
-use Rattle.synthesis.specs.StateWords.{written, wiresOf, recordOf, withStates, firstStates}
+use Rattle.synthesis.specs.StateWords.{written, wiresOf, wireCount, recordOf, withStates}
 
 -- ---- words put over others
 
@@ -83,11 +82,6 @@ pub count-more : (qs : List State) (q : State) → wireCount (qs ++ (q ∷ [])) 
 unfolding wireCount
 count-more [] q = omega arith
 count-more (p ∷ qs) q = let e = count-more qs q in omega arith
-
-count-append : (ps qs : List State) → wireCount (ps ++ qs) ≡ wireCount ps + wireCount qs
-unfolding wireCount
-count-append [] qs = omega arith
-count-append (p ∷ ps) qs = let e = count-append ps qs in omega arith
 
 records-more : (n : ℕ) (qs : List State) (q : State) → recordsOf n (qs ++ (q ∷ [])) ≡ recordsOf n qs ++ recordOf (n + wireCount qs) q
 unfolding recordsOf wireCount

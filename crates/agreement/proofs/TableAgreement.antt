@@ -17,7 +17,8 @@ use Rattle.fsmd.specs.Layout.{machineWords}
 use Rattle.fsmd.specs.Machine.{FSMD, cycle}
 use Rattle.fsmd.specs.Table.{tableOf, machineOf, admitted as admittedMachine}
 use Rattle.fsmd.proofs.Machines.{states-length, registers-is, state-is, admitted-facts as machine-facts}
-use Rattle.fsmd.proofs.ReadBack.{read-cycle, read-admitted}
+use Rattle.fsmd.proofs.WrittenTable.{table-length}
+use Rattle.fsmd.proofs.ReadBack.{Fits, Sound, read-cycle, read-admitted}
 use Rattle.grouping.specs.Grouping.{Groups, groups}
 use Rattle.grouping.proofs.Reach.{valid-closed}
 use Rattle.synthesis.specs.Synthesis.{machineFor, machine, synthesisAnswer, made, synthesisWords}
@@ -29,15 +30,6 @@ use Rattle.synthesis.proofs.SynthesisedMachine.{machine-is, machine-fits}
 use Rattle.agreement.specs.Agreement.{AgreeAfter, Agreement}
 use Rattle.agreement.proofs.WholeRun.{cycle-halted, agree-after}
 use Rattle.agreement.proofs.RunAnswers.{run-agrees}
-
--- ---- a table that begins with the words of a machine
-
-table-length : (m : FSMD) → length (tableOf m) ≡ machineWords
-unfolding tableOf
-table-length m = simp (length-append, length-padded {A = ℕ})
-
-cycle-same : (m n : FSMD) → ((c : Configuration) → cycle m c ≡ cycle n c) → cycle m ≡ cycle n
-cycle-same m n e = λ i c. e c i
 
 agree-same : (g : CFG) (s : Groups) (m n : FSMD) (rs : List ℕ) (k : ℕ) → cycle m ≡ cycle n → AgreeAfter g s n rs k → AgreeAfter g s m rs k
 agree-same g s m n rs k e a =
@@ -54,10 +46,10 @@ agreement t rest ok =
     let f = machine-fits g v in
     let m = machine g in
     let table = tableOf m ++ rest in
-    let same : cycle (machineOf table) ≡ cycle (machineFor g s) =
-    cycle-same (machineOf table) m (read-cycle m rest (f .fewStates) (f .fewRegisters) (f .room) (f .nextRegisters)) ∙ ap cycle (machine-is g) in
-    let ok′ : admittedMachine table ≡ true =
-    read-admitted m rest (f .fewStates) (f .fewRegisters) (f .room) (f .nextRegisters) (f .someState) (f .someRegister) (f .valid) in
+    let whole : Fits m = record { few-states = f .fewStates; few-registers = f .fewRegisters; room = f .room; next-registers = f .nextRegisters } in
+    let sound : Sound m = record { fits = whole; some-states = f .someState; some-registers = f .someRegister; valid = f .valid } in
+    let same : cycle (machineOf table) ≡ cycle (machineFor g s) = read-cycle m rest whole ∙ ap cycle (machine-is g) in
+    let ok′ : admittedMachine table ≡ true = read-admitted m rest sound in
     let h = machine-facts table ok′ in
     record {
       agree = λ rs size k.

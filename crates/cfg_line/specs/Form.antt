@@ -4,7 +4,7 @@ use mathlib.Core.Bool.{Bool, true, false, _&&_}
 use mathlib.Core.List.{List, [], _∷_}
 use mathlib.Core.Option.{Option, none, some}
 use lib.Dec.{eqb, leb}
-use Rattle.word.specs.Word.{choose, arity}
+use Rattle.word.specs.Word.{choose}
 use Rattle.cfg.specs.Layout.{maxBlocks, maxRegisters}
 use Rattle.cfg.specs.Table.{comparisonAt}
 use Rattle.cfg.specs.declared.Instruction.{Instruction}
@@ -59,31 +59,27 @@ instruction k d a b = line.Instruction (record { code = k; d = d; a = a; b = b }
 abbrev pub iteLine : ℕ → ℕ → ℕ → ℕ → ℕ → Line
 iteLine c a b t f = line.Ite (record { comparison = comparisonAt c; a = a; b = b }) t f
 
--- behind name and d: a set's literal; of copy and sx a; else a and b
-unfoldable pub operands : ℕ → ℕ → Fields → Line
-unfolding arity literalOf
-operands k d fs =
-    choose (eqb k 1) (field literalOf (λ a. end (instruction k d a 0)) fs)
-    (choose (eqb (arity k) 1) (number (λ a. end (instruction k d a 0)) fs)
-    (number (λ a. number (λ b. end (instruction k d a b))) fs))
-
+-- what a line's fields behind its name make
 unfoldable pub formOf : Keyword → Fields → Line
-unfolding operands comparisonOf
+unfolding comparisonOf literalOf
 formOf keyword.Graph fs = number (λ b. number (λ r. end (graphLine b r))) fs
 formOf keyword.Block fs = number (λ n. end (line.Block n)) fs
 formOf keyword.Goto fs = number (λ t. end (line.Goto t)) fs
 formOf keyword.Ite fs =
     field comparisonOf (λ c. number (λ a. number (λ b. number (λ t. number (λ f. end (iteLine c a b t f)))))) fs
 formOf keyword.Halt fs = end line.Halt fs
-formOf (keyword.Operation k) fs = number (λ d. operands k d) fs
+formOf keyword.Set fs = number (λ d. field literalOf (λ a. end (instruction 1 d a 0))) fs
+formOf (keyword.Unary k) fs = number (λ d. number (λ a. end (instruction k d a 0))) fs
+formOf (keyword.Binary k) fs = number (λ d. number (λ a. number (λ b. end (instruction k d a b)))) fs
 formOf keyword.Nothing fs = line.NoForm
 
 -- by the first field's name
-abbrev pub byName : Fields → Line
+unfoldable pub byName : Fields → Line
+unfolding keywordOf formOf
 byName [] = line.NoForm
 byName (name ∷ fs) = formOf (keywordOf name) fs
 
 -- a line without its line feed; fields are parted by commas
 unfoldable pub lineOf : List ℕ → Line
-unfolding splitAt keywordOf formOf
+unfolding splitAt byName
 lineOf l = byName (splitAt 44 l)

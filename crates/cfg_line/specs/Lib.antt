@@ -1,3 +1,4 @@
 pub mod Number
 pub mod Name
 pub mod Form
+pub mod Cursor

@@ -5,10 +5,11 @@ use mathlib.Core.List.{List, [], _∷_}
 use mathlib.Core.Option.{Option, none, some}
 use Prim.Native.Char.{code}
 use Prim.Native.String.{String, [] as empty, _∷_ as _then_}
-use Rattle.word.specs.Word.{choose}
+use lib.Dec.{eqb}
+use Rattle.word.specs.Word.{choose, arity}
 use Rattle.runs.specs.Lists.{same, orElse}
 use Rattle.cfg_line.specs.declared.Keyword.{Keyword}
-use Rattle.cfg_line.specs.declared.Keyword.the-variants.{Graph, Block, Goto, Ite, Halt, Operation, Nothing}
+use Rattle.cfg_line.specs.declared.Keyword.the-variants.{Graph, Block, Goto, Ite, Halt, Set, Unary, Binary, Nothing}
 
 -- a text's bytes
 abbrev pub bytes : String → List ℕ
@@ -45,13 +46,14 @@ unfoldable pub comparisonOf : List ℕ → Option ℕ
 unfolding comparisonNames
 comparisonOf f = codeIn 12 comparisonNames f
 
+-- an instruction: set, one of one operand, or one of two
 abbrev pub operation : Option ℕ → Keyword
 operation none = Nothing
-operation (some k) = Operation k
+operation (some k) = choose (eqb k 1) Set (choose (eqb (arity k) 1) (Unary k) (Binary k))
 
 -- what a line's first field names
 unfoldable pub keywordOf : List ℕ → Keyword
-unfolding instructionNames
+unfolding instructionNames arity
 keywordOf f =
     choose (same f (bytes "graph")) Graph
     (choose (same f (bytes "block")) Block

@@ -1,34 +1,19 @@
 -- What references read in a cycle, word by word as the code works it out, and the cycle of a table's state. Assumes nothing.
 use Prim.Native.Nat.{ℕ, suc, _+_, _<_, _≤_}
-use mathlib.Core.Path.{_≡_, refl, sym, ap, ap₂, _∙_}
-use mathlib.Core.Bool.{Bool, true, false}
-use mathlib.Core.List.{List, [], _∷_, _++_, map, append-assoc, map-append}
 use native.Mathlib.Omega.{arith}
-use native.Mathlib.Numerals.{add-one}
-use lib.ListN.{length, getD, take, drop, set, length-map, length-take}
-use lib.Seq.{drop-cons, append-snoc, set-at, take-suc, take-suc-set, length-take-le}
+use mathlib.Core.List.{List, [], _∷_, _++_, map}
+use mathlib.Core.Path.{_≡_, sym, ap, ap₂, _∙_}
 use lib.Dec.{eqb}
+use lib.ListN.{length, getD, take, drop, set}
+use lib.Seq.{take-suc-set}
 use Rattle.word.specs.Word.{choose, evalOf}
-use Rattle.word.proofs.Copying.{set-next, take-next}
-use Rattle.runs.specs.Lists.{upFrom}
 use Rattle.runs.specs.Runs.{Place, Configuration}
-use Rattle.fsmd.specs.declared.Wire.{Wire}
 use Rattle.fsmd.specs.Layout.{recordOffset}
-use Rattle.fsmd.specs.Machine.{State, FSMD, wireValue, worked, toState, clock}
+use Rattle.fsmd.specs.Machine.{wireValue, worked, toState, clock}
 use Rattle.fsmd.specs.Table.{wireAt, stateAt, machineOf, firstWireAt, wireCountAt}
-use Rattle.fsmd.proofs.Windows.{wiresFrom, wires-next, wires-end}
+use Rattle.fsmd.specs.declared.Wire.{Wire}
 use Rattle.fsmd.proofs.Machines.{states-length}
-
--- ---- one more word
-
--- the words of s, each read by f, are set over those of d
-pub map-next : (f : ℕ → ℕ) (s d : List ℕ) (i v : ℕ) → i < length s → i < length d → v ≡ f (getD s i 0)
-    → set (map f (take i s) ++ drop i d) i v ≡ map f (take (i + 1) s) ++ drop (i + 1) d
-map-next f s d i v h k e =
-    set-next (map f (take i s)) d i v (length-map (take i s) f ∙ length-take-le i s (omega arith)) k
-    ∙ ap (λ (l : List ℕ). l ++ drop (i + 1) d)
-    (ap (λ (x : ℕ). map f (take i s) ++ (x ∷ [])) e ∙ sym (map-append f (take i s) (getD s i 0 ∷ []))
-    ∙ ap (map f) (sym (take-next s i h)))
+use Rattle.fsmd.proofs.Windows.{wiresFrom, wires-next, wires-end}
 
 -- ---- a wire
 

@@ -1,17 +1,16 @@
 -- The machine of a table, state by state, and what it is that a table is admitted. Assumes nothing.
-use Prim.Native.Nat.{ℕ, zero, suc, _+_, _<_, _≤_}
+use Prim.Native.Nat.{ℕ, _+_, _<_, _≤_}
+use mathlib.Core.Bool.{true, _&&_}
+use mathlib.Core.List.{List}
 use mathlib.Core.Path.{_≡_, refl, sym, ap, ap₂, _∙_}
-use mathlib.Core.Bool.{Bool, true, false, _&&_}
-use mathlib.Core.List.{List, [], _∷_, _++_, map}
-use native.Mathlib.Omega.{arith}
-use lib.ListN.{length, getD, take, drop, length-map, List·getD-append, List·getD-map}
 use lib.Dec.{leb}
+use lib.ListN.{length, getD, take, drop, length-map}
 use borrow.Author.Tests.{leb-true, le-leb}
-use Rattle.runs.specs.Lists.{upFrom, every}
-use Rattle.runs.proofs.ListLaws.{and-left, and-right, length-upFrom, getD-map-upFrom}
 use Rattle.runs.proofs.Every.{below-at, below-of}
+use Rattle.runs.proofs.ListLaws.{and-left, and-right, length-upFrom, getD-map-upFrom}
+use Rattle.runs.specs.Lists.{upFrom, every}
 use Rattle.fsmd.specs.Layout.{maxStates, maxRegisters, maxWires, recordOffset}
-use Rattle.fsmd.specs.Machine.{State, FSMD, stateOf, emptyState}
+use Rattle.fsmd.specs.Machine.{stateOf, emptyState}
 use Rattle.fsmd.specs.Table.{firstWireAt, wireCountAt, stateAt, machineOf, validReference, validWires, validState, within, apart, admitted}
 use Rattle.fsmd.proofs.Windows.{wiresFrom, wires-length}
 

@@ -1,23 +1,20 @@
 -- Cycles of a table's machine as steps of a run, and the refusals. Assumes nothing.
 use Prim.Native.Nat.{ℕ, suc, _+_, _<_, _≤_}
-use mathlib.Core.Path.{_≡_, refl, sym, ap, _∙_, subst}
-use mathlib.Core.Bool.{Bool, true, false, not, _||_}
-use mathlib.Core.List.{List, _++_}
 use native.Mathlib.Omega.{arith}
+use mathlib.Core.Bool.{true, false}
+use mathlib.Core.List.{List, _++_}
+use mathlib.Core.Path.{_≡_, refl, sym, ap, _∙_, subst}
 use lib.ListN.{length, getD, take, drop}
-use lib.Dec.{eqb, ltb}
 use borrow.Author.Tests.{lt-ltb, le-ltb, ne-eqb}
-use Rattle.word.specs.Word.{choose}
-use Rattle.runs.specs.Runs.{Place, standing, halted, Configuration, startAt, onward, answer, registersAfter}
-use Rattle.runs.specs.declared.RunAnswer.{RunAnswer}
-use Rattle.runs.specs.declared.RunAnswer.the-variants.{Refused}
 use Rattle.runs.proofs.RunLaws.{Reached, reached-step}
-use Rattle.fsmd.specs.declared.clock.Next.{Next}
-use Rattle.fsmd.specs.Layout.{maxRegisters, machineWords}
-use Rattle.fsmd.specs.Machine.{FSMD, stateOf, clock, cycle}
-use Rattle.fsmd.specs.Table.{stateAt, machineOf, admitted}
+use Rattle.runs.specs.Runs.{halted, Configuration, startAt, answer, registersAfter}
+use Rattle.runs.specs.declared.RunAnswer.the-variants.{Refused}
 use Rattle.fsmd.specs.Clock.{after}
+use Rattle.fsmd.specs.Layout.{maxRegisters, machineWords}
+use Rattle.fsmd.specs.Machine.{FSMD, clock, cycle}
 use Rattle.fsmd.specs.Run.{refusal, runAnswer, runRegisters}
+use Rattle.fsmd.specs.Table.{stateAt, machineOf, admitted}
+use Rattle.fsmd.specs.declared.clock.Next.{Next}
 use Rattle.fsmd.proofs.Machines.{state-is}
 
 -- ---- cycles

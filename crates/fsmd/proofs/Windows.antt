@@ -1,16 +1,16 @@
 -- Parts of a table, element by element: words from an index on, and the wires of a state. Assumes nothing.
 use Prim.Native.Nat.{ℕ, suc, _+_, _<_, _≤_}
-use mathlib.Core.Path.{_≡_, refl, sym, ap, ap₂, _∙_}
-use mathlib.Core.Bool.{Bool, true, false, _&&_}
-use mathlib.Core.List.{List, [], _∷_, _++_, map}
-use native.Mathlib.Omega.{arith}
 use native.Mathlib.Numerals.{add-one}
+use native.Mathlib.Omega.{arith}
+use mathlib.Core.Bool.{true, false}
+use mathlib.Core.List.{List, [], _∷_, map}
+use mathlib.Core.Path.{_≡_, ap, _∙_}
 use lib.ListN.{length, getD, take, drop, length-drop, length-map, drop-of-length-le, List·getD-map}
 use lib.Seq.{drop-cons, length-take-le, getD-take, getD-drop}
-use Rattle.runs.specs.Lists.{upFrom}
 use Rattle.runs.proofs.ListLaws.{length-upFrom, getD-upFrom}
-use Rattle.fsmd.specs.declared.Wire.{Wire}
+use Rattle.runs.specs.Lists.{upFrom}
 use Rattle.fsmd.specs.Table.{wireAt, validWire, validWires}
+use Rattle.fsmd.specs.declared.Wire.{Wire}
 
 -- ---- n words from an index on
 

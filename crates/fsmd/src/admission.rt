@@ -22,7 +22,7 @@ pub fn arity(code: u32) -> u32
     ensures { λ r. ⌜ r ≡ arityOf code ⌝ }
 {
     let i = wide(code);
-    if i < 20 { Wire::ARITIES[i] } else { 0 }
+    if i < Wire::CODES { Wire::ARITIES[i] } else { 0 }
 }
 
 // A reference is one of the registers, or one of the first n wires of the state.
@@ -43,7 +43,7 @@ fn valid_reference(registers: usize, n: usize, x: u32) -> bool
 fn valid_first(registers: usize, n: usize, code: u32, x: u32) -> bool
     ensures { λ v. ⌜ v ≡ (eqb code 1 || validReference registers n x) ⌝ }
 {
-    if code == 1 {
+    if code == Wire::SET {
         true
     } else {
         valid_reference(registers, n, x)
@@ -66,10 +66,10 @@ fn valid_wire(registers: usize, n: usize, w: Wire) -> bool
     ensures { λ v. ⌜ v ≡ validWire registers n w ⌝ }
 {
     let code = w.code;
-    if code < 1 {
+    if code < Wire::SET {
         return false;
     }
-    if 19 < code {
+    if Wire::LAST < code {
         return false;
     }
     let reads = arity(code);

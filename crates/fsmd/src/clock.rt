@@ -39,7 +39,7 @@ fn operand(words: &[u32], n: usize, w: Wire) -> u32
     requires { ⌜ n ≤ length (now words) ⌝ }
     ensures { λ v. ⌜ v ≡ choose (eqb (w .code) 1) (w .a) (getD (take n (now (words .entry))) (w .a) 0) ⌝ }
 {
-    if w.code == 1 {
+    if w.code == Wire::SET {
         w.a
     } else {
         read(words, n, w.a)
@@ -107,7 +107,7 @@ pub fn cycle(table: &[u32], k: usize, registers: Registers, words: &mut [u32]) -
     let at = record(k);
     let count = wire_count(table, k);
     let n = Machine::REGISTERS + count;
-    word::buffer::store(words, registers);
+    runs::store(words, registers);
     work(words, table, first_wire(table, k), count);
     let state = read(words, n, table[at + Machine::NEXT_STATE]);
     let next = taken(

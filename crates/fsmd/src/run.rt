@@ -57,6 +57,7 @@ pub fn run_machine(table: &[u32], registers: &mut [u32], start: u32, budget: u32
     ensures { λ r. ⌜ r ≡ runAnswer (now (table .entry)) (now (registers .entry)) start budget ⌝ }
     ensures { λ _. ⌜ now (registers .exit) ≡ runRegisters (now (table .entry)) (now (registers .entry)) start budget ⌝ }
 {
+    // The refusals of paper 01, in its order: 7 short tables, 10 not admitted, 9 no such start.
     if table.len() < Machine::WORDS {
         return RunAnswer::Refused(7);
     }
@@ -70,9 +71,9 @@ pub fn run_machine(table: &[u32], registers: &mut [u32], start: u32, budget: u32
     if states <= start {
         return RunAnswer::Refused(9);
     }
-    let ran = run(table, word::buffer::load(registers), start, budget);
+    let ran = run(table, runs::load(registers), start, budget);
     let left = ran.registers;
     let answer = ran.answer;
-    word::buffer::store(registers, left);
+    runs::store(registers, left);
     answer
 }

@@ -7,16 +7,16 @@ use mathlib.Core.Bool.{true, false}
 use mathlib.Core.List.{List, [], _∷_}
 use native.Mathlib.Omega.{arith}
 use lib.Dec.{ltb}
-use lib.ListN.{length, getD, set, drop, replicate, length-set}
+use lib.ListN.{length, getD, set, replicate, length-set}
 use lib.Seq.{drop-nil, getD-set-same, getD-set-other}
 use borrow.Author.Tests.{lt-ltb, le-ltb}
 use Rattle.runs.specs.Lists.{only}
 use Rattle.runs.proofs.Tests.{Compared, same, other, compared}
 use Rattle.cfg.specs.Layout.{maxBlocks}
 use Rattle.fsmd.specs.Layout.{none}
-use Rattle.grouping.specs.Visit.{Visitor, visit}
+use Rattle.grouping.specs.Visit.{Visitor}
 use Rattle.grouping.specs.Bytes.{edgesFrom, edgesIn, used, visitBytes}
-use Rattle.grouping.proofs.Marks.{used-le, used-lt, used-set, used-more}
+use Rattle.grouping.proofs.Marks.{used-le, used-lt, used-set}
 use Rattle.grouping.proofs.VisitStack.{Frame, blocks, resume, resume-none, resume-start, resume-pop, resume-turn, resume-push}
 
 -- a block whose successors from the kth on are left

@@ -7,12 +7,11 @@ use native.Mathlib.Omega.{arith}
 use lib.Dec.{eqb}
 use lib.ListN.{length, getD, set, replicate, getD-replicate}
 use lib.Seq.{getD-set-same, getD-set-other}
-use borrow.Author.Tests.{eq-eqb, ne-eqb}
+use borrow.Author.Tests.{ne-eqb}
 use Rattle.runs.specs.Lists.{mem}
 use Rattle.runs.proofs.Tests.{Compared, same, other, compared}
 use Rattle.fsmd.specs.Layout.{none}
 use Rattle.grouping.specs.declared.Starters.{Starters}
-use Rattle.grouping.specs.declared.Detected.{Detected}
 use Rattle.grouping.specs.declared.Detected.the-variants.{IllegalTo, Legal}
 use Rattle.grouping.specs.Grouping.{illegal, Detection, visited, illegalTo, detectTurn, detecting}
 use Rattle.grouping.specs.Bytes.{edgesIn, Listed, startersOf, illegalBy, used, visitBytes, detectedOf, detection}

@@ -1,7 +1,7 @@
 -- The three searches on a graph's edge bytes are those on the graph. Assumes nothing.
 use Prim.Native.Nat.{ℕ, zero, suc, _+_, _-_, _≤_, _<_}
-use mathlib.Core.Bool.{Bool, true, false, not, _&&_, _||_}
-use mathlib.Core.Logic.{_⊎_, inl, inr}
+use mathlib.Core.Bool.{Bool, not, _&&_, _||_}
+use mathlib.Core.Logic.{inl, inr}
 use mathlib.Core.Path.{_≡_, refl, sym, _∙_, ap, ap₂, fun-ext}
 use mathlib.Core.List.{List, [], _∷_, _++_}
 use native.Mathlib.Omega.{arith}
@@ -11,7 +11,6 @@ use Rattle.runs.specs.Lists.{mem, padded}
 use Rattle.runs.proofs.Sets.{In, Distinct}
 use Rattle.cfg.specs.Graph.{CFG, successors}
 use Rattle.fsmd.specs.Layout.{none}
-use Rattle.grouping.specs.declared.Detected.{Detected}
 use Rattle.grouping.specs.Visit.{Visitor, visit}
 use Rattle.grouping.specs.Grouping.{Loops, looping, loops, populating, populate, illegal, Detection, visited, illegalTo, detectStop, detectTurn, detectEnter, detecting, detect}
 use Rattle.grouping.specs.Bytes.{edgesIn, loopStarters, taken, takenFrom, population, detectedOf, detection}

@@ -1,19 +1,18 @@
 -- The rounds of grouping: what holds at the head of each, and what the last one answers. Assumes nothing.
 use Prim.Native.Nat.{ℕ, zero, suc, _+_, _-_, _≤_, _<_}
-use mathlib.Core.Bool.{true, false}
 use mathlib.Core.Logic.{_⊎_, inl, inr}
 use mathlib.Core.Path.{_≡_, refl, sym, _∙_, ap, subst}
 use mathlib.Core.List.{List, [], _∷_, _++_}
 use native.Mathlib.Omega.{arith}
-use lib.ListN.{length, getD, take, drop, replicate, length-append, take-append-drop}
-use Rattle.runs.specs.Lists.{mem, padded}
+use lib.ListN.{length, replicate, length-append, take-append-drop}
+use Rattle.runs.specs.Lists.{padded}
+use Rattle.runs.proofs.ListLaws.{length-padded}
 use Rattle.runs.proofs.Sets.{In, Distinct, Out→mem, in-left, in-append, distinct-snoc, distinct-below}
 use Rattle.cfg.specs.Graph.{CFG, successors}
 use Rattle.fsmd.specs.Layout.{none}
 use Rattle.grouping.specs.declared.Starters.{Starters}
-use Rattle.grouping.specs.declared.Detected.{Detected}
 use Rattle.grouping.specs.declared.Detected.the-variants.{IllegalTo, Legal}
-use Rattle.grouping.specs.Grouping.{loops, populate, Detection, visited, illegalTo, detect, Groups, regroup, groups}
+use Rattle.grouping.specs.Grouping.{loops, populate, Detection, visited, illegalTo, detect, regroup, groups}
 use Rattle.grouping.specs.Bytes.{edgesIn, Listed, startersOf, withStarter, loopStarters, population, detectedOf, detection}
 use Rattle.grouping.specs.Answer.{answerOf}
 use Rattle.grouping.specs.declared.Grouping.{Grouping}
@@ -69,6 +68,9 @@ module _ (g : CFG) (a : Closed g) (bytes : List ℕ) (edges : (n : ℕ) → edge
   module _ (s : Starters) (i : Round g s) (states : List ℕ) (fresh : states ≡ population bytes (startersOf s)) where
     padded-states : states ≡ padded 64 none (populate g (startersOf s))
     padded-states = fresh ∙ population-bytes g a bytes edges (startersOf s) (i .distinct) (i .known)
+
+    pub states-64 : length states ≡ 64
+    states-64 = ap length padded-states ∙ length-padded 64 none (populate g (startersOf s))
 
     size : length (populate g (startersOf s)) ≡ length (g .blocks)
     size = populated g a (startersOf s) (i .distinct) (i .known) (i .entry) .taken .size

@@ -1,8 +1,8 @@
 -- Loop detection by a stack of bytes: a block's mark is 1 while it is on the path and 2 once it is finished. Assumes nothing.
 use Prim.Native.Nat.{ℕ, zero, suc, _+_, _-_, _*_, _≤_, _<_}
-use mathlib.Core.Path.{_≡_, refl, sym, ap, _∙_, subst}
-use mathlib.Core.Bool.{Bool, true, false, not, _||_}
-use mathlib.Core.List.{List, [], _∷_, _++_}
+use mathlib.Core.Path.{_≡_, refl, sym, ap, _∙_}
+use mathlib.Core.Bool.{Bool, true, false, _||_}
+use mathlib.Core.List.{List, [], _∷_}
 use native.Mathlib.Omega.{arith}
 use lib.Dec.{eqb}
 use lib.ListN.{length, getD, set, replicate, length-set, getD-replicate}
@@ -11,7 +11,7 @@ use Rattle.runs.specs.Lists.{mem}
 use Rattle.runs.proofs.Tests.{Compared, same, other, compared}
 use Rattle.fsmd.specs.Layout.{none}
 use Rattle.grouping.specs.declared.Starters.{Starters}
-use Rattle.grouping.specs.Grouping.{Loops, startedAt, looping}
+use Rattle.grouping.specs.Grouping.{Loops, looping}
 use Rattle.grouping.specs.Bytes.{Listed, startersOf, withStarter, used, visitBytes, loopStarters}
 use Rattle.grouping.proofs.Marks.{used-more}
 use Rattle.grouping.proofs.ByteStack.{pathOf, frames, AtVisit, AtEdges, begins, ends, enters, pops, passes-none, turns, room, falls, pushes, path-top, path-push}

@@ -6,8 +6,8 @@ use mathlib.Core.List.{List, [], _∷_, _++_}
 use native.Mathlib.Omega.{arith}
 use native.Mathlib.Numerals.{add-one}
 use lib.Dec.{eqb}
-use lib.ListN.{length, getD, set, take, drop, replicate, length-set, getD-replicate}
-use lib.Seq.{length-take-le, take-suc-set, drop-set-lt, drop-drop, drop-cons, getD-set-same, getD-set-other}
+use lib.ListN.{length, getD, set, drop, replicate, length-set, getD-replicate}
+use lib.Seq.{length-take-le, take-suc-set, drop-set-lt, drop-drop, getD-set-same, getD-set-other}
 use borrow.Author.Tests.{eq-eqb, ne-eqb}
 use Rattle.runs.specs.Lists.{mem}
 use Rattle.runs.proofs.Tests.{Compared, same, other, compared}

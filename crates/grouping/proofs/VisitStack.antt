@@ -1,6 +1,6 @@
 -- A depth-first visit by a stack goes on as the recursive visit does, whatever the visitor. A frame is a block and its successors that
 -- are left; `resume` is what is left of the recursive visit when the stack is as given, the deepest frame first. Assumes nothing.
-use Prim.Native.Nat.{ℕ, zero, suc}
+use Prim.Native.Nat.{ℕ, suc}
 use mathlib.Core.Path.{_≡_, refl, ap, _∙_}
 use mathlib.Core.Bool.{true, false}
 use mathlib.Core.List.{List, [], _∷_}

@@ -22,14 +22,14 @@ pub struct Grouping {
 }
 
 // The starters in order, and a mark at each of them.
-pub struct Starters {
+struct Starters {
     pub count: usize,
     pub list: [u8; 64],
     pub marks: [u8; 64],
 }
 
 // What detection finds: the target of an illegal edge, or none.
-pub enum Detected {
+enum Detected {
     IllegalTo(u8),
     Legal,
 }
@@ -71,10 +71,9 @@ pub fn group(table: &[u32]) -> Grouping
     ensures { λ r. ⌜ r ≡ groupingOf (now (table .entry)) ⌝ }
 {
     let edges = edges::edges_of(table);
-    let first = loops::loop_starters(&edges);
-    let mut starters = first;
+    let mut starters = loops::loop_starters(&edges);
+    let mut states = population::populate(&edges, starters);
     loop {
-        let states = population::populate(&edges, starters);
         let found = detection::detect(&edges, &states, starters);
         let Detected::IllegalTo(block) = found else {
             let count = starters.count;
@@ -86,6 +85,8 @@ pub fn group(table: &[u32]) -> Grouping
             };
         };
         let more = starters.with(block);
+        let fresh = population::populate(&edges, more);
         starters = more;
+        states = fresh;
     }
 }

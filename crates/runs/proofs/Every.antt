@@ -1,15 +1,15 @@
 -- Testing every element, one after another as a loop does. Assumes nothing.
 use Prim.Native.Nat.{ℕ, _+_, _<_, _≤_}
-use native.Mathlib.Omega.{arith}
 use native.Mathlib.Numerals.{add-one}
-use mathlib.Core.Path.{_≡_, sym, ap, _∙_}
+use native.Mathlib.Omega.{arith}
 use mathlib.Core.Bool.{Bool, true, false, not}
 use mathlib.Core.List.{List}
+use mathlib.Core.Path.{_≡_, sym, ap, _∙_}
 use lib.ListN.{length, getD, drop, drop-of-length-le}
 use lib.Seq.{drop-cons}
 use borrow.Author.Tests.{not-true, not-false}
-use Rattle.runs.specs.Lists.{upFrom, every}
 use Rattle.runs.proofs.ListLaws.{length-upFrom, getD-upFrom, every-at, every-all}
+use Rattle.runs.specs.Lists.{upFrom, every}
 
 module _ {A : Type 0} (p : A → Bool) where
   -- a loop's turn: the element at i decides, or the rest does

@@ -1,3 +1,19 @@
+pub mod Counting
+pub mod StoredWires
+pub mod Selections
+pub mod UsedUp
+pub mod Points
+pub mod EdgeLaws
+pub mod AddedEdge
+pub mod Folds
+pub mod WalkLaws
+pub mod JoinLaws
+pub mod EnterLaws
+pub mod AssignLaws
+pub mod CloseLaws
+pub mod PutLaws
+pub mod StarterLaws
+pub mod ExitLaws
 pub mod PlacementLaws
 pub mod PlacementSteps
 pub mod PlacedOrder
@@ -9,6 +25,7 @@ pub mod Readings
 pub mod TakenEdges
 pub mod OneCycle
 pub mod SelectionCount
+pub mod FoundEdges
 pub mod WireValidity
 pub mod StateValidity
 pub mod WireCount

@@ -2,19 +2,19 @@
 use Prim.Native.Nat.{ℕ, suc, _+_, _≤_}
 use native.Mathlib.Omega.{arith}
 use native.Mathlib.Nat.{zero-add}
-use mathlib.Core.Path.{_≡_, refl, sym, ap, _∙_}
-use mathlib.Core.Logic.{_⊎_, inl, inr}
-use mathlib.Core.Bool.{Bool, true, false, not, _&&_, false≢true}
+use mathlib.Core.Path.{_≡_, sym, ap, _∙_}
+use mathlib.Core.Logic.{inr}
+use mathlib.Core.Bool.{Bool, true, false, not, _&&_}
 use mathlib.Core.List.{List, [], _∷_, _++_}
 use lib.ListN.{length, getD, length-append, length-set}
 use Rattle.word.specs.Word.{codeOf as comparisonCode}
 use Rattle.runs.specs.Lists.{upFrom, mem, keep, every}
-use Rattle.runs.specs.Runs.{Place, standing}
+use Rattle.runs.specs.Runs.{Place}
 use Rattle.runs.proofs.ListLaws.{length-upFrom, and-both}
 use Rattle.cfg.specs.declared.Instruction.{Instruction}
 use Rattle.cfg.specs.declared.Ending.{Ending}
 use Rattle.cfg.specs.declared.Ending.the-variants.{Goto, Ite, Halt}
-use Rattle.cfg.specs.Graph.{CFG, blockOf, codeOf, targets, successors}
+use Rattle.cfg.specs.Graph.{CFG, blockOf, codeOf}
 use Rattle.cfg.proofs.Admitted.{ValidInstruction}
 use Rattle.fsmd.specs.declared.Wire.{Wire}
 use Rattle.fsmd.specs.Table.{validReference, validWires, validState}
@@ -24,7 +24,8 @@ use Rattle.synthesis.specs.Wires.{wire, set-wire, and-wire, or-wire, and
 use Rattle.synthesis.specs.Wires.{instructionWire, assign, assigns, close, leadsTo, towards, enter, after, put, build, leaves, nextStateOf, exit, exits, closeState, stateOf}
 use Rattle.synthesis.proofs.GraphFacts.{ValidCode, Compares, BlockFits, GraphFits}
 use Rattle.synthesis.proofs.SelectionCount.{length-selects}
-use Rattle.synthesis.proofs.StateOrder.{Ahead, Ordered, StateOrder}
+use Rattle.synthesis.proofs.StateOrder.{StateOrder}
+use Rattle.synthesis.proofs.FoundEdges.{exit-found}
 use Rattle.synthesis.proofs.WireValidity.{Reference, References, reference-more, references-more, reference-at, references-set, new-references, register-references, reference-valid, references-valid, set-valid, select-valid, two-valid, and-two, or-two, and-not-two, comparison-two, instruction-valid, wires-append, one-wire, cons-wires, no-wires, selects-valid}
 
 -- ---- points, edges and builds
@@ -274,44 +275,6 @@ close-state-valid R s e es ws a b =
       wired = one-wire R 0 ws w b (set-valid R (0 + length ws) (nextStateOf s (e .target)));
     })
 
--- ---- every state has an exit: the edges of the block that is placed last
-
-abbrev SomeLeaves : Groups → List Edge → Type 0
-SomeLeaves s [] = ⊥
-SomeLeaves s (e ∷ es) = (leaves s (e .target) ≡ true) ⊎ SomeLeaves s es
-
-some-behind : (s : Groups) (es fs : List Edge) → SomeLeaves s fs → SomeLeaves s (es ++ fs)
-some-behind s [] fs h = h
-some-behind s (e ∷ es) fs h = inr (some-behind s es fs h)
-
-to-starter : (s : Groups) (t : ℕ) → (mem t (s .starters) ≡ true) ⊎ (mem t [] ≡ true) → leaves s (standing t) ≡ true
-to-starter s t (inl h) = h
-to-starter s t (inr h) = absurd (false≢true h)
-
-close-leaves : (s : Groups) (e : Ending) (p : Point) → Ahead (s .starters) [] (targets e) → SomeLeaves s (close e p .edges)
-unfolding close
-close-leaves s (Goto t) p a = inl (to-starter s t (a .0))
-close-leaves s (Ite c t f) p a = inl (to-starter s t (a .0))
-close-leaves s Halt p a = inl refl
-
-build-leaves : (g : CFG) (s : Groups) (x : ℕ) (xs : List ℕ) (b : Build) → Ahead (s .starters) xs (successors g x) → Ordered g (s .starters) xs
-    → SomeLeaves s (build g s (x ∷ xs) b .edges)
-unfolding build put after
-build-leaves g s x [] b a o =
-    let p = assigns (codeOf (blockOf g x)) (enter (g .registers) (mem x (s .starters)) x b) in
-    some-behind s (towards (λ p. not (leadsTo x p)) (b .edges)) (close (blockOf g x .ending) p .edges) (close-leaves s (blockOf g x .ending) p a)
-build-leaves g s x (y ∷ ys) b a o = build-leaves g s y ys (put g s x b) (o .1) (o .2)
-
-some-towards : (s : Groups) (es : List Edge) → SomeLeaves s es → (e : Edge) × (rest : List Edge) × (towards (leaves s) es ≡ e ∷ rest)
-some-towards s [] h = absurd h
-some-towards s (e ∷ es) (inl h) = (e, towards (leaves s) es, rw h)
-some-towards s (e ∷ es) (inr h) = go (leaves s (e .target)) (some-towards s es h)
-  where
-    go : (b : Bool) → (f : Edge) × (rest : List Edge) × (towards (leaves s) es ≡ f ∷ rest)
-        → (f : Edge) × (rest : List Edge) × (keep b e (towards (leaves s) es) ≡ f ∷ rest)
-    go true ih = (e, towards (leaves s) es, refl)
-    go false ih = ih
-
 -- ---- a state
 
 pub record StateValid (g : CFG) (s : Groups) (k : ℕ) : Type 0 where
@@ -324,8 +287,7 @@ state-valid g s k y f o =
     let R = g .registers in
     let b = build g s (order g s k) (record { wires = []; edges = [] }) in
     let v = build-valid g s f (order g s k) (record { wires = []; edges = [] }) (empty-valid R) in
-    let h : SomeLeaves s (b .edges) = rw (o .order-is) (build-leaves g s y (o .others) (record { wires = []; edges = [] }) (o .ahead) (o .ordered)) in
-    let t = some-towards s (b .edges) h in
+    let t = exit-found g s k y o in
     let a : EdgesValid R (length (b .wires)) (t .0 ∷ t .1) = rw (t .2) at (edges-towards R (length (b .wires)) (leaves s) (b .edges) (v .joined)) in
     let p : PointValid R (closeState s (towards (leaves s) (b .edges)) (b .wires)) = rw (t .2) (close-state-valid R s (t .0) (t .1) (b .wires) a (v .wired)) in
     let q = closeState s (towards (leaves s) (b .edges)) (b .wires) in

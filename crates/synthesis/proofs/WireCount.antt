@@ -17,7 +17,7 @@ use Rattle.cfg.specs.declared.Ending.the-variants.{Goto, Ite, Halt}
 use Rattle.cfg.specs.Graph.{CFG, blockOf, codeOf}
 use Rattle.fsmd.specs.declared.Wire.{Wire}
 use Rattle.fsmd.specs.Layout.{none}
-use Rattle.fsmd.proofs.ReadBack.{wireCount}
+use Rattle.fsmd.proofs.WrittenTable.{wireCount}
 use Rattle.grouping.specs.Grouping.{Groups}
 use Rattle.synthesis.specs.Placement.{members, order}
 use Rattle.synthesis.specs.Synthesis.{machineFor}

@@ -1,5 +1,6 @@
 pub mod Placement
 pub mod PlacementBytes
 pub mod Wires
+pub mod Making
 pub mod Synthesis
 pub mod StateWords

@@ -1,36 +1,13 @@
-use Rattle.fsmd.proofs.Machines.{admitted-is}
-use borrow.Author.Tests.{le-leb, lt-leb, not-true, not-false}
-use denote.Ref.{now}
+-- `fsmd::admission::admitted` meets its contract: the tests in the definition's order. Assumes nothing.
 use native.Mathlib.Omega.{arith}
-use mathlib.Core.Bool.{Bool, true, false, _&&_}
-use mathlib.Core.Path.{_≡_, sym, _∙_}
+use mathlib.Core.Path.{sym, _∙_}
+use denote.Ref.{now}
 use borrow.Author.Needs.{needs}
+use borrow.Author.Tests.{le-leb, lt-leb, not-true, not-false}
+use Rattle.fsmd.proofs.Machines.{admitted-is}
 use Rattle.fsmd.proofs.admission.admitted.Statement.{statement}
 use Rattle.fsmd.proofs.admission.admitted.Tie as tie
-use Rattle.fsmd.proofs.admission.admitted.Reads as reads
-use Rattle.fsmd.proofs.admission.admitted.Lts as lts
-use Rattle.fsmd.proofs.admission.all_apart.Reads as all-apart-reads
-use Rattle.fsmd.proofs.admission.all_valid.Reads as all-valid-reads
-use Rattle.fsmd.proofs.admission.all_within.Reads as all-within-reads
-use Rattle.fsmd.proofs.table.wide.Reads as wide-reads
 
--- src/admission.rt:230:23
-shared-slice-read-wide : tie.Need-shared-slice-read-wide
-shared-slice-read-wide c = search needs
-
--- src/admission.rt:230:9
-wide-requires : tie.Need-wide-requires
-wide-requires c κs = search needs
-
--- src/admission.rt:231:26
-shared-slice-read-wide-2 : tie.Need-shared-slice-read-wide-2
-shared-slice-read-wide-2 c = search needs
-
--- src/admission.rt:231:9
-wide-requires-2 : tie.Need-wide-requires-2
-wide-requires-2 c κs = search needs
-
--- src/admission.rt:233:9
 returns : tie.Need-returns
 returns c =
     let n = c .before .before .before .wide in
@@ -38,7 +15,6 @@ returns c =
     let e = admitted-is (now (c .before .before .before .before .before .before .args .table)) (n .result) (r .result) (n .ensures .0) (r .ensures .0) in
     sym (e ∙ rw (lt-leb 1 (n .result) (omega arith)))
 
--- src/admission.rt:236:9
 returns-2 : tie.Need-returns-2
 returns-2 c =
     let n = c .before .before .before .before .wide in
@@ -46,7 +22,6 @@ returns-2 c =
     let e = admitted-is (now (c .before .before .before .before .before .before .before .args .table)) (n .result) (r .result) (n .ensures .0) (r .ensures .0) in
     sym (e ∙ rw (le-leb 1 (n .result) (omega arith), lt-leb (n .result) 64 (omega arith)))
 
--- src/admission.rt:239:9
 returns-3 : tie.Need-returns-3
 returns-3 c =
     let n = c .before .before .before .before .before .wide in
@@ -54,7 +29,6 @@ returns-3 c =
     let e = admitted-is (now (c .before .before .before .before .before .before .before .before .args .table)) (n .result) (r .result) (n .ensures .0) (r .ensures .0) in
     sym (e ∙ rw (le-leb 1 (n .result) (omega arith), le-leb (n .result) 64 (omega arith), lt-leb 1 (r .result) (omega arith)))
 
--- src/admission.rt:242:9
 returns-4 : tie.Need-returns-4
 returns-4 c =
     let n = c .before .before .before .before .before .before .wide in
@@ -62,11 +36,6 @@ returns-4 c =
     let e = admitted-is (now (c .before .before .before .before .before .before .before .before .before .args .table)) (n .result) (r .result) (n .ensures .0) (r .ensures .0) in
     sym (e ∙ rw (le-leb 1 (n .result) (omega arith), le-leb (n .result) 64 (omega arith), le-leb 1 (r .result) (omega arith), lt-leb (r .result) 16 (omega arith)))
 
--- src/admission.rt:244:9
-all-within-requires : tie.Need-all-within-requires
-all-within-requires c κs = search needs
-
--- src/admission.rt:245:9
 returns-5 : tie.Need-returns-5
 returns-5 c =
     let n = c .before .before .before .before .before .before .before .before .wide in
@@ -74,11 +43,6 @@ returns-5 c =
     let e = admitted-is (now (c .before .before .before .before .before .before .before .before .before .before .before .args .table)) (n .result) (r .result) (n .ensures .0) (r .ensures .0) in
     sym (e ∙ rw (le-leb 1 (n .result) (omega arith), le-leb (n .result) 64 (omega arith), le-leb 1 (r .result) (omega arith), le-leb (r .result) 16 (omega arith), sym (c .before .all-within .ensures) ∙ not-true _ (c .if5 .taken)))
 
--- src/admission.rt:247:9
-all-apart-requires : tie.Need-all-apart-requires
-all-apart-requires c κs = search needs
-
--- src/admission.rt:248:9
 returns-6 : tie.Need-returns-6
 returns-6 c =
     let n = c .before .before .before .before .before .before .before .before .before .before .wide in
@@ -86,7 +50,6 @@ returns-6 c =
     let e = admitted-is (now (c .before .before .before .before .before .before .before .before .before .before .before .before .before .args .table)) (n .result) (r .result) (n .ensures .0) (r .ensures .0) in
     sym (e ∙ rw (le-leb 1 (n .result) (omega arith), le-leb (n .result) 64 (omega arith), le-leb 1 (r .result) (omega arith), le-leb (r .result) 16 (omega arith), sym (c .before .before .before .all-within .ensures) ∙ not-false _ (c .before .before .if5 .left), sym (c .before .all-apart .ensures) ∙ not-true _ (c .if6 .taken)))
 
--- src/admission.rt:250:5
 all-valid-requires : tie.Need-all-valid-requires
 all-valid-requires c κs =
     let h = sym (c .before .before .before .all-within .ensures) ∙ not-false _ (c .before .before .if5 .left) in
@@ -95,7 +58,6 @@ all-valid-requires c κs =
     let e = r .ensures .0 in
     (c .before .before .before .before .before .before .before .before .before .before .before .before .before .pre, (omega arith, (h, (e, omega arith))))
 
--- src/admission.rt:226:1
 returns-7 : tie.Need-returns-7
 returns-7 c =
     let n = c .before .before .before .before .before .before .before .before .before .before .before .wide in
@@ -107,17 +69,17 @@ pub admitted-spec : {M : Type 1} → statement M
 admitted-spec =
     tie.close
     (tie.spec
-    shared-slice-read-wide
-    wide-requires
-    shared-slice-read-wide-2
-    wide-requires-2
+    (λ c. search needs)
+    (λ c κs. search needs)
+    (λ c. search needs)
+    (λ c κs. search needs)
     returns
     returns-2
     returns-3
     returns-4
-    all-within-requires
+    (λ c κs. search needs)
     returns-5
-    all-apart-requires
+    (λ c κs. search needs)
     returns-6
     all-valid-requires
     returns-7)

@@ -1,17 +1,15 @@
-use Rattle.fsmd.specs.Table.{within}
+-- `fsmd::admission::all_within` meets its contract: the states from k on decide for all. Assumes nothing.
+use Prim.Native.Nat.{_-_, _≤_}
+use native.Mathlib.Omega.{arith}
+use mathlib.Core.Path.{_≡_, refl, sym, _∙_}
+use lib.ListN.{drop}
+use denote.Ref.{now}
+use borrow.Author.Needs.{needs}
 use Rattle.runs.proofs.Every.{below-fails, below-passes, below-done}
 use Rattle.runs.specs.Lists.{upFrom, every}
-use denote.Ref.{now}
-use lib.ListN.{drop}
-use native.Mathlib.Omega.{arith}
-use Prim.Native.Nat.{_-_, _≤_}
-use mathlib.Core.Path.{_≡_, refl, sym, _∙_}
-use borrow.Author.Needs.{needs}
+use Rattle.fsmd.specs.Table.{within}
 use Rattle.fsmd.proofs.admission.all_within.Statement.{statement}
 use Rattle.fsmd.proofs.admission.all_within.Tie as tie
-use Rattle.fsmd.proofs.admission.all_within.Reads as reads
-use Rattle.fsmd.proofs.admission.all_within.Lts as lts
-use Rattle.fsmd.proofs.admission.within.Reads as within-reads
 
 abbrev Inv-loop : tie.InvT-loop
 Inv-loop table states k₀ k = (k ≤ states) × (every (within table) (upFrom 0 states) ≡ every (within table) (drop k (upFrom 0 states)))
@@ -19,15 +17,9 @@ Inv-loop table states k₀ k = (k ≤ states) × (every (within table) (upFrom 0
 abbrev μ-loop : tie.MeasureT-loop
 μ-loop table states k₀ k = states - k
 
--- src/admission.rt:158:5
 loop-holds : tie.Need-loop-holds Inv-loop μ-loop
 loop-holds c = (omega arith, refl)
 
--- src/admission.rt:159:13
-within-requires : tie.Need-within-requires Inv-loop μ-loop
-within-requires c κs = search needs
-
--- src/admission.rt:160:13
 returns : tie.Need-returns Inv-loop μ-loop
 returns c =
     let b = c .before .before .before in
@@ -36,15 +28,9 @@ returns c =
     let n = a .states in
     sym (b .loop .inv .1 ∙ below-fails (within t) n (b .loop .k) (c .before .before .loop-test .taken) (c .before .within .result) (c .before .within .ensures) (c .if1 .taken))
 
--- src/admission.rt:162:9
-add-k : tie.Need-add-k Inv-loop μ-loop
-add-k c = search needs
-
--- src/admission.rt:158:5
 loop-less : tie.Need-loop-less Inv-loop μ-loop
 loop-less c = omega arith
 
--- src/admission.rt:158:5
 loop-again : tie.Need-loop-again Inv-loop μ-loop
 loop-again c =
     let b = c .before .before .before in
@@ -55,7 +41,6 @@ loop-again c =
       b .loop .inv .1 ∙ below-passes (within t) n (b .loop .k) (c .before .before .loop-test .taken) (c .before .within .result) (c .before .within .ensures) (c .if1 .left),
     )
 
--- src/admission.rt:152:1
 returns-2 : tie.Need-returns-2 Inv-loop μ-loop
 returns-2 c =
     let b = c .before in
@@ -71,9 +56,9 @@ all-within-spec =
     Inv-loop
     μ-loop
     loop-holds
-    within-requires
+    (λ c κs. search needs)
     returns
-    add-k
+    (λ c. search needs)
     loop-less
     loop-again
     returns-2)

@@ -1,17 +1,15 @@
-use Rattle.fsmd.specs.Table.{apart}
+-- `fsmd::admission::apart_from_earlier` meets its contract: the states from j on decide for all. Assumes nothing.
+use Prim.Native.Nat.{_-_, _≤_}
+use native.Mathlib.Omega.{arith}
+use mathlib.Core.Path.{_≡_, refl, sym, _∙_}
+use lib.ListN.{drop}
+use denote.Ref.{now}
+use borrow.Author.Needs.{needs}
 use Rattle.runs.proofs.Every.{below-fails, below-passes, below-done}
 use Rattle.runs.specs.Lists.{upFrom, every}
-use denote.Ref.{now}
-use lib.ListN.{drop}
-use native.Mathlib.Omega.{arith}
-use Prim.Native.Nat.{_-_, _≤_}
-use mathlib.Core.Path.{_≡_, refl, sym, _∙_}
-use borrow.Author.Needs.{needs}
+use Rattle.fsmd.specs.Table.{apart}
 use Rattle.fsmd.proofs.admission.apart_from_earlier.Statement.{statement}
 use Rattle.fsmd.proofs.admission.apart_from_earlier.Tie as tie
-use Rattle.fsmd.proofs.admission.apart_from_earlier.Reads as reads
-use Rattle.fsmd.proofs.admission.apart_from_earlier.Lts as lts
-use Rattle.fsmd.proofs.admission.apart.Reads as apart-reads
 
 abbrev Inv-loop : tie.InvT-loop
 Inv-loop table k j₀ j = (j ≤ k) × (every (λ i. apart table i k) (upFrom 0 k) ≡ every (λ i. apart table i k) (drop j (upFrom 0 k)))
@@ -19,15 +17,9 @@ Inv-loop table k j₀ j = (j ≤ k) × (every (λ i. apart table i k) (upFrom 0 
 abbrev μ-loop : tie.MeasureT-loop
 μ-loop table k j₀ j = k - j
 
--- src/admission.rt:174:5
 loop-holds : tie.Need-loop-holds Inv-loop μ-loop
 loop-holds c = (omega arith, refl)
 
--- src/admission.rt:175:13
-apart-requires : tie.Need-apart-requires Inv-loop μ-loop
-apart-requires c κs = search needs
-
--- src/admission.rt:176:13
 returns : tie.Need-returns Inv-loop μ-loop
 returns c =
     let b = c .before .before .before in
@@ -36,15 +28,9 @@ returns c =
     let n = a .k in
     sym (b .loop .inv .1 ∙ below-fails (λ i. apart t i n) n (b .loop .j) (c .before .before .loop-test .taken) (c .before .apart .result) (c .before .apart .ensures) (c .if1 .taken))
 
--- src/admission.rt:178:9
-add-j : tie.Need-add-j Inv-loop μ-loop
-add-j c = search needs
-
--- src/admission.rt:174:5
 loop-less : tie.Need-loop-less Inv-loop μ-loop
 loop-less c = omega arith
 
--- src/admission.rt:174:5
 loop-again : tie.Need-loop-again Inv-loop μ-loop
 loop-again c =
     let b = c .before .before .before in
@@ -55,7 +41,6 @@ loop-again c =
       b .loop .inv .1 ∙ below-passes (λ i. apart t i n) n (b .loop .j) (c .before .before .loop-test .taken) (c .before .apart .result) (c .before .apart .ensures) (c .if1 .left),
     )
 
--- src/admission.rt:168:1
 returns-2 : tie.Need-returns-2 Inv-loop μ-loop
 returns-2 c =
     let b = c .before in
@@ -71,9 +56,9 @@ apart-from-earlier-spec =
     Inv-loop
     μ-loop
     loop-holds
-    apart-requires
+    (λ c κs. search needs)
     returns
-    add-j
+    (λ c. search needs)
     loop-less
     loop-again
     returns-2)

@@ -1,18 +1,15 @@
-use Rattle.fsmd.proofs.Windows.{wiresFrom, wires-fail, wires-pass, wires-pass-all}
-use Rattle.fsmd.specs.Table.{validWire, validWires}
-use borrow.Author.Tests.{not-true, not-false}
-use denote.Ref.{now}
-use lib.ListN.{drop}
+-- `fsmd::admission::valid_wires` meets its contract: the wires from n on decide for all. Assumes nothing.
+use Prim.Native.Nat.{_-_, _≤_}
 use native.Mathlib.Omega.{arith}
-use Prim.Native.Nat.{ℕ, _-_, _≤_}
 use mathlib.Core.Path.{_≡_, refl, sym, ap, _∙_}
+use lib.ListN.{drop}
+use denote.Ref.{now}
 use borrow.Author.Needs.{needs}
+use borrow.Author.Tests.{not-true, not-false}
+use Rattle.fsmd.specs.Table.{validWire, validWires}
+use Rattle.fsmd.proofs.Windows.{wiresFrom, wires-fail, wires-pass, wires-pass-all}
 use Rattle.fsmd.proofs.admission.valid_wires.Statement.{statement}
 use Rattle.fsmd.proofs.admission.valid_wires.Tie as tie
-use Rattle.fsmd.proofs.admission.valid_wires.Reads as reads
-use Rattle.fsmd.proofs.admission.valid_wires.Lts as lts
-use Rattle.fsmd.proofs.admission.valid_wire.Reads as valid-wire-reads
-use Rattle.fsmd.proofs.table.wire.Reads as wire-reads
 
 abbrev Inv-loop : tie.InvT-loop
 Inv-loop table registers first count n₀ n =
@@ -21,23 +18,9 @@ Inv-loop table registers first count n₀ n =
 abbrev μ-loop : tie.MeasureT-loop
 μ-loop table registers first count n₀ n = count - n
 
--- src/admission.rt:75:5
 loop-holds : tie.Need-loop-holds Inv-loop μ-loop
 loop-holds c = (omega arith, refl)
 
--- src/admission.rt:76:50
-add-wire : tie.Need-add-wire Inv-loop μ-loop
-add-wire c = search needs
-
--- src/admission.rt:76:38
-wire-requires : tie.Need-wire-requires Inv-loop μ-loop
-wire-requires c κs = search needs
-
--- src/admission.rt:76:13
-valid-wire-requires : tie.Need-valid-wire-requires Inv-loop μ-loop
-valid-wire-requires c κs = search needs
-
--- src/admission.rt:77:13
 returns : tie.Need-returns Inv-loop μ-loop
 returns c =
     let b = c .before .before .before .before in
@@ -47,15 +30,9 @@ returns c =
     ∙ wires-fail t (a .first) (a .count) (a .registers) (b .loop .n) (c .before .before .before .loop-test .taken)
     (ap (validWire (a .registers) (b .loop .n)) (sym (c .before .before .wire .ensures)) ∙ sym (c .before .valid-wire .ensures) ∙ not-true _ (c .if1 .taken)))
 
--- src/admission.rt:79:9
-add-n : tie.Need-add-n Inv-loop μ-loop
-add-n c = search needs
-
--- src/admission.rt:75:5
 loop-less : tie.Need-loop-less Inv-loop μ-loop
 loop-less c = omega arith
 
--- src/admission.rt:75:5
 loop-again : tie.Need-loop-again Inv-loop μ-loop
 loop-again c =
     let b = c .before .before .before .before in
@@ -67,7 +44,6 @@ loop-again c =
           (ap (validWire (a .registers) (b .loop .n)) (sym (c .before .before .wire .ensures)) ∙ sym (c .before .valid-wire .ensures) ∙ not-false _ (c .if1 .left)),
     )
 
--- src/admission.rt:69:1
 returns-2 : tie.Need-returns-2 Inv-loop μ-loop
 returns-2 c =
     let b = c .before in
@@ -81,11 +57,11 @@ valid-wires-spec =
     Inv-loop
     μ-loop
     loop-holds
-    add-wire
-    wire-requires
-    valid-wire-requires
+    (λ c. search needs)
+    (λ c κs. search needs)
+    (λ c κs. search needs)
     returns
-    add-n
+    (λ c. search needs)
     loop-less
     loop-again
     returns-2)

@@ -1,20 +1,15 @@
-use Rattle.fsmd.specs.Machine.{worked, wireValue}
+-- `fsmd::clock::work` meets its contract: the words so far, then the wires from n on, give what all wires give. Assumes nothing.
+use Prim.Native.Nat.{ℕ, _+_, _-_, _≤_}
+use native.Mathlib.Omega.{arith}
+use mathlib.Core.Path.{_≡_, refl, sym, ap, _∙_}
 use lib.ListN.{length, take, drop, length-set, getD}
+use denote.Ref.{now}
+use borrow.Author.Needs.{needs}
+use Rattle.fsmd.specs.Machine.{worked, wireValue}
 use Rattle.fsmd.proofs.Environment.{work-next, work-done}
 use Rattle.fsmd.proofs.Windows.{wiresFrom}
-use Rattle.fsmd.specs.Machine.{worked}
-use denote.Ref.{now}
-use lib.ListN.{length, take, drop, length-set}
-use native.Mathlib.Omega.{arith}
-use Prim.Native.Nat.{ℕ, _+_, _-_, _≤_}
-use mathlib.Core.Path.{_≡_, refl, sym, ap, _∙_}
-use borrow.Author.Needs.{needs}
 use Rattle.fsmd.proofs.clock.work.Statement.{statement}
 use Rattle.fsmd.proofs.clock.work.Tie as tie
-use Rattle.fsmd.proofs.clock.work.Reads as reads
-use Rattle.fsmd.proofs.clock.work.Lts as lts
-use Rattle.fsmd.proofs.clock.value.Reads as value-reads
-use Rattle.fsmd.proofs.table.wire.Reads as wire-reads
 
 abbrev Inv-loop : tie.InvT-loop
 Inv-loop words₀ table first count n₀ words n =
@@ -25,43 +20,12 @@ Inv-loop words₀ table first count n₀ words n =
 abbrev μ-loop : tie.MeasureT-loop
 μ-loop words₀ table first count n₀ words n = count - n
 
--- src/clock.rt:74:5
 loop-holds : tie.Need-loop-holds Inv-loop μ-loop
 loop-holds c = (omega arith, refl, refl)
 
--- src/clock.rt:75:18
-add-at : tie.Need-add-at Inv-loop μ-loop
-add-at c = search needs
-
--- src/clock.rt:76:46
-add-wire : tie.Need-add-wire Inv-loop μ-loop
-add-wire c = search needs
-
--- src/clock.rt:76:34
-wire-requires : tie.Need-wire-requires Inv-loop μ-loop
-wire-requires c κs = search needs
-
--- src/clock.rt:76:13
-value-requires : tie.Need-value-requires Inv-loop μ-loop
-value-requires c κs = search needs
-
--- src/clock.rt:77:9
-mul-words : tie.Need-mul-words Inv-loop μ-loop
-mul-words c = search needs
-
--- src/clock.rt:77:9
-slice-write-words : tie.Need-slice-write-words Inv-loop μ-loop
-slice-write-words c = search needs
-
--- src/clock.rt:78:9
-add-n : tie.Need-add-n Inv-loop μ-loop
-add-n c = search needs
-
--- src/clock.rt:74:5
 loop-less : tie.Need-loop-less Inv-loop μ-loop
 loop-less c = omega arith
 
--- src/clock.rt:74:5
 loop-again : tie.Need-loop-again Inv-loop μ-loop
 loop-again c =
     let b = c .before .before .before .before in
@@ -73,11 +37,6 @@ loop-again c =
           ∙ b .loop .inv .2,
     )
 
--- src/clock.rt:67:1
-same-length : tie.Need-same-length Inv-loop μ-loop
-same-length c = search needs
-
--- src/clock.rt:67:1
 returns : tie.Need-returns Inv-loop μ-loop
 returns c =
     let b = c .before in
@@ -93,14 +52,14 @@ work-spec =
     Inv-loop
     μ-loop
     loop-holds
-    add-at
-    add-wire
-    wire-requires
-    value-requires
-    mul-words
-    slice-write-words
-    add-n
+    (λ c. search needs)
+    (λ c. search needs)
+    (λ c κs. search needs)
+    (λ c κs. search needs)
+    (λ c. search needs)
+    (λ c. search needs)
+    (λ c. search needs)
     loop-less
     loop-again
-    same-length
+    (λ c. search needs)
     returns)

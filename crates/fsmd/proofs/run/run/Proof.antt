@@ -1,23 +1,19 @@
-use lib.ListN.{length, getD, replicate, length-replicate}
-use Rattle.fsmd.proofs.Steps.{cycle-stays, cycle-step, after-standing, after-halted}
-use Rattle.fsmd.proofs.Machines.{admitted-facts}
-use Rattle.fsmd.specs.Table.{machineOf, stateAt}
-use Rattle.fsmd.specs.Machine.{clock, cycle}
-use Rattle.fsmd.specs.Clock.{after}
+-- `fsmd::run::run` meets its contract: the configuration so far is reached after `count` cycles. Assumes nothing.
+use Prim.Native.Nat.{ℕ, _+_, _-_, _<_}
+use native.Mathlib.Omega.{arith}
+use mathlib.Core.Path.{_≡_, refl, sym, ap, _∙_, subst}
+use lib.ListN.{length, getD, length-replicate}
+use denote.Ref.{now}
+use borrow.Author.Needs.{needs}
 use Rattle.runs.proofs.RunLaws.{Reached, reached-start, reached-spent, registers-spent, reached-halted, registers-halted}
 use Rattle.runs.specs.Runs.{Configuration, startAt}
-use denote.Ref.{now}
-use lib.ListN.{length, getD, length-replicate}
-use native.Mathlib.Omega.{arith}
-use Prim.Native.Nat.{ℕ, _+_, _-_, _<_}
-use mathlib.Core.Path.{_≡_, refl, sym, ap, _∙_, subst}
-use borrow.Author.Needs.{needs}
+use Rattle.fsmd.specs.Clock.{after}
+use Rattle.fsmd.specs.Machine.{clock, cycle}
+use Rattle.fsmd.specs.Table.{machineOf, stateAt}
+use Rattle.fsmd.proofs.Machines.{admitted-facts}
+use Rattle.fsmd.proofs.Steps.{cycle-stays, cycle-step, after-standing, after-halted}
 use Rattle.fsmd.proofs.run.run.Statement.{statement}
 use Rattle.fsmd.proofs.run.run.Tie as tie
-use Rattle.fsmd.proofs.run.run.Reads as reads
-use Rattle.fsmd.proofs.run.run.Lts as lts
-use Rattle.fsmd.proofs.clock.cycle.Reads as cycle-reads
-use Rattle.fsmd.proofs.table.wide.Reads as wide-reads
 
 abbrev Inv-loop : tie.InvT-loop
 Inv-loop table start budget states words₀ file₀ state₀ count₀ words file state count =
@@ -28,11 +24,6 @@ Inv-loop table start budget states words₀ file₀ state₀ count₀ words file
 abbrev μ-loop : tie.MeasureT-loop
 μ-loop table start budget states words₀ file₀ state₀ count₀ words file state count = budget - count
 
--- src/run.rt:33:18
-shared-slice-read-states : tie.Need-shared-slice-read-states Inv-loop μ-loop
-shared-slice-read-states c = search needs
-
--- src/run.rt:38:5
 loop-holds : tie.Need-loop-holds Inv-loop μ-loop
 loop-holds c =
     let a = c .before .before .args in (
@@ -41,15 +32,6 @@ loop-holds c =
       reached-start (cycle (machineOf (now (a .table)))) (a .budget) (startAt (a .start) (a .registers .words)),
     )
 
--- src/run.rt:39:33
-wide-requires : tie.Need-wide-requires Inv-loop μ-loop
-wide-requires c κs = search needs
-
--- src/run.rt:39:52
-slice-aggregate-cycle : tie.Need-slice-aggregate-cycle Inv-loop μ-loop
-slice-aggregate-cycle c = search needs
-
--- src/run.rt:39:13
 cycle-requires : tie.Need-cycle-requires Inv-loop μ-loop
 cycle-requires c κs =
     let b = c .before .before .before in
@@ -66,11 +48,6 @@ cycle-requires c κs =
       b .loop .inv .1,
     )
 
--- src/run.rt:42:9
-add-count : tie.Need-add-count Inv-loop μ-loop
-add-count c = search needs
-
--- src/run.rt:44:13
 returns : tie.Need-returns Inv-loop μ-loop
 returns c =
     let b = c .before .before .before .before .before .before .before in
@@ -84,11 +61,9 @@ returns c =
     let h = after-halted t r (c .if1 .taken) in
     (sym (reached-halted m (a .budget) c₀ (b .loop .count + 1) (after t r) s (cycle-stays (machineOf t)) h), sym (registers-halted m (a .budget) c₀ (b .loop .count + 1) (after t r) s (cycle-stays (machineOf t)) h))
 
--- src/run.rt:38:5
 loop-less : tie.Need-loop-less Inv-loop μ-loop
 loop-less c = omega arith
 
--- src/run.rt:38:5
 loop-again : tie.Need-loop-again Inv-loop μ-loop
 loop-again c =
     let b = c .before .before .before .before .before .before .before in
@@ -104,7 +79,6 @@ loop-again c =
       subst (λ (x : Configuration). Reached m (a .budget) c₀ (b .loop .count + 1) x) (after-standing t r (c .if1 .left)) s,
     )
 
--- src/run.rt:26:1
 returns-2 : tie.Need-returns-2 Inv-loop μ-loop
 returns-2 c =
     let b = c .before in
@@ -121,12 +95,12 @@ run-spec =
     (tie.spec
     Inv-loop
     μ-loop
-    shared-slice-read-states
+    (λ c. search needs)
     loop-holds
-    wide-requires
-    slice-aggregate-cycle
+    (λ c κs. search needs)
+    (λ c. search needs)
     cycle-requires
-    add-count
+    (λ c. search needs)
     returns
     loop-less
     loop-again

@@ -1,32 +1,12 @@
-use denote.Ref.{now}
-use lib.ListN.{getD}
+-- `fsmd::table::first_wire` meets its contract: the word at the record's start. Assumes nothing.
 use Prim.Native.Nat.{ℕ}
-use mathlib.Core.Path.{_≡_, ap, _∙_}
+use mathlib.Core.Path.{ap, _∙_}
+use lib.ListN.{getD}
+use denote.Ref.{now}
 use borrow.Author.Needs.{needs}
 use Rattle.fsmd.proofs.table.first_wire.Statement.{statement}
 use Rattle.fsmd.proofs.table.first_wire.Tie as tie
-use Rattle.fsmd.proofs.table.first_wire.Reads as reads
-use Rattle.fsmd.proofs.table.first_wire.Lts as lts
-use Rattle.fsmd.proofs.table.record.Reads as record-reads
-use Rattle.fsmd.proofs.table.wide.Reads as wide-reads
 
--- src/table.rt:47:16
-record-requires : tie.Need-record-requires
-record-requires c κs = search needs
-
--- src/table.rt:47:10
-mul-wide : tie.Need-mul-wide
-mul-wide c = search needs
-
--- src/table.rt:47:10
-shared-slice-read-wide : tie.Need-shared-slice-read-wide
-shared-slice-read-wide c = search needs
-
--- src/table.rt:47:5
-wide-requires : tie.Need-wide-requires
-wide-requires c κs = search needs
-
--- src/table.rt:42:1
 returns : tie.Need-returns
 returns c =
     let t = now (c .before .before .before .before .args .table) in
@@ -34,4 +14,4 @@ returns c =
 
 pub first-wire-spec : {M : Type 1} → statement M
 first-wire-spec =
-    tie.close (tie.spec record-requires mul-wide shared-slice-read-wide wide-requires returns)
+    tie.close (tie.spec (λ c κs. search needs) (λ c. search needs) (λ c. search needs) (λ c κs. search needs) returns)

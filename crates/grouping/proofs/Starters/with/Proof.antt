@@ -2,7 +2,7 @@
 use Prim.Native.Nat.{_<_}
 use mathlib.Core.Path.{_≡_}
 use native.Mathlib.Omega.{arith}
-use lib.ListN.{length, getD}
+use lib.ListN.{getD}
 use borrow.Author.Needs.{needs}
 use Rattle.grouping.proofs.StarterLaws.{with-known, with-room, with-listed, with-more}
 use Rattle.grouping.proofs.Starters.with.Statement.{statement}

@@ -1,10 +1,10 @@
 -- `grouping::detection::detect` meets its contract: the two loops follow `DetectionSearch`. Assumes nothing.
-use mathlib.Core.Path.{_≡_, refl, sym, ap, _∙_}
-use Prim.Native.Nat.{ℕ, _+_, _-_, _*_, _≤_, _<_}
+use mathlib.Core.Path.{_≡_, refl, sym, _∙_}
+use Prim.Native.Nat.{_+_, _-_, _*_, _<_}
 use native.Mathlib.Omega.{arith}
 use denote.Ref.{now}
 use lib.Dec.{lit<}
-use Rattle.grouping.specs.declared.Detected.the-variants.{IllegalTo, Legal}
+use Rattle.grouping.specs.declared.Detected.the-variants.{Legal}
 use Rattle.grouping.specs.Bytes.{used}
 use Rattle.grouping.proofs.ByteStack.{shallow}
 use Rattle.grouping.proofs.DetectionSearch.{DetectVisit, DetectEdges, detect-begins, detect-ends, detect-enters, detect-pops, detect-none, detect-stops, detect-room, detect-falls, detect-pushes, detect-known}

@@ -1,10 +1,9 @@
 -- `grouping::edges::edges_of` meets its contract. Assumes nothing.
-use mathlib.Core.Path.{_≡_, refl, sym, ap, _∙_}
+use mathlib.Core.Path.{sym, _∙_}
 use mathlib.Core.Logic.{⊎-elim}
-use Prim.Native.Nat.{ℕ, _+_, _-_, _*_, _≤_, _<_}
+use Prim.Native.Nat.{_-_, _<_}
 use native.Mathlib.Omega.{arith}
 use denote.Ref.{now}
-use lib.ListN.{length, getD}
 use Rattle.cfg.proofs.Admitted.{Admitted, admitted-facts}
 use Rattle.grouping.proofs.EdgeBytes.{Copied, copied-none, copied-all, goto-low, ite-low, copied-halt, copied-goto, copied-ite}
 use borrow.Author.Needs.{needs}

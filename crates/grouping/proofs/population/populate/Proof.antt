@@ -1,10 +1,9 @@
 -- `grouping::population::populate` meets its contract. Assumes nothing.
-use mathlib.Core.Path.{_≡_, refl, sym, ap, _∙_}
-use Prim.Native.Nat.{ℕ, _+_, _-_, _≤_, _<_}
+use mathlib.Core.Path.{sym, _∙_}
+use Prim.Native.Nat.{_-_, _≤_, _<_}
 use native.Mathlib.Omega.{arith}
 use denote.Ref.{now}
-use lib.ListN.{length, getD}
-use Rattle.grouping.specs.Bytes.{startersOf, taken}
+use Rattle.grouping.specs.Bytes.{taken}
 use Rattle.grouping.proofs.StarterLaws.{starters-few}
 use Rattle.grouping.proofs.PopulationSearch.{Populating, populating-begins, populating-on, populating-ends}
 use borrow.Author.Needs.{needs}

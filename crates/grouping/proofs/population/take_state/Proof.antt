@@ -1,10 +1,10 @@
 -- `grouping::population::take_state` meets its contract: the two loops follow `PopulationSearch`. Assumes nothing.
 use mathlib.Core.Path.{_≡_, refl, sym, ap, _∙_}
-use Prim.Native.Nat.{ℕ, _+_, _-_, _*_, _≤_, _<_}
+use Prim.Native.Nat.{ℕ, _+_, _-_, _*_, _<_}
 use native.Mathlib.Omega.{arith}
 use denote.Ref.{now}
 use lib.Dec.{lit<}
-use lib.ListN.{length, getD}
+use lib.ListN.{getD}
 use Rattle.fsmd.specs.Layout.{none}
 use Rattle.grouping.specs.Bytes.{startersOf, used, taken}
 use Rattle.grouping.proofs.ByteStack.{shallow}

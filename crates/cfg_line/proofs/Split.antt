@@ -1,0 +1,62 @@
+-- Parts of a list of bytes that a byte parts. Assumes nothing.
+use mathlib.Core.Path.{_≡_, _∙_, refl, sym, ap}
+use mathlib.Core.List.{List, [], _∷_, _++_}
+use mathlib.Core.Bool.{Bool, true, false, not, _&&_, _||_, false≢true}
+use Prim.Native.Nat.{ℕ, suc}
+use lib.Dec.{eqb}
+use borrow.Author.Tests.{not-true, eq-eqb}
+use Rattle.word.specs.Word.{choose}
+use Rattle.runs.specs.Lists.{every}
+use Rattle.cfg_line.specs.Form.{splitAt}
+
+pub both : (a b : Bool) → (a && b) ≡ true → (a ≡ true) × (b ≡ true)
+both true b h = (refl, h)
+both false b h = absurd (false≢true h)
+
+-- the byte c stands nowhere in the list
+abbrev pub apart : ℕ → List ℕ → Bool
+apart c = every (λ x. not (eqb x c))
+
+-- a split has a first part
+pub record Parts (c : ℕ) (s : List ℕ) : Type 0 where
+  pub one : List ℕ
+  pub others : List (List ℕ)
+  pub split : splitAt c s ≡ one ∷ others
+
+pub parts : (c : ℕ) (s : List ℕ) → Parts c s
+unfolding splitAt
+parts c [] = record { one = []; others = []; split = refl }
+parts c (x ∷ xs) = go (eqb x c) refl (parts c xs)
+  where
+    go : (t : Bool) → eqb x c ≡ t → Parts c xs → Parts c (x ∷ xs)
+    go true q p = record { one = []; others = splitAt c xs; split = rw q }
+    go false q p = record { one = x ∷ p .one; others = p .others; split = rw (q, p .split) }
+
+-- bytes without c in front join the first part
+pub split-front :
+    (c : ℕ) (g s : List ℕ) {l : List ℕ} {ls : List (List ℕ)}
+    → apart c g ≡ true → splitAt c s ≡ l ∷ ls → splitAt c (g ++ s) ≡ (g ++ l) ∷ ls
+unfolding splitAt
+split-front c [] s h e = e
+split-front c (x ∷ g) s h e =
+    let b = both (not (eqb x c)) (apart c g) h in
+    rw (not-true (eqb x c) (b .0), split-front c g s (b .1) e)
+
+-- c itself ends a part
+pub split-here : (c : ℕ) (s : List ℕ) → splitAt c (c ∷ s) ≡ [] ∷ splitAt c s
+unfolding splitAt
+split-here c s = rw (eq-eqb c c refl)
+
+append-nil : (g : List ℕ) → g ++ [] ≡ g
+append-nil [] = refl
+append-nil (x ∷ g) = ap (λ (l : List ℕ). x ∷ l) (append-nil g)
+
+pub split-part : (c : ℕ) (g s : List ℕ) → apart c g ≡ true → splitAt c (g ++ (c ∷ s)) ≡ g ∷ splitAt c s
+split-part c g s h = split-front c g (c ∷ s) h (split-here c s) ∙ ap (λ (l : List ℕ). l ∷ splitAt c s) (append-nil g)
+
+pub split-last : (c : ℕ) (g : List ℕ) → apart c g ≡ true → splitAt c g ≡ g ∷ []
+unfolding splitAt
+split-last c [] h = refl
+split-last c (x ∷ g) h =
+    let b = both (not (eqb x c)) (apart c g) h in
+    rw (not-true (eqb x c) (b .0), split-last c g (b .1))

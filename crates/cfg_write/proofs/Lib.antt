@@ -1,0 +1,14 @@
+pub mod Examples
+pub mod Whole
+pub mod SnocLaws
+pub mod NumberLaws
+pub mod SplitLaws
+pub mod NameLaws
+pub mod LineLaws
+pub mod TextLaws
+pub mod WalkLaws
+pub mod AcceptedLaws
+pub mod TableLaws
+pub mod GraphLaws
+pub mod AnswerLaws
+pub mod RoundTrip

@@ -1,0 +1,254 @@
+-- The words of a machine's table, state by state: what `tableOf` writes is read there, whatever follows the table. Assumes nothing.
+use Prim.Native.Nat.{ℕ, zero, suc, _+_, _-_, _*_, _<_, _≤_}
+use native.Mathlib.Nat.{add-zero}
+use native.Mathlib.Omega.{arith}
+use mathlib.Core.List.{List, [], _∷_, _++_, map, append-assoc}
+use mathlib.Core.Path.{_≡_, refl, sym, ap, ap₂, _∙_}
+use lib.ListN.{length, getD, take, drop, replicate, length-append}
+use lib.Seq.{drop-append-add, drop-drop, take-at, getD-drop}
+use Rattle.runs.proofs.ListLaws.{padded-append, length-padded}
+use Rattle.runs.specs.Lists.{upFrom, padded, concatMap}
+use Rattle.fsmd.specs.Layout.{maxStates, maxBlocks, maxRegisters, maxWires, wireWords, recordWords, recordOffset, wireOffset, machineWords, none}
+use Rattle.fsmd.specs.Machine.{State, FSMD, emptyState, stateOf}
+use Rattle.fsmd.specs.Table.{wireWordsOf, recordsOf, tableOf, wireAt, firstWireAt, wireCountAt, stateAt}
+use Rattle.fsmd.specs.declared.Wire.{Wire}
+
+-- ---- counting wires
+
+-- the wires of some states
+unfoldable pub wireCount : List State → ℕ
+wireCount [] = 0
+wireCount (q ∷ qs) = length (q .wires) + wireCount qs
+
+-- those before state k
+unfoldable pub wiresBefore : List State → ℕ → ℕ
+wiresBefore [] k = 0
+wiresBefore (q ∷ qs) zero = 0
+wiresBefore (q ∷ qs) (suc k) = length (q .wires) + wiresBefore qs k
+
+abbrev pub at : List State → ℕ → State
+at qs k = getD qs k emptyState
+
+pub before-room : (qs : List State) (k : ℕ) → k < length qs → wiresBefore qs k + length (at qs k .wires) ≤ wireCount qs
+unfolding wireCount wiresBefore
+before-room [] k h = absurd (omega arith)
+before-room (q ∷ qs) zero h = omega arith
+before-room (q ∷ qs) (suc k) h = let e = before-room qs k (omega arith) in omega arith
+
+pub before-less : (qs : List State) (j k : ℕ) → j < k → k < length qs → wiresBefore qs j + length (at qs j .wires) ≤ wiresBefore qs k
+unfolding wiresBefore
+before-less [] j k h b = absurd (omega arith)
+before-less (q ∷ qs) j zero h b = absurd (omega arith)
+before-less (q ∷ qs) zero (suc k) h b = omega arith
+before-less (q ∷ qs) (suc j) (suc k) h b = let e = before-less qs j k (omega arith) (omega arith) in omega arith
+
+-- ---- words of a table from an index on
+
+drop-past : (xs ys : List ℕ) (n k : ℕ) → length xs ≡ n → drop (n + k) (xs ++ ys) ≡ drop k ys
+drop-past xs ys n k e = ap (λ (i : ℕ). drop (i + k) (xs ++ ys)) (sym e) ∙ drop-append-add xs ys k
+
+-- what stands at p + i, from the words that p drops to
+word-from : (t l : List ℕ) (p i : ℕ) → drop p t ≡ l → getD t (p + i) 0 ≡ getD l i 0
+word-from t l p i e = sym (getD-drop p t i 0) ∙ ap (λ (d : List ℕ). getD d i 0) e
+
+first-from : (t l : List ℕ) (p : ℕ) → drop p t ≡ l → getD t p 0 ≡ getD l 0 0
+first-from t l p e = ap (λ (i : ℕ). getD t i 0) (sym (add-zero p)) ∙ word-from t l p 0 e
+
+drop-from : (t l : List ℕ) (p i : ℕ) → drop p t ≡ l → drop (p + i) t ≡ drop i l
+drop-from t l p i e = sym (drop-drop i p t) ∙ ap (drop i) e
+
+-- ---- wires
+
+abbrev wordsOf : List Wire → List ℕ
+wordsOf ws = concatMap wireWordsOf ws
+
+length-wordsOf : (ws : List Wire) → length (wordsOf ws) ≡ wireWords * length ws
+unfolding concatMap
+length-wordsOf [] = refl
+length-wordsOf (w ∷ ws) = let e = length-wordsOf ws in omega arith
+
+-- wires that stand in a table one after another are read there
+wires-read : (t : List ℕ) (ws : List Wire) (f : ℕ) (r : List ℕ) → drop (wireOffset f) t ≡ wordsOf ws ++ r → map (wireAt t) (upFrom f (length ws)) ≡ ws
+unfolding concatMap wireAt
+wires-read t [] f r e = refl
+wires-read t (w ∷ ws) f r e =
+    let p = wireOffset f in
+    let l = wordsOf (w ∷ ws) ++ r in
+    let n : wireOffset (suc f) ≡ p + 4 = omega arith in
+    let w′ : wireAt t f ≡ w = ap₂ {C = Wire} (λ (x y : ℕ × ℕ). record { code = x .0; a = x .1; b = y .0; c = y .1 })
+    (ap₂ {C = ℕ × ℕ} (λ (x y : ℕ). (x, y)) (first-from t l p e) (word-from t l p 1 e))
+    (ap₂ {C = ℕ × ℕ} (λ (x y : ℕ). (x, y)) (word-from t l p 2 e) (word-from t l p 3 e)) in
+    ap₂ {C = List Wire} (λ (x : Wire) (xs : List Wire). x ∷ xs) w′
+    (wires-read t ws (suc f) r (ap (λ (i : ℕ). drop i t) n ∙ drop-from t l p 4 e))
+
+allWords : List State → List ℕ
+allWords qs = concatMap (λ (q : State). concatMap wireWordsOf (q .wires)) qs
+
+length-allWords : (qs : List State) → length (allWords qs) ≡ wireWords * wireCount qs
+unfolding allWords concatMap wireCount
+length-allWords [] = refl
+length-allWords (q ∷ qs) = omega (arith, length-append (wordsOf (q .wires)) (allWords qs), length-wordsOf (q .wires), length-allWords qs)
+
+-- the wires of state k, after those of the states before it
+wires-drop : (qs : List State) (k : ℕ) (l : List ℕ) → k < length qs
+    → (r : List ℕ) × (drop (wireWords * wiresBefore qs k) (allWords qs ++ l) ≡ wordsOf (at qs k .wires) ++ r)
+unfolding allWords concatMap wiresBefore
+wires-drop [] k l h = absurd (omega arith)
+wires-drop (q ∷ qs) zero l h = (allWords qs ++ l, append-assoc (wordsOf (q .wires)) (allWords qs) l)
+wires-drop (q ∷ qs) (suc k) l h =
+    let r = wires-drop qs k l (omega arith) in
+    let e : wireWords * (length (q .wires) + wiresBefore qs k) ≡ wireWords * length (q .wires) + wireWords * wiresBefore qs k = omega arith in (
+      r .0,
+      ap (λ (i : ℕ). drop i (allWords (q ∷ qs) ++ l)) e
+          ∙ ap (drop (wireWords * length (q .wires) + wireWords * wiresBefore qs k)) (append-assoc (wordsOf (q .wires)) (allWords qs) l)
+          ∙ drop-past (wordsOf (q .wires)) (allWords qs ++ l) (wireWords * length (q .wires)) (wireWords * wiresBefore qs k) (length-wordsOf (q .wires))
+          ∙ r .1,
+    )
+
+-- ---- records
+
+length-recordsOf : (n : ℕ) (qs : List State) → length (recordsOf n qs) ≡ recordWords * length qs
+unfolding recordsOf
+length-recordsOf n [] = refl
+length-recordsOf n (q ∷ qs) =
+    omega (arith, length-append (padded maxRegisters 0 (q .nextRegisters)) (recordsOf (n + length (q .wires)) qs), length-padded maxRegisters 0 (q .nextRegisters), length-recordsOf (n + length (q .wires)) qs)
+
+-- the words of state k's record
+abbrev recordOf : ℕ → State → List ℕ
+recordOf n q = n ∷ length (q .wires) ∷ q .next ∷ padded maxRegisters 0 (q .nextRegisters)
+
+records-drop : (qs : List State) (n k : ℕ) (l : List ℕ) → k < length qs
+    → (r : List ℕ) × (drop (recordWords * k) (recordsOf n qs ++ l) ≡ recordOf (n + wiresBefore qs k) (at qs k) ++ r)
+unfolding recordsOf wiresBefore
+records-drop [] n k l h = absurd (omega arith)
+records-drop (q ∷ qs) n zero l h = (
+  recordsOf (n + length (q .wires)) qs ++ l,
+  ap₂ {C = List ℕ} (λ (a : ℕ) (b : List ℕ). a ∷ length (q .wires) ∷ q .next ∷ b) (omega arith)
+      (append-assoc (padded maxRegisters 0 (q .nextRegisters)) (recordsOf (n + length (q .wires)) qs) l),
+)
+records-drop (q ∷ qs) n (suc k) l h =
+    let r = records-drop qs (n + length (q .wires)) k l (omega arith) in
+    let e : recordWords * suc k ≡ recordWords + recordWords * k = omega arith in
+    let f : n + length (q .wires) + wiresBefore qs k ≡ n + (length (q .wires) + wiresBefore qs k) = omega arith in (
+      r .0,
+      ap (λ (i : ℕ). drop i (recordsOf n (q ∷ qs) ++ l)) e
+          ∙ ap (drop (recordWords + recordWords * k)) (append-assoc (recordOf n q) (recordsOf (n + length (q .wires)) qs) l)
+          ∙ drop-past (recordOf n q) (recordsOf (n + length (q .wires)) qs ++ l) recordWords (recordWords * k) (omega (arith, length-padded maxRegisters 0 (q .nextRegisters)))
+          ∙ r .1 ∙ ap (λ (i : ℕ). recordOf i (at qs k) ++ r .0) f,
+    )
+
+-- ---- the table of a machine, and what may follow it
+
+module _ (m : FSMD) (rest : List ℕ) where
+  abbrev table : List ℕ
+  table = tableOf m ++ rest
+
+  abbrev starterWords : List ℕ
+  starterWords = padded maxStates 0 (m .starters)
+
+  abbrev blockWords : List ℕ
+  blockWords = padded maxBlocks none (m .blockStates)
+
+  abbrev recordSpace : List ℕ
+  recordSpace = padded (maxStates * recordWords) 0 (recordsOf 0 (m .states))
+
+  abbrev wireSpace : List ℕ
+  wireSpace = padded (maxWires * wireWords) 0 (allWords (m .states))
+
+  pub count-is : getD table 0 0 ≡ length (m .states)
+  unfolding tableOf
+  count-is = refl
+
+  pub registers-are : getD table 1 0 ≡ m .registers
+  unfolding tableOf
+  registers-are = refl
+
+  from-records : (i : ℕ) → drop (130 + i) table ≡ drop i (recordSpace ++ (wireSpace ++ rest))
+  unfolding tableOf allWords
+  from-records i =
+      let e : 130 + i ≡ suc (suc (64 + (64 + i))) = omega arith in
+      let b = blockWords ++ (recordSpace ++ wireSpace) in
+      ap (λ (j : ℕ). drop j table) e
+      ∙ ap (drop (64 + (64 + i))) (append-assoc starterWords b rest)
+      ∙ drop-past starterWords (b ++ rest) 64 (64 + i) (length-padded maxStates 0 (m .starters))
+      ∙ ap (drop (64 + i)) (append-assoc blockWords (recordSpace ++ wireSpace) rest)
+      ∙ drop-past blockWords ((recordSpace ++ wireSpace) ++ rest) 64 i (length-padded maxBlocks none (m .blockStates))
+      ∙ ap (drop i) (append-assoc recordSpace wireSpace rest)
+
+  from-wires : (i : ℕ) → drop (1346 + i) table ≡ drop i (wireSpace ++ rest)
+  from-wires i =
+      let e : 1346 + i ≡ 130 + (1216 + i) = omega arith in
+      ap (λ (j : ℕ). drop j table) e ∙ from-records (1216 + i)
+      ∙ drop-past recordSpace (wireSpace ++ rest) 1216 i (length-padded 1216 0 (recordsOf 0 (m .states)))
+
+  module _ (few : length (m .states) ≤ maxStates) (room : wireCount (m .states) ≤ maxWires) (k : ℕ) (h : k < length (m .states)) where
+    -- the words from state k's record on
+    at-record : (r : List ℕ) × (drop (recordOffset k) table ≡ recordOf (wiresBefore (m .states) k) (at (m .states) k) ++ r)
+    at-record =
+        let recs = recordsOf 0 (m .states) in
+        let pad = replicate {A = ℕ} (1216 - length recs) 0 in
+        let p : recordSpace ≡ recs ++ pad = padded-append 1216 0 recs (omega (arith, length-recordsOf 0 (m .states))) in
+        let d = records-drop (m .states) 0 k (pad ++ (wireSpace ++ rest)) h in
+        let z : 0 + wiresBefore (m .states) k ≡ wiresBefore (m .states) k = omega arith in (
+          d .0,
+          from-records (recordWords * k)
+              ∙ ap (λ (l : List ℕ). drop (recordWords * k) (l ++ (wireSpace ++ rest))) p
+              ∙ ap (drop (recordWords * k)) (append-assoc recs pad (wireSpace ++ rest))
+              ∙ d .1 ∙ ap (λ (n : ℕ). recordOf n (at (m .states) k) ++ d .0) z,
+        )
+
+    -- the words from its first wire on
+    at-wires : (r : List ℕ) × (drop (wireOffset (wiresBefore (m .states) k)) table ≡ wordsOf (at (m .states) k .wires) ++ r)
+    at-wires =
+        let all = allWords (m .states) in
+        let pad = replicate {A = ℕ} (12288 - length all) 0 in
+        let p : wireSpace ≡ all ++ pad = padded-append 12288 0 all (omega (arith, length-allWords (m .states))) in
+        let i = wireWords * wiresBefore (m .states) k in
+        let d = wires-drop (m .states) k (pad ++ rest) h in (
+          d .0,
+          from-wires i ∙ ap (λ (l : List ℕ). drop i (l ++ rest)) p ∙ ap (drop i) (append-assoc all pad rest) ∙ d .1,
+        )
+
+    pub back-first : firstWireAt table k ≡ wiresBefore (m .states) k
+    back-first = first-from table _ (recordOffset k) (at-record .1)
+
+    pub back-count : wireCountAt table k ≡ length (stateOf m k .wires)
+    back-count = word-from table _ (recordOffset k) 1 (at-record .1)
+
+    back-next : getD table (recordOffset k + 2) 0 ≡ stateOf m k .next
+    back-next = word-from table _ (recordOffset k) 2 (at-record .1)
+
+    back-wires : map (wireAt table) (upFrom (firstWireAt table k) (wireCountAt table k)) ≡ stateOf m k .wires
+    back-wires =
+        ap₂ (λ (f n : ℕ). map (wireAt table) (upFrom f n)) back-first back-count
+        ∙ wires-read table (stateOf m k .wires) (wiresBefore (m .states) k) (at-wires .0) (at-wires .1)
+
+    back-registers : m .registers ≤ maxRegisters → length (stateOf m k .nextRegisters) ≡ m .registers
+        → take (getD table 1 0) (drop (recordOffset k + 3) table) ≡ stateOf m k .nextRegisters
+    back-registers small e =
+        let l = stateOf m k .nextRegisters in
+        let r = at-record .0 in
+        let pad = replicate {A = ℕ} (16 - length l) 0 in
+        let p : padded maxRegisters 0 l ≡ l ++ pad = padded-append 16 0 l (omega arith) in
+        ap₂ (λ (n : ℕ) (d : List ℕ). take n d) registers-are (drop-from table _ (recordOffset k) 3 (at-record .1))
+        ∙ ap (λ (d : List ℕ). take (m .registers) (d ++ r)) p
+        ∙ ap (take (m .registers)) (append-assoc l pad r)
+        ∙ take-at l (pad ++ r) (m .registers) e
+
+    pub back-state : m .registers ≤ maxRegisters → length (stateOf m k .nextRegisters) ≡ m .registers → stateAt table k ≡ stateOf m k
+    unfolding stateAt
+    back-state small e =
+        ap₂ {C = State} (λ (ws : List Wire) (p : ℕ × List ℕ). record { wires = ws; next = p .0; nextRegisters = p .1 }) back-wires
+        (ap₂ {C = ℕ × List ℕ} (λ (n : ℕ) (l : List ℕ). (n, l)) back-next (back-registers small e))
+
+-- ---- the length of a machine's table
+
+pub table-length : (m : FSMD) → length (tableOf m) ≡ machineWords
+unfolding tableOf
+table-length m =
+    let s = padded maxStates 0 (m .starters) in
+    let b = padded maxBlocks none (m .blockStates) in
+    let r = padded 1216 0 (recordsOf 0 (m .states)) in
+    let ws = concatMap (λ (q : State). concatMap wireWordsOf (q .wires)) (m .states) in
+    let w = padded 12288 0 ws in
+    omega (arith, length-append s (b ++ (r ++ w)), length-append b (r ++ w), length-append r w, length-padded maxStates 0 (m .starters), length-padded maxBlocks none (m .blockStates), length-padded 1216 0 (recordsOf 0 (m .states)), length-padded 12288 0 ws)

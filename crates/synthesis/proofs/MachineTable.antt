@@ -16,7 +16,7 @@ use Rattle.cfg.proofs.Admitted.{ValidGraph, valid-graph, admitted-halves}
 use Rattle.fsmd.specs.Layout.{none}
 use Rattle.fsmd.specs.Machine.{State, FSMD}
 use Rattle.fsmd.specs.Table.{wireWordsOf, recordsOf, tableOf}
-use Rattle.fsmd.proofs.ReadBack.{wireCount as wireCountOf}
+use Rattle.fsmd.proofs.WrittenTable.{wireCount as wireCountOf}
 use Rattle.grouping.specs.Grouping.{Groups, groups}
 use Rattle.grouping.specs.Answer.{groupingOf}
 use Rattle.grouping.proofs.Reach.{Closed, admitted-closed, reached-below}

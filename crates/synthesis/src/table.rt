@@ -1,9 +1,5 @@
 // The machine table of an admitted graph: its head, then the wires and the record of one state after another.
-use crate::SynthesisAnswer;
-use cfg::Graph;
-use cfg::admission;
 use fsmd::Machine;
-use fsmd::Wire;
 use grouping::edges;
 ghost use mathlib.Core.Path.{_≡_};
 ghost use mathlib.Core.Bool.{true};
@@ -99,84 +95,4 @@ fn starter_marks(starters: &[u8]) -> [u8; 64]
         i += 1;
     }
     marks
-}
-
-// State k, whose first wire is number `first`; the number of the next state's first wire.
-fn one_state(
-    graph: &[u32],
-    edges: &[u8],
-    starts: &[u8],
-    starters: &[u8],
-    states: &[u8],
-    k: usize,
-    first: usize,
-    table: &mut [u32],
-) -> usize
-    requires { ⌜ Prepared (now graph) (now edges) (now starts) (now starters) (now states) ⌝ }
-    requires { ⌜ (k < length (now starters)) × Filled (now graph) (now table) k first ⌝ }
-    ensures { λ r. ⌜ (now (table .exit) ≡ withStates (take recordsOffset (now (table .entry))) (firstStates (now (graph .entry)) (k + 1))) × (r ≡ wireCount (firstStates (now (graph .entry)) (k + 1))) ⌝ }
-{
-    first
-}
-
-// The states one after another, behind the head.
-fn all_states(
-    graph: &[u32],
-    edges: &[u8],
-    starts: &[u8],
-    starters: &[u8],
-    states: &[u8],
-    table: &mut [u32],
-)
-    requires { ⌜ Prepared (now graph) (now edges) (now starts) (now starters) (now states) ⌝ }
-    requires { ⌜ Filled (now graph) (now table) 0 0 ⌝ }
-    ensures { λ r. ⌜ now (table .exit) ≡ withStates (take recordsOffset (now (table .entry))) (firstStates (now (graph .entry)) (length (now (starters .entry)))) ⌝ }
-{
-    let mut k: usize = 0;
-    let mut first: usize = 0;
-    while k < starters.len() {
-        let next = one_state(graph, edges, starts, starters, states, k, first, table);
-        first = next;
-        k += 1;
-    }
-}
-
-// The table of an admitted graph's machine.
-fn fill(graph: &[u32], table: &mut [u32])
-    requires { ⌜ (admitted (now graph) ≡ true) × (length (now table) ≡ machineWords) ⌝ }
-    ensures { λ r. ⌜ now (table .exit) ≡ tableOf (machine (graphOf (now (graph .entry)))) ⌝ }
-{
-    let grouping = grouping::group(graph);
-    let count = grouping.count;
-    let list = grouping.starters;
-    let bytes = grouping.states;
-    let blocks = graph[0] as usize;
-    let edges = edges::edges_of(graph);
-    let starts = starter_marks(&list[..count]);
-    write_head(table, count as u32, graph[1], &list, &bytes);
-    all_states(
-        graph,
-        &edges,
-        &starts,
-        &list[..count],
-        &bytes[..blocks],
-        table,
-    );
-}
-
-// The machine of a graph table into a machine table.
-pub fn synthesise(graph: &[u32], machine: &mut [u32]) -> SynthesisAnswer
-    ensures { λ r. ⌜ (r ≡ synthesisAnswer (now (graph .entry)) (now (machine .entry))) × (now (machine .exit) ≡ synthesisWords (now (graph .entry)) (now (machine .entry))) ⌝ }
-{
-    if graph.len() < Graph::WORDS {
-        return SynthesisAnswer::Refused(7);
-    }
-    if machine.len() < Machine::WORDS {
-        return SynthesisAnswer::Refused(7);
-    }
-    if !admission::is_admitted(graph) {
-        return SynthesisAnswer::Refused(6);
-    }
-    fill(graph, &mut machine[..Machine::WORDS]);
-    SynthesisAnswer::Made
 }

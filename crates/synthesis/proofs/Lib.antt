@@ -34,3 +34,4 @@ pub mod TableWords
 pub mod TableWrites
 pub mod MachineTable
 pub mod TableFilled
+pub mod StatePut

@@ -1,5 +1,6 @@
 // The machine table of an admitted graph: its head, then the wires and the record of one state after another.
 use crate::SynthesisAnswer;
+use crate::states;
 use cfg::Graph;
 use cfg::admission;
 use fsmd::Machine;
@@ -116,8 +117,16 @@ fn one_state(
     requires { ⌜ (k < length (now starters)) × Filled (now graph) (now table) k first ⌝ }
     ensures { λ r. ⌜ (now (table .exit) ≡ withStates (take recordsOffset (now (table .entry))) (firstStates (now (graph .entry)) (k + 1))) × (r ≡ wireCount (firstStates (now (graph .entry)) (k + 1))) ⌝ }
 {
-    first
+    let registers = graph[1] as usize;
+    let mut values = [0u32; 16];
+    let mut targets = [0u32; 128];
+    let mut rows = [0u32; 2176];
+    let at = Machine::WIRE_WORDS + Wire::WORDS * first;
+    let made = states::make(graph, edges, starters, states, k as u32, &mut table[at..], &mut values[..registers], &mut targets, &mut rows);
+    write_record(table, Machine::RECORDS + Machine::RECORD * k, first, made.wires, made.next, &values);
+    first + made.wires
 }
+
 
 // The states one after another, behind the head.
 fn all_states(

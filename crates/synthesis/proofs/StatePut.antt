@@ -2,14 +2,14 @@
 use Prim.Native.Nat.{ℕ, zero, suc, _+_, _-_, _*_, _≤_, _<_}
 use native.Mathlib.Omega.{arith}
 use mathlib.Core.Bool.{true}
-use mathlib.Core.Path.{_≡_, refl, sym, _∙_, ap}
-use mathlib.Core.List.{List, [], _∷_, _++_}
-use lib.ListN.{length, getD, take, drop, replicate, length-append, length-take, length-drop}
+use mathlib.Core.Path.{_≡_, refl, sym, _∙_, ap, subst}
+use mathlib.Core.List.{List, [], _∷_, _++_, append-nil}
+use lib.ListN.{length, getD, take, drop, replicate, length-append, length-take, length-drop, drop-of-length-le}
 use lib.Seq.{take-all, take-at, length-take-le, drop-drop}
 use Rattle.runs.specs.Lists.{upFrom, padded, concatMap}
 use Rattle.runs.proofs.ListLaws.{padded-append}
 use Rattle.cfg.specs.Table.{graphOf, admitted}
-use Rattle.cfg.proofs.Admitted.{ValidGraph, valid-graph, admitted-halves, registers-are, blocks-length}
+use Rattle.cfg.proofs.Admitted.{Admitted, admitted-facts, ValidGraph, valid-graph, admitted-halves, registers-are, blocks-length}
 use Rattle.fsmd.specs.declared.Wire.{Wire}
 use Rattle.fsmd.specs.Machine.{State}
 use Rattle.fsmd.specs.Table.{wireWordsOf}
@@ -18,7 +18,7 @@ use Rattle.grouping.proofs.Reach.{Closed, admitted-closed}
 use Rattle.grouping.proofs.GroupingLaws.{grouped}
 use Rattle.synthesis.specs.Wires.{Point, stateOf}
 use Rattle.synthesis.specs.Choosing.{Prepared as Ready}
-use Rattle.synthesis.specs.Making.{wiresIn, stored, pointIn, Held, groupsIn, Grouped, noBuild, placedState, endOf}
+use Rattle.synthesis.specs.Making.{wiresIn, stored, pointIn, Room, Held, groupsIn, Grouped, noBuild, placedState, endOf}
 use Rattle.synthesis.specs.StateWords.{written, wireCount, recordOf, withStates, firstStates, Filled, Prepared}
 use Rattle.synthesis.proofs.StateValidity.{StateValid}
 use Rattle.synthesis.proofs.SynthesisedMachine.{made-valid}
@@ -121,3 +121,67 @@ ready t edges starts starters states p =
       all = f ∙ m ∙ blocks-length t;
       edges = p .leading;
     }
+
+pub drop-zeros : (r n : ℕ) → r ≤ n → drop r (replicate {A = ℕ} n 0) ≡ replicate (n - r) 0
+drop-zeros zero n h = let e : n - 0 ≡ n = omega arith in rw e refl
+drop-zeros (suc r) zero h = absurd (omega arith)
+drop-zeros (suc r) (suc n) h = let e : suc n - suc r ≡ n - r = omega arith in rw e (drop-zeros r n (omega arith))
+
+-- ---- a state made and put
+
+module _ (t edges starts starters states : List ℕ) (p : Prepared t edges starts starters states) (table : List ℕ) (k first : ℕ) (f : Filled t table k first) (low : k < length starters) where
+  below : k < length (groups (graphOf t) .starters)
+  below = let e = ap length (p .its-starters) in omega arith
+
+  pub few-states : k < 64
+  few-states =
+      let b = admitted-closed t (p .admits) .few-blocks in
+      let n = grouped (graphOf t) (admitted-closed t (p .admits)) .few-states in
+      let l = below in
+      omega arith
+
+  pub first-low : first ≤ 3072
+  first-low = let r = put-room t (p .admits) table k first f below in omega arith
+
+  pub registers-low : getD t 1 0 ≤ 16
+  registers-low = admitted-facts t (p .admits) .fewRegisters
+
+  pub words-long : 2562 ≤ length t
+  words-long = admitted-facts t (p .admits) .long
+
+  -- the words from the state's first wire on
+  pub rest-of : take (length table - (1346 + 4 * first)) (drop (1346 + 4 * first) table) ≡ drop (1346 + 4 * first) table
+  rest-of = take-all (length table - (1346 + 4 * first)) (drop (1346 + 4 * first) table) (let l = length-drop (1346 + 4 * first) table in omega arith)
+
+  pub room-for : Room (length (endOf (graphOf t) (groupsIn starters states) k .wires)) (take (length table - (1346 + 4 * first)) (drop (1346 + 4 * first) table))
+  room-for =
+      let e : length (endOf (graphOf t) (groupsIn starters states) k .wires) ≡ length (nth t k .wires) = ap (λ (x : Point). length (x .wires)) (end-is t starters states k (p .its-starters) (p .its-states)) in
+      let r = put-room t (p .admits) table k first f below in
+      let l = ap length rest-of ∙ length-drop (1346 + 4 * first) table in
+      let a = f .all in
+      record { fits = omega arith; few = omega arith }
+
+  module _ (new values : List ℕ) (m n next : ℕ) (h : Held (endOf (graphOf t) (groupsIn starters states) k) (take (length table - (1346 + 4 * first)) (drop (1346 + 4 * first) table)) next (take m values) n new)
+      (as-many : length values ≡ getD t 1 0) (m-low : m ≤ getD t 1 0) where
+    held : Held (pointOf (nth t k)) (drop (1346 + 4 * first) table) next (take m values) n new
+    held = subst (λ (l : List ℕ). Held (pointOf (nth t k)) l next (take m values) n new) rest-of (subst (λ (x : Point). Held x (take (length table - (1346 + 4 * first)) (drop (1346 + 4 * first) table)) next (take m values) n new) (end-is t starters states k (p .its-starters) (p .its-states)) h)
+
+    pub made-low : first + n ≤ 3072
+    made-low = let r = put-room t (p .admits) table k first f below in let c = its-count (nth t k) (drop (1346 + 4 * first) table) new next (take m values) n held in omega arith
+
+    pub made-count : first + n ≡ wireCount (firstStates t (k + 1))
+    made-count = put-next t (p .admits) table k first f below new next (take m values) n held
+
+    -- all of the table with the state's wires
+    pub made-table : new ++ drop (length table - (1346 + 4 * first)) (drop (1346 + 4 * first) table) ≡ new
+    made-table =
+        let l = length-drop (1346 + 4 * first) table in
+        ap (λ (x : List ℕ). new ++ x) (drop-of-length-le (drop (1346 + 4 * first) table) {i = length table - (1346 + 4 * first)} (omega arith)) ∙ append-nil new
+
+    pub made-words : (rest table′ last : List ℕ) → rest ≡ replicate (16 - getD t 1 0) 0 → table′ ≡ take (1346 + 4 * first) table ++ new
+        → last ≡ written (130 + 19 * k) (first ∷ n ∷ next ∷ (values ++ rest)) table′ → last ≡ withStates (take 130 table) (firstStates t (k + 1))
+    made-words rest table′ last z e w =
+        let s : values ++ rest ≡ padded 16 0 (nth t k .nextRegisters) =
+        registers-padded (getD t 1 0) values rest (nth t k .nextRegisters) m as-many registers-low m-low (put-registers t (p .admits) table k first f below)
+        (its-registers (nth t k) (drop (1346 + 4 * first) table) new next (take m values) n held) z in
+        w ∙ ap (written (130 + 19 * k) (first ∷ n ∷ next ∷ (values ++ rest))) e ∙ put-words t (p .admits) table k first f below new next (take m values) n held (values ++ rest) s

@@ -9,7 +9,17 @@ ghost use Rattle.synthesis.specs.Making.{Room, Held, Edged, Built, group
 ghost use Rattle.synthesis.specs.Choosing.{Prepared};
 
 // State `k`: its wires, and the references of its next state and its next registers.
-pub fn make(graph: &[u32], next: &[u8], starters: &[u8], states: &[u8], k: u32, wires: &mut [u32], values: &mut [u32], targets: &mut [u32], rows: &mut [u32]) -> Exit
+pub fn make(
+    graph: &[u32],
+    next: &[u8],
+    starters: &[u8],
+    states: &[u8],
+    k: u32,
+    wires: &mut [u32],
+    values: &mut [u32],
+    targets: &mut [u32],
+    rows: &mut [u32],
+) -> Exit
     requires { ⌜ Prepared (now graph) (now next) (now starters) (now states) ⌝ }
     requires { ⌜ length (now values) ≡ getD (now graph) 1 0 ⌝ }
     requires { ⌜ Edged (now targets) (now rows) 0 ⌝ }

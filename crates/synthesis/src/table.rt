@@ -122,11 +122,27 @@ fn one_state(
     let mut targets = [0u32; 128];
     let mut rows = [0u32; 2176];
     let at = Machine::WIRE_WORDS + Wire::WORDS * first;
-    let made = states::make(graph, edges, starters, states, k as u32, &mut table[at..], &mut values[..registers], &mut targets, &mut rows);
-    write_record(table, Machine::RECORDS + Machine::RECORD * k, first, made.wires, made.next, &values);
+    let made = states::make(
+        graph,
+        edges,
+        starters,
+        states,
+        k as u32,
+        &mut table[at..],
+        &mut values[..registers],
+        &mut targets,
+        &mut rows,
+    );
+    write_record(
+        table,
+        Machine::RECORDS + Machine::RECORD * k,
+        first,
+        made.wires,
+        made.next,
+        &values,
+    );
     first + made.wires
 }
-
 
 // The states one after another, behind the head.
 fn all_states(

@@ -2,6 +2,5 @@ pub mod Placement
 pub mod PlacementBytes
 pub mod Wires
 pub mod Making
-pub mod Choosing
 pub mod Synthesis
 pub mod StateWords

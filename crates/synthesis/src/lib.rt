@@ -7,7 +7,6 @@ pub mod groups; // groups.rt: starters and states of blocks
 pub mod joins; // joins.rt: how a block's arrival and values come about
 pub mod wires; // wires.rt: one wire, the selections of a join
 pub mod placement; // placement.rt: the order of a state's blocks
-pub mod states; // states.rt: one state
 mod table; // table.rt: the machine table of a graph
 
 pub enum SynthesisAnswer {

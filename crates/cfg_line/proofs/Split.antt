@@ -4,10 +4,12 @@ use mathlib.Core.List.{List, [], _∷_, _++_}
 use mathlib.Core.Bool.{Bool, true, false, not, _&&_, _||_, false≢true}
 use Prim.Native.Nat.{ℕ, suc}
 use lib.Dec.{eqb}
+use lib.ListN.{length, drop}
+use native.Mathlib.Omega.{arith}
 use borrow.Author.Tests.{not-true, eq-eqb}
 use Rattle.word.specs.Word.{choose}
 use Rattle.runs.specs.Lists.{every}
-use Rattle.cfg_line.specs.Form.{splitAt}
+use Rattle.cfg_line.specs.Form.{splitAt, onto}
 
 pub both : (a b : Bool) → (a && b) ≡ true → (a ≡ true) × (b ≡ true)
 both true b h = (refl, h)
@@ -60,3 +62,57 @@ split-last c [] h = refl
 split-last c (x ∷ g) h =
     let b = both (not (eqb x c)) (apart c g) h in
     rw (not-true (eqb x c) (b .0), split-last c g (b .1))
+
+module _ (c : ℕ) where
+  no-parts : (s : List ℕ) → splitAt c s ≡ [] → ⊥
+  no-parts s e =
+      let p = parts c s in
+      let z : _≡_ {A = List (List ℕ)} (p .one ∷ p .others) [] = sym (p .split) ∙ e in
+      let w : _≡_ {A = ℕ} 0 1 = cc in
+      omega arith
+
+  -- what stands behind the first part
+  pub split-rest : (s : List ℕ) {l m : List ℕ} {ms : List (List ℕ)} → splitAt c s ≡ l ∷ m ∷ ms → splitAt c (drop (suc (length l)) s) ≡ m ∷ ms
+  unfolding splitAt
+  split-rest [] e =
+      let z : _≡_ {A = ℕ} 0 1 = cc in
+      absurd (omega arith)
+  split-rest (x ∷ xs) {l} {m} {ms} e = go (eqb x c) refl e (λ one. split-rest xs {l = one} {m = m} {ms = ms}) (parts c xs)
+    where
+      go :
+          (t : Bool) → eqb x c ≡ t
+          → choose t ([] ∷ splitAt c xs) (onto x (splitAt c xs)) ≡ l ∷ m ∷ ms
+          → ((one : List ℕ) → splitAt c xs ≡ one ∷ m ∷ ms → splitAt c (drop (suc (length one)) xs) ≡ m ∷ ms)
+          → Parts c xs
+          → splitAt c (drop (suc (length l)) (x ∷ xs)) ≡ m ∷ ms
+      go true q h r p =
+          let a : l ≡ [] = cc in
+          let b : splitAt c xs ≡ m ∷ ms = cc in
+          ap (λ (y : List ℕ). splitAt c (drop (suc (length y)) (x ∷ xs))) a ∙ b
+      go false q h r p =
+          let i : (x ∷ p .one) ∷ p .others ≡ l ∷ m ∷ ms = ap (onto x) (sym (p .split)) ∙ h in
+          let a : l ≡ x ∷ p .one = cc in
+          let b : p .others ≡ m ∷ ms = cc in
+          ap (λ (y : List ℕ). splitAt c (drop (suc (length y)) (x ∷ xs))) a
+          ∙ r (p .one) (p .split ∙ ap (λ (y : List (List ℕ)). p .one ∷ y) b)
+
+  -- a part alone is the whole
+  pub split-alone : (s : List ℕ) {l : List ℕ} → splitAt c s ≡ l ∷ [] → l ≡ s
+  unfolding splitAt
+  split-alone [] e = cc
+  split-alone (x ∷ xs) {l} e = go (eqb x c) refl e (λ one. split-alone xs {l = one}) (parts c xs)
+    where
+      go :
+          (t : Bool) → eqb x c ≡ t
+          → choose t ([] ∷ splitAt c xs) (onto x (splitAt c xs)) ≡ l ∷ []
+          → ((one : List ℕ) → splitAt c xs ≡ one ∷ [] → one ≡ xs)
+          → Parts c xs
+          → l ≡ x ∷ xs
+      go true q h r p =
+          let b : splitAt c xs ≡ [] = cc in
+          absurd (no-parts xs b)
+      go false q h r p =
+          let i : (x ∷ p .one) ∷ p .others ≡ l ∷ [] = ap (onto x) (sym (p .split)) ∙ h in
+          let a : x ∷ p .one ≡ l = cc in
+          let b : p .others ≡ [] = cc in
+          sym a ∙ ap (λ (y : List ℕ). x ∷ y) (r (p .one) (p .split ∙ ap (λ (y : List (List ℕ)). p .one ∷ y) b))

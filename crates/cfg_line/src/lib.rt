@@ -1,6 +1,7 @@
 // One line of a graph's text: its form. A text is read from front to back, each byte once: a function takes the text and
 // where it stands, and hands back where the next field or line begins.
 use cfg::Condition;
+use cfg::Graph;
 use cfg::Instruction;
 use word::Comparison;
 ghost use mathlib.Core.Path.{_≡_};
@@ -49,18 +50,18 @@ pub enum Keyword {
 }
 
 // A field's value, and where the next field or line begins.
-pub enum Field {
+enum Field {
     Value(u32, usize),
     Bad,
 }
 
 // A field's bytes as a number, where the next field or line begins, and the byte between.
-pub enum Name {
+enum Name {
     Packed(u64, usize, u8),
     Bad,
 }
 
-pub enum Comparing {
+enum Comparing {
     By(Comparison, usize),
     Bad,
 }
@@ -236,13 +237,13 @@ fn graph_form(text: &[u8], at: usize) -> Parsed
     if b < 1 {
         return no_form();
     }
-    if 64 < b {
+    if Graph::BLOCKS < (b as usize) {
         return no_form();
     }
     if r < 1 {
         return no_form();
     }
-    if 16 < r {
+    if Graph::REGISTERS < (r as usize) {
         return no_form();
     }
     Parsed {

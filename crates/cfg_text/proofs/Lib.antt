@@ -1,1 +1,9 @@
 pub mod Examples
+pub mod Padding
+pub mod Stores
+pub mod Turns
+pub mod Otherwise
+pub mod Steps
+pub mod Reached
+pub mod Copies
+pub mod Answering

@@ -1,7 +1,330 @@
-// Reading a graph's text into its table.
+// Reading a graph's text into its table. The text is read from front to back into a local table, which is copied at the end.
+use cfg::Block;
+use cfg::Condition;
+use cfg::Graph;
+use cfg::Instruction;
+use cfg_line::Line;
+ghost use mathlib.Core.Path.{_≡_};
+ghost use mathlib.Core.List.{List, [], _∷_, _++_};
+ghost use Prim.Native.Nat.{ℕ, _+_, _*_, _≤_, _<_};
+ghost use lib.ListN.{length, take, drop, set};
+ghost use lib.Seq.{sets};
+ghost use Rattle.word.specs.Word.{codeOf};
+ghost use Rattle.cfg.specs.Layout.{maxBlocks, maxInstructions, graphWords, blockOffset, codeOffset, endingOffset, instructionWords};
+ghost use Rattle.cfg.specs.Table.{instructionWordsOf};
+ghost use Rattle.cfg_text.specs.Walk.{Progress, start, between, inside, allBelow, instructionRegisters, next, finish};
+ghost use Rattle.cfg_text.specs.Read.{maxText, readText, readAnswer, readWords};
+ghost use Rattle.cfg_text.specs.Place.{filled, Stands, Agrees, Answers, misfitOf, endedAt, afterBlock, Room};
 
 pub enum ReadAnswer {
     // The refusal's number and line; the line is 0 where no line is at fault.
     Refused(u32, u32),
     Read,
+}
+
+pub enum Due {
+    Graph,
+    // A block line, or nothing where all blocks are read.
+    Block,
+    // An instruction or an ending.
+    Inside,
+}
+
+// What is due, B and R, how many blocks are read, how many instructions of the block.
+pub struct Place {
+    pub due: Due,
+    pub blocks: u32,
+    pub registers: u32,
+    pub done: u32,
+    pub count: u32,
+}
+
+pub enum Moved {
+    Go(Place),
+    // The refusal's number.
+    Stop(u32),
+}
+
+// The longest text.
+const TEXT: usize = 16384;
+
+// The refusal of a line that is not due.
+fn misfit(l: Line) -> u32
+    ensures { λ r. ⌜ r ≡ misfitOf l ⌝ }
+{
+    let Line::NoForm = l else {
+        return 3;
+    };
+    2
+}
+
+fn put_four(words: &mut [u32], at: usize, a: u32, b: u32, c: u32, d: u32)
+    requires { ⌜ at + 4 ≤ length (now words) ⌝ }
+    ensures { λ _. ⌜ now (words .exit) ≡ sets (now (words .entry)) at (a ∷ b ∷ c ∷ d ∷ []) ⌝ }
+{
+    words[at] = a;
+    words[at + 1] = b;
+    words[at + 2] = c;
+    words[at + 3] = d;
+}
+
+// Its registers are below `registers`; the first operand of a set is a literal.
+fn registers_below(i: Instruction, registers: u32) -> bool
+    ensures { λ r. ⌜ r ≡ allBelow registers (instructionRegisters i) ⌝ }
+{
+    if registers <= i.d {
+        return false;
+    }
+    if i.code == 1 {
+        return true;
+    }
+    if registers <= i.a {
+        return false;
+    }
+    if i.code == 2 {
+        return true;
+    }
+    if i.code == 11 {
+        return true;
+    }
+    i.b < registers
+}
+
+// Where the graph line is due.
+fn at_start(l: Line, words: &mut [u32]) -> Moved
+    requires { ⌜ 2 ≤ length (now words) ⌝ }
+    ensures { λ m. ⌜ (now (words .entry) ≡ filled start → Agrees m (now (words .exit)) (next start l)) ⌝ }
+{
+    let Line::Graph(b, r) = l else {
+        return Moved::Stop(misfit(l));
+    };
+    words[0] = b;
+    words[1] = r;
+    Moved::Go(Place {
+        due: Due::Block,
+        blocks: b,
+        registers: r,
+        done: 0,
+        count: 0,
+    })
+}
+
+// Where a block line is due, that of the next block below B.
+fn at_block(p: Place, l: Line) -> Moved
+    ensures { λ m. ⌜ ((b r : ℕ) (bs : List Block) (w : List ℕ) → Stands p w (between b r bs) → Agrees m w (next (between b r bs) l)) ⌝ }
+{
+    let Line::Block(n) = l else {
+        return Moved::Stop(misfit(l));
+    };
+    if n != p.done {
+        return Moved::Stop(3);
+    }
+    if p.blocks <= n {
+        return Moved::Stop(3);
+    }
+    Moved::Go(Place {
+        due: Due::Inside,
+        blocks: p.blocks,
+        registers: p.registers,
+        done: p.done,
+        count: 0,
+    })
+}
+
+// The block's count and its ending: kind, comparison, a, b, t, f. The next block line is due.
+fn end_block(
+    p: Place,
+    words: &mut [u32],
+    kind: u32,
+    c: u32,
+    a: u32,
+    b: u32,
+    t: u32,
+    f: u32,
+) -> Moved
+    requires { ⌜ (p .done < maxBlocks) × (length (now words) ≡ graphWords) ⌝ }
+    ensures { λ m. ⌜ (m ≡ Moved.Go (afterBlock p))
+        × (now (words .exit) ≡ endedAt (now (words .entry)) (p .done) (p .count) (kind ∷ c ∷ a ∷ b ∷ t ∷ f ∷ [])) ⌝ }
+{
+    let start = Graph::HEAD + Block::WORDS * (p.done as usize);
+    words[start] = p.count;
+    let at = start + Block::ENDING;
+    put_four(words, at, kind, c, a, b);
+    words[at + 4] = t;
+    words[at + 5] = f;
+    Moved::Go(Place {
+        due: Due::Block,
+        blocks: p.blocks,
+        registers: p.registers,
+        done: p.done + 1,
+        count: 0,
+    })
+}
+
+// An instruction joins the block, which has room for eight.
+fn join(p: Place, i: Instruction, words: &mut [u32]) -> Moved
+    requires { ⌜ (p .done < maxBlocks) × (length (now words) ≡ graphWords) ⌝ }
+    ensures { λ m. ⌜ ((b r : ℕ) (bs : List Block) (is : List Instruction)
+        → Stands p (now (words .entry)) (inside b r bs is)
+        → Agrees m (now (words .exit)) (next (inside b r bs is) (Line.Instruction i))) ⌝ }
+{
+    if Block::INSTRUCTIONS <= (p.count as usize) {
+        return Moved::Stop(3);
+    }
+    if registers_below(i, p.registers) {
+        let start = Graph::HEAD + Block::WORDS * (p.done as usize);
+        let at = start + Block::CODE + Instruction::WORDS * (p.count as usize);
+        put_four(words, at, i.code, i.d, i.a, i.b);
+        return Moved::Go(Place {
+            due: Due::Inside,
+            blocks: p.blocks,
+            registers: p.registers,
+            done: p.done,
+            count: p.count + 1,
+        });
+    }
+    Moved::Stop(4)
+}
+
+fn goto(p: Place, t: u32, words: &mut [u32]) -> Moved
+    requires { ⌜ (p .done < maxBlocks) × (length (now words) ≡ graphWords) ⌝ }
+    ensures { λ m. ⌜ ((b r : ℕ) (bs : List Block) (is : List Instruction)
+        → Stands p (now (words .entry)) (inside b r bs is)
+        → Agrees m (now (words .exit)) (next (inside b r bs is) (Line.Goto t))) ⌝ }
+{
+    if p.blocks <= t {
+        return Moved::Stop(5);
+    }
+    end_block(p, words, 1, 0, 0, 0, t, 0)
+}
+
+// Its registers, then its targets.
+fn ite(p: Place, c: Condition, t: u32, f: u32, words: &mut [u32]) -> Moved
+    requires { ⌜ (p .done < maxBlocks) × (length (now words) ≡ graphWords) ⌝ }
+    ensures { λ m. ⌜ ((b r : ℕ) (bs : List Block) (is : List Instruction)
+        → Stands p (now (words .entry)) (inside b r bs is)
+        → Agrees m (now (words .exit)) (next (inside b r bs is) (Line.Ite c t f))) ⌝ }
+{
+    if p.registers <= c.a {
+        return Moved::Stop(4);
+    }
+    if p.registers <= c.b {
+        return Moved::Stop(4);
+    }
+    if p.blocks <= t {
+        return Moved::Stop(5);
+    }
+    if p.blocks <= f {
+        return Moved::Stop(5);
+    }
+    let k = c.comparison;
+    end_block(p, words, 2, k.code(), c.a, c.b, t, f)
+}
+
+// Where an instruction or an ending is due.
+fn in_block(p: Place, l: Line, words: &mut [u32]) -> Moved
+    requires { ⌜ (p .done < maxBlocks) × (length (now words) ≡ graphWords) ⌝ }
+    ensures { λ m. ⌜ ((b r : ℕ) (bs : List Block) (is : List Instruction)
+        → Stands p (now (words .entry)) (inside b r bs is)
+        → Agrees m (now (words .exit)) (next (inside b r bs is) l)) ⌝ }
+{
+    match l {
+        Line::Instruction(i) => join(p, i, words),
+        Line::Goto(t) => goto(p, t, words),
+        Line::Ite(c, t, f) => ite(p, c, t, f, words),
+        Line::Halt => end_block(p, words, 3, 0, 0, 0, 0, 0),
+        Line::Graph(_, _) => Moved::Stop(3),
+        Line::Block(_) => Moved::Stop(3),
+        Line::NoForm => Moved::Stop(2),
+    }
+}
+
+// One line, where it is due.
+fn step(p: Place, l: Line, words: &mut [u32]) -> Moved
+    requires { ⌜ Room p (now words) ⌝ }
+    ensures { λ m. ⌜ ((q : Progress) → Stands p (now (words .entry)) q → Agrees m (now (words .exit)) (next q l)) ⌝ }
+{
+    let due = p.due;
+    match due {
+        Due::Graph => at_start(l, words),
+        Due::Block => at_block(p, l),
+        Due::Inside => in_block(p, l, words),
+    }
+}
+
+// The text has ended before line n.
+fn at_end(p: Place, n: u32) -> ReadAnswer
+    ensures { λ r. ⌜ ((q : Progress) (w : List ℕ) → Stands p w q → Answers r w (finish q n)) ⌝ }
+{
+    let due = p.due;
+    let Due::Block = due else {
+        return ReadAnswer::Refused(3, n);
+    };
+    if p.done == p.blocks {
+        return ReadAnswer::Read;
+    }
+    ReadAnswer::Refused(3, n)
+}
+
+// The lines in order, each stored.
+fn read_lines(text: &[u8], words: &mut [u32]) -> ReadAnswer
+    requires { ⌜ (length (now text) ≤ maxText) × (now words ≡ filled start) ⌝ }
+    ensures { λ r. ⌜ Answers r (now (words .exit)) (readText (now (text .entry))) ⌝ }
+{
+    let mut p = Place {
+        due: Due::Graph,
+        blocks: 0,
+        registers: 0,
+        done: 0,
+        count: 0,
+    };
+    let mut at = 0;
+    let mut n: u32 = 1;
+    while at < text.len() {
+        let parsed = cfg_line::parse_line(text, at);
+        let l = parsed.line;
+        let moved = step(p, l, words);
+        match moved {
+            Moved::Go(q) => {
+                p = q;
+            }
+            Moved::Stop(k) => {
+                return ReadAnswer::Refused(k, n);
+            }
+        }
+        at = parsed.next;
+        n += 1;
+    }
+    at_end(p, n)
+}
+
+fn copy(words: &[u32], table: &mut [u32])
+    requires { ⌜ (length (now words) ≡ graphWords) × (graphWords ≤ length (now table)) ⌝ }
+    ensures { λ _. ⌜ now (table .exit) ≡ now (words .entry) ++ drop graphWords (now (table .entry)) ⌝ }
+{
+    let mut i = 0;
+    while i < Graph::WORDS {
+        table[i] = words[i];
+        i += 1;
+    }
+}
+
+// On a refusal the table holds what it held; words past its length are neither read nor changed.
+pub fn read_text(text: &[u8], table: &mut [u32]) -> ReadAnswer
+    ensures answer { λ r. ⌜ r ≡ readAnswer (now (text .entry)) (now (table .entry)) ⌝ }
+    ensures words { λ r. ⌜ now (table .exit) ≡ readWords (now (text .entry)) (now (table .entry)) ⌝ }
+{
+    if TEXT < text.len() {
+        return ReadAnswer::Refused(1, 0);
+    }
+    if table.len() < Graph::WORDS {
+        return ReadAnswer::Refused(7, 0);
+    }
+    let mut words = [0u32; Graph::WORDS];
+    let answer = read_lines(text, &mut words);
+    let ReadAnswer::Read = answer else {
+        return answer;
+    };
+    copy(&words, table);
+    ReadAnswer::Read
 }

@@ -116,7 +116,7 @@ module _ (text table : List ℕ) (g : CFG) (short : length text ≤ maxText) (lo
 
 -- ---- writing's answer
 
-answer-is :
+pub answer-is :
     (table out : List ℕ)
     → writeAnswer table out
     ≡ choose (ltb (length table) graphWords) (write.Refused 7 0)
@@ -125,7 +125,7 @@ answer-is :
 unfolding writeAnswer
 answer-is table out = refl
 
-bytes-are : (table out : List ℕ) → writeBytes table out ≡ bytesAfter (writeAnswer table out) (textOf (graphOf table)) out
+pub bytes-are : (table out : List ℕ) → writeBytes table out ≡ bytesAfter (writeAnswer table out) (textOf (graphOf table)) out
 unfolding writeBytes
 bytes-are table out = refl
 

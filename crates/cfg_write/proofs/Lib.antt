@@ -12,3 +12,6 @@ pub mod TableLaws
 pub mod GraphLaws
 pub mod AnswerLaws
 pub mod RoundTrip
+pub mod PutLaws
+pub mod BlockTextLaws
+pub mod WriteLaws

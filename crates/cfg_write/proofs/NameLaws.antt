@@ -1,14 +1,16 @@
 -- Names in a line: a name is found at its code, and what names a code is that name. Assumes nothing.
 use Prim.Native.Nat.{ℕ, zero, suc, _+_, _-_, _≤_, _<_}
 use native.Mathlib.Omega.{arith}
-use mathlib.Core.Path.{_≡_, refl}
+use native.Mathlib.Decide.{decLt}
+use mathlib.Core.Path.{_≡_, refl, sym, ap, _∙_}
 use mathlib.Core.Bool.{Bool, true, false}
 use mathlib.Core.List.{List, [], _∷_}
 use mathlib.Core.Option.{Option, none, some}
 use mathlib.Core.Logic.{_⊎_, inl, inr}
 use lib.Dec.{eqb}
-use lib.ListN.{length, getD}
+use lib.ListN.{length, getD, List·getD-eq-default}
 use borrow.Author.Tests.{eqb-true}
+use Rattle.word.proofs.Keys.{NoKey, past}
 use Rattle.word.specs.declared.Comparison.{Comparison}
 use Rattle.word.specs.declared.Comparison.the-variants.{Eq, Ne, Lt, Ge, Ltu, Geu}
 use Rattle.word.specs.Word.{choose, arity, codeOf as comparisonCode}
@@ -55,8 +57,10 @@ code-of : (f : List ℕ) (k : ℕ) → codeIn 1 instructionNames f ≡ some k �
 unfolding instructionName instructionNames
 code-of f k h =
     let i = in-names 1 instructionNames f k h in
+    let l = i .low in
     let u = i .high in
-    record { name = i .named; low = i .low; high = omega arith }
+    let e : k ≡ suc (k - 1) = omega arith in
+    record { name = i .named ∙ ap (λ (n : ℕ). getD ([] ∷ instructionNames) n []) (sym e); low = l; high = omega arith }
 
 -- what a keyword says of the field
 abbrev pub Named : List ℕ → Keyword → Type 0
@@ -153,7 +157,26 @@ arity-one-two k sx = inl refl
 -- a test that holds of every name
 pub name-test : (p : List ℕ → Bool) → every p instructionNames ≡ true → (k : ℕ) → 1 ≤ k → k ≤ 11 → p (instructionName k) ≡ true
 unfolding instructionName instructionNames
-name-test p h k l u = every-at p instructionNames h (k - 1) [] (omega arith)
+name-test p h k l u =
+    let e : k ≡ suc (k - 1) = omega arith in
+    ap (λ (n : ℕ). p (getD ([] ∷ instructionNames) n [])) e ∙ every-at p instructionNames h (k - 1) [] (omega arith)
+
+-- what a `match` on the codes says where none of them fits
+pub not-code : (k : ℕ) → NoKey 0 11 k → 1 ≤ k → k ≤ 11 → ⊥
+not-code k n l h = let p = past 0 11 k n l in after k p h
+  where
+    after : (k : ℕ) → 0 + 11 < k → k ≤ 11 → ⊥
+    after k p h = omega arith
+
+-- a code that is none has no name
+pub no-name : (k : ℕ) → (1 ≤ k → k ≤ 11 → ⊥) → instructionName k ≡ []
+unfolding instructionName instructionNames
+no-name zero h = refl
+no-name (suc k) h = go (decLt k 11)
+  where
+    go : Dec (k < 11) → instructionName (suc k) ≡ []
+    go (yes l) = absurd (h (omega arith) (omega arith))
+    go (no l) = List·getD-eq-default instructionNames [] {n = k} (omega arith)
 
 -- ---- comparisons
 

@@ -42,10 +42,10 @@ linesOf g = line.Graph (length (g .blocks)) (g .registers) ∷ linesFrom 0 (g .b
 
 -- ---- the bytes of a line
 
--- the names of codes 1 to 11
+-- codes 1 to 11 have a name
 unfoldable pub instructionName : ℕ → List ℕ
 unfolding instructionNames
-instructionName k = getD instructionNames (k - 1) []
+instructionName k = getD ([] ∷ instructionNames) k []
 
 unfoldable pub comparisonName : Comparison → List ℕ
 unfolding comparisonNames

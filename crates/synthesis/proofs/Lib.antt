@@ -30,6 +30,7 @@ pub mod WireValidity
 pub mod StateValidity
 pub mod WireCount
 pub mod SynthesisedMachine
+pub mod BlocksLaws
 pub mod TableWords
 pub mod TableWrites
 pub mod MachineTable

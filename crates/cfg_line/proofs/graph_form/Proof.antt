@@ -111,10 +111,12 @@ graph-form-spec =
     returns-2
     (λ c κs. search needs)
     returns-3
+    (λ c. search needs)
     (λ c κs. search needs)
     returns-4
     (λ c κs. search needs)
     returns-5
+    (λ c. search needs)
     (λ c κs. search needs)
     returns-6
     returns-7)

@@ -1,0 +1,233 @@
+-- What each step of reading does is what the definition does. Assumes nothing.
+use mathlib.Core.Path.{_≡_, _∙_, refl, sym, ap, subst}
+use mathlib.Core.List.{List, [], _∷_, _++_}
+use mathlib.Core.Bool.{Bool, true, false, not, _&&_, _||_, and-true, or-true}
+use Prim.Native.Nat.{ℕ, zero, suc, _+_, _-_, _*_, _≤_, _<_}
+use native.Mathlib.Omega.{arith}
+use lib.ListN.{length, set, getD, length-append}
+use lib.Seq.{sets}
+use lib.Dec.{eqb, ltb, leb}
+use borrow.Author.Tests.{eqb-true, eq-eqb, ne-eqb, lt-ltb, le-ltb, not-true}
+use Rattle.word.specs.Word.{choose, arity, arities}
+use Rattle.runs.specs.Lists.{every, padded}
+use Rattle.cfg.specs.Layout.{maxInstructions, blockOffset, codeOffset, instructionWords}
+use Rattle.cfg.specs.Graph.{CFG, noInstruction, targets}
+use Rattle.cfg.specs.Table.{instructionWordsOf, endingWordsOf, tableOf}
+use Rattle.cfg.specs.declared.Instruction.{Instruction}
+use Rattle.cfg.specs.declared.Ending.{Ending}
+use Rattle.cfg.specs.declared.Block.{Block}
+use Rattle.cfg_line.specs.declared.Line.{Line}
+use Rattle.cfg_line.specs.declared.Line.the-variants as line
+use Rattle.cfg_line.proofs.Split.{both}
+use Rattle.cfg_text.specs.declared.Due.{Due}
+use Rattle.cfg_text.specs.declared.Due.the-variants as due
+use Rattle.cfg_text.specs.declared.Place.{Place}
+use Rattle.cfg_text.specs.declared.Moved.{Moved}
+use Rattle.cfg_text.specs.declared.Moved.the-variants.{Go, Stop}
+use Rattle.cfg_text.specs.declared.ReadAnswer.{ReadAnswer}
+use Rattle.cfg_text.specs.declared.ReadAnswer.the-variants.{Refused, Read}
+use Rattle.cfg_text.specs.Walk.{Progress, start, between, inside, Next, go, refuse, Reading, refused, read, allBelow, instructionRegisters, endingRegisters, opened, joined, closed, blockWith, finish}
+use Rattle.cfg_text.specs.Place.{placeOf, filled, sized, Stands, Agrees, Answers, endedAt, afterBlock}
+use Rattle.cfg_text.proofs.Padding.{padded-length}
+use Rattle.cfg_text.proofs.Stores.{opened-words, joined-words, closed-words, table-words}
+
+-- ---- which registers an instruction names, over all codes
+
+known : ℕ → ℕ → Bool
+known k n = eqb k 1 || eqb k 2 || eqb k 11 || not (eqb n 1)
+
+allKnown : ℕ → List ℕ → Bool
+allKnown k [] = true
+allKnown k (n ∷ ns) = known k n && allKnown (suc k) ns
+
+known-at : (k j : ℕ) (ns : List ℕ) → allKnown k ns ≡ true → known (k + j) (getD ns j 0) ≡ true
+unfolding known allKnown
+known-at k j [] h = or-true (eqb (k + j) 1 || eqb (k + j) 2 || eqb (k + j) 11)
+known-at k zero (n ∷ ns) h =
+    let z : k + 0 ≡ k = omega arith in
+    rw z (both (known k n) (allKnown (suc k) ns) h .0)
+known-at k (suc j) (n ∷ ns) h =
+    let z : k + suc j ≡ suc k + j = omega arith in
+    rw z (known-at (suc k) j ns (both (known k n) (allKnown (suc k) ns) h .1))
+
+-- a code of one operand is 1, 2 or 11
+pub not-unary : (k : ℕ) → (k ≡ 1 → ⊥) → (k ≡ 2 → ⊥) → (k ≡ 11 → ⊥) → eqb (arity k) 1 ≡ false
+unfolding known allKnown arity
+not-unary k a b c =
+    let z : 0 + k ≡ k = omega arith in
+    let h : known k (getD arities k 0) ≡ true = rw z at (known-at 0 k arities refl) in
+    not-true (eqb (getD arities k 0) 1) (rw (ne-eqb k 1 a, ne-eqb k 2 b, ne-eqb k 11 c) at h)
+
+module _ (r : ℕ) (i : Instruction) where
+  pub below-written : r ≤ i .d → allBelow r (instructionRegisters i) ≡ false
+  below-written h = rw (le-ltb (i .d) r h)
+
+  pub below-set : i .d < r → i .code ≡ 1 → allBelow r (instructionRegisters i) ≡ true
+  below-set h e = rw (lt-ltb (i .d) r h, eq-eqb (i .code) 1 e)
+
+  pub below-first : i .d < r → (i .code ≡ 1 → ⊥) → r ≤ i .a → allBelow r (instructionRegisters i) ≡ false
+  below-first h e l = rw (lt-ltb (i .d) r h, ne-eqb (i .code) 1 e) (by (eqb (arity (i .code)) 1))
+    where
+      by : (t : Bool) → every (λ x. ltb x r) (choose t (i .a ∷ []) (i .a ∷ i .b ∷ [])) ≡ false
+      by true = rw (le-ltb (i .a) r l)
+      by false = rw (le-ltb (i .a) r l)
+
+  pub below-unary : i .d < r → (i .code ≡ 1 → ⊥) → i .a < r → eqb (arity (i .code)) 1 ≡ true → allBelow r (instructionRegisters i) ≡ true
+  below-unary h e l u = rw (lt-ltb (i .d) r h, ne-eqb (i .code) 1 e, u, lt-ltb (i .a) r l)
+
+  pub below-binary : i .d < r → (i .code ≡ 1 → ⊥) → i .a < r → eqb (arity (i .code)) 1 ≡ false → allBelow r (instructionRegisters i) ≡ ltb (i .b) r
+  below-binary h e l u = rw (lt-ltb (i .d) r h, ne-eqb (i .code) 1 e, u, lt-ltb (i .a) r l) (and-true (ltb (i .b) r))
+
+-- ---- the code's place is of one kind only
+
+clash : {X : Type 0} → due.Graph ≡ due.Block → X
+clash e =
+    let z : _≡_ {A = ℕ} 0 1 = cc in
+    absurd (omega arith)
+
+clash-2 : {X : Type 0} → due.Graph ≡ due.Inside → X
+clash-2 e =
+    let z : _≡_ {A = ℕ} 0 1 = cc in
+    absurd (omega arith)
+
+clash-3 : {X : Type 0} → due.Block ≡ due.Inside → X
+clash-3 e =
+    let z : _≡_ {A = ℕ} 0 1 = cc in
+    absurd (omega arith)
+
+module _ (P : Progress → Type 0) {p : Place} {w : List ℕ} where
+  due-is : {q : Progress} → Stands p w q → p .due ≡ placeOf q .due
+  due-is s = ap (λ (x : Place). x .due) (s .place)
+
+  pub only-start : (q : Progress) → p .due ≡ due.Graph → Stands p w q → (Stands p w start → P start) → P q
+  only-start start e s k = k s
+  only-start (between b r bs) e s k = clash (sym e ∙ due-is s)
+  only-start (inside b r bs is) e s k = clash-2 (sym e ∙ due-is s)
+
+  pub only-between : (q : Progress) → p .due ≡ due.Block → Stands p w q
+      → ((b r : ℕ) (bs : List Block) → Stands p w (between b r bs) → P (between b r bs)) → P q
+  only-between start e s k = clash (sym (due-is s) ∙ e)
+  only-between (between b r bs) e s k = k b r bs s
+  only-between (inside b r bs is) e s k = clash-3 (sym e ∙ due-is s)
+
+  pub only-inside : (q : Progress) → p .due ≡ due.Inside → Stands p w q
+      → ((b r : ℕ) (bs : List Block) (is : List Instruction) → Stands p w (inside b r bs is) → P (inside b r bs is)) → P q
+  only-inside start e s k = clash-2 (sym (due-is s) ∙ e)
+  only-inside (between b r bs) e s k = clash-3 (sym (due-is s) ∙ e)
+  only-inside (inside b r bs is) e s k = k b r bs is s
+
+-- ---- a block begins
+
+module _ (p : Place) (w : List ℕ) (b r : ℕ) (bs : List Block) (s : Stands p w (between b r bs)) (n : ℕ) where
+  done-is : p .done ≡ length bs
+  done-is = ap (λ (x : Place). x .done) (s .place)
+
+  blocks-is : p .blocks ≡ b
+  blocks-is = ap (λ (x : Place). x .blocks) (s .place)
+
+  pub not-next : (n ≡ p .done → ⊥) → Agrees (Stop 3) w (opened n b r bs)
+  not-next h = rw (ne-eqb n (length bs) (λ e. h (e ∙ sym done-is))) refl
+
+  pub past-last : n ≡ p .done → p .blocks ≤ n → Agrees (Stop 3) w (opened n b r bs)
+  past-last e l = rw (eq-eqb n (length bs) (e ∙ done-is), le-ltb n b (rw blocks-is at l)) refl
+
+  pub begins : n ≡ p .done → n < p .blocks
+      → Agrees (Go (record { due = due.Inside; blocks = p .blocks; registers = p .registers; done = p .done; count = 0 })) w (opened n b r bs)
+  begins e l =
+      rw (eq-eqb n (length bs) (e ∙ done-is), lt-ltb n b (rw blocks-is at l))
+      (record {
+        place = ap (λ (x : Place). record { due = due.Inside; blocks = x .blocks; registers = x .registers; done = x .done; count = 0 }) (s .place);
+        words = s .words ∙ opened-words b r bs (s .whole);
+        whole = s .whole;
+        few = omega arith;
+      })
+
+-- ---- in a block
+
+one-more : {A : Type 0} (xs : List A) (y : A) → length xs + 1 ≡ length (xs ++ (y ∷ []))
+one-more xs y = rw length-append (omega arith)
+
+every-more : (bs : List Block) (k : Block) → every sized bs ≡ true → sized k ≡ true → every sized (bs ++ (k ∷ [])) ≡ true
+every-more [] k h e = rw e
+every-more (x ∷ bs) k h e =
+    let b = both (sized x) (every sized bs) h in
+    rw (b .0) (every-more bs k (b .1) e)
+
+module _ (p : Place) (w : List ℕ) (b r : ℕ) (bs : List Block) (is : List Instruction) (s : Stands p w (inside b r bs is)) where
+  pub in-blocks : p .blocks ≡ b
+  in-blocks = ap (λ (x : Place). x .blocks) (s .place)
+
+  pub in-registers : p .registers ≡ r
+  in-registers = ap (λ (x : Place). x .registers) (s .place)
+
+  in-done : p .done ≡ length bs
+  in-done = ap (λ (x : Place). x .done) (s .place)
+
+  in-count : p .count ≡ length is
+  in-count = ap (λ (x : Place). x .count) (s .place)
+
+  pub ninth : (i : Instruction) → 8 ≤ p .count → Agrees (Stop 3) w (joined i b r bs is)
+  ninth i h = rw (le-ltb (length is) 8 (rw in-count at h)) refl
+
+  pub bad-register : (i : Instruction) (v : List ℕ) → p .count < 8 → allBelow (p .registers) (instructionRegisters i) ≡ false → Agrees (Stop 4) v (joined i b r bs is)
+  bad-register i v h e = rw (lt-ltb (length is) 8 (rw in-count at h), rw in-registers at e) refl
+
+  pub joins : (i : Instruction) (v : List ℕ) → p .count < 8 → allBelow (p .registers) (instructionRegisters i) ≡ true
+      → v ≡ sets w (blockOffset (p .done) + codeOffset + instructionWords * p .count) (instructionWordsOf i)
+      → Agrees (Go (record { due = due.Inside; blocks = p .blocks; registers = p .registers; done = p .done; count = p .count + 1 })) v (joined i b r bs is)
+  joins i v h e m =
+      rw (lt-ltb (length is) 8 (rw in-count at h), rw in-registers at e)
+      (record {
+        place = ap (λ (x : Place). record { due = due.Inside; blocks = x .blocks; registers = x .registers; done = x .done; count = x .count + 1 }) (s .place)
+            ∙ ap (λ (n : ℕ). record { due = due.Inside; blocks = b; registers = r; done = length bs; count = n }) (one-more is i);
+        words = m ∙ rw (s .words, in-done, in-count) (joined-words b r bs (s .whole) is i);
+        whole = s .whole;
+        few = omega arith;
+      })
+
+  module _ (e : Ending) where
+    pub bad-ending-register : (v : List ℕ) → allBelow r (endingRegisters e) ≡ false → Agrees (Stop 4) v (closed e b r bs is)
+    bad-ending-register v h = rw h refl
+
+    pub bad-target : (v : List ℕ) → allBelow r (endingRegisters e) ≡ true → allBelow b (targets e) ≡ false → Agrees (Stop 5) v (closed e b r bs is)
+    bad-target v h g = rw (h, g) refl
+
+    pub ends : (m : Moved) (v : List ℕ) → allBelow r (endingRegisters e) ≡ true → allBelow b (targets e) ≡ true
+        → m ≡ Go (afterBlock p) → v ≡ endedAt w (p .done) (p .count) (endingWordsOf e) → Agrees m v (closed e b r bs is)
+    ends m v h g em ev =
+        rw (em, h, g)
+        (record {
+          place = ap afterBlock (s .place)
+              ∙ ap (λ (n : ℕ). record { due = due.Block; blocks = b; registers = r; done = n; count = 0 }) (one-more bs (blockWith is e));
+          words = ev ∙ rw (s .words, in-done, in-count) (closed-words b r bs (s .whole) is e (rw in-count at (s .few)));
+          whole = every-more bs (blockWith is e) (s .whole) (eq-eqb (length (padded maxInstructions noInstruction is)) maxInstructions (padded-length noInstruction maxInstructions is));
+          few = omega arith;
+        })
+
+-- ---- the end of the text
+
+no-read : {X : Type 0} {k n : ℕ} {g : CFG} → refused k n ≡ read g → X
+no-read e =
+    let z : _≡_ {A = ℕ} 0 1 = cc in
+    absurd (omega arith)
+
+same-graph : {f g : CFG} → read f ≡ read g → f ≡ g
+same-graph e = cc
+
+pub refusal : (k n : ℕ) (w : List ℕ) {x : Reading} → x ≡ refused k n → Answers (Refused k n) w x
+refusal k n w e = rw e (record { answer = refl; words = λ g h. no-read h })
+
+pub unfinished : (p : Place) (w : List ℕ) (q : Progress) (n : ℕ) → (p .due ≡ due.Block → ⊥) → Stands p w q → Answers (Refused 3 n) w (finish q n)
+unfinished p w start n h s = refusal 3 n w refl
+unfinished p w (between b r bs) n h s = absurd (h (ap (λ (x : Place). x .due) (s .place)))
+unfinished p w (inside b r bs is) n h s = refusal 3 n w refl
+
+module _ (p : Place) (w : List ℕ) (b r : ℕ) (bs : List Block) (n : ℕ) (s : Stands p w (between b r bs)) where
+  pub missing : (p .done ≡ p .blocks → ⊥) → Answers (Refused 3 n) w (finish (between b r bs) n)
+  missing h = refusal 3 n w (rw (ne-eqb (length bs) b (λ e. h (done-is p w b r bs s n ∙ e ∙ sym (blocks-is p w b r bs s n)))))
+
+  pub finished : p .done ≡ p .blocks → Answers Read w (finish (between b r bs) n)
+  finished h =
+      let e : length bs ≡ b = sym (done-is p w b r bs s n) ∙ h ∙ blocks-is p w b r bs s n in
+      rw (eq-eqb (length bs) b e)
+      (record { answer = refl; words = λ g x. s .words ∙ table-words b r bs (s .whole) e ∙ ap tableOf (same-graph x) })

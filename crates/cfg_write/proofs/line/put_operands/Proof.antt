@@ -1,0 +1,45 @@
+use mathlib.Core.Logic.{inl, inr}
+use native.Mathlib.Omega.{arith}
+use Rattle.cfg_write.specs.Put.{commas}
+use Rattle.cfg_write.specs.Write.{operandsOf}
+use Rattle.cfg_write.proofs.PutLaws.{put-then, put-as, set-text, one-text, two-text}
+use borrow.Author.Needs.{needs}
+use Rattle.cfg_write.proofs.line.put_operands.Statement.{statement}
+use Rattle.cfg_write.proofs.line.put_operands.Tie as tie
+
+returns : tie.Need-returns
+returns c =
+    let i = c .before .before .before .before .before .before .before .args .i in
+    put-as 22 (commas (operandsOf i)) (omega arith) (set-text i (c .before .before .before .before .if1 .taken)) (c .before .before .put-literal .ensures)
+
+returns-2 : tie.Need-returns-2
+returns-2 c =
+    let i = c .before .before .before .before .before .before .before .before .before .args .i in
+    put-as 22 (commas (operandsOf i)) (omega arith) (one-text i (inl (c .if2 .taken))) (c .before .before .before .before .put-number .ensures)
+
+returns-3 : tie.Need-returns-3
+returns-3 c =
+    let i = c .before .before .before .before .before .before .before .before .before .before .before .args .i in
+    put-as 22 (commas (operandsOf i)) (omega arith) (one-text i (inr (c .if3 .taken))) (c .before .before .before .before .before .before .put-number .ensures)
+
+returns-4 : tie.Need-returns-4
+returns-4 c =
+    let i = c .before .before .before .before .before .before .before .before .before .before .before .before .before .before .before .args .i in
+    put-as 22 (commas (operandsOf i)) (omega arith) (two-text i (c .before .before .before .before .before .before .before .before .before .before .before .before .if1 .left) (c .before .before .before .before .before .before .if2 .left) (c .before .before .before .before .if3 .left))
+    (put-then (c .before .before .before .before .before .before .before .before .before .before .put-number .ensures) (c .before .before .put-number2 .ensures))
+
+pub put-operands-spec : {M : Type 1} → statement M
+put-operands-spec =
+    tie.close
+    (tie.spec
+    (λ c κs. search needs)
+    (λ c. search needs)
+    returns
+    (λ c κs. search needs)
+    (λ c. search needs)
+    returns-2
+    (λ c. search needs)
+    returns-3
+    (λ c κs. search needs)
+    (λ c. search needs)
+    returns-4)

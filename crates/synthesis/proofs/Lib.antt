@@ -35,4 +35,5 @@ pub mod TableWords
 pub mod TableWrites
 pub mod MachineTable
 pub mod TableFilled
+pub mod StateBlocks
 pub mod StatePut

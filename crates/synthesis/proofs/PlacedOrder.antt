@@ -78,7 +78,7 @@ module _ (g : CFG) (a : Closed g) (k : ℕ) (k-in : k < length (groups g .starte
       ap (λ (m : ℕ). only (ofState (groups g .states) k) (upFrom 0 m)) n
       ∙ only-more (ofState (groups g .states) k) 0 (length (g .blocks)) (64 - length (g .blocks)) (λ x h. outside x (omega arith))
 
-  members-few : length (members g (groups g) k) ≤ 64
+  pub members-few : length (members g (groups g) k) ≤ 64
   unfolding members
   members-few =
       let l = only-length (ofState (groups g .states) k) (upFrom 0 (length (g .blocks))) in

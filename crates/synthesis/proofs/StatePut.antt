@@ -17,17 +17,13 @@ use Rattle.grouping.specs.Grouping.{Groups, groups}
 use Rattle.grouping.proofs.Reach.{Closed, admitted-closed}
 use Rattle.grouping.proofs.GroupingLaws.{grouped}
 use Rattle.synthesis.specs.Wires.{Point, stateOf}
-use Rattle.synthesis.specs.Choosing.{Prepared as Ready}
-use Rattle.synthesis.specs.Making.{wiresIn, stored, pointIn, Room, Held, groupsIn, Grouped, noBuild, placedState, endOf}
+use Rattle.synthesis.specs.Making.{wiresIn, stored, pointIn, Room, Held, groupsIn, Grouped}
 use Rattle.synthesis.specs.StateWords.{written, wireCount, recordOf, withStates, firstStates, Filled, Prepared}
 use Rattle.synthesis.proofs.StateValidity.{StateValid}
 use Rattle.synthesis.proofs.SynthesisedMachine.{made-valid}
+use Rattle.synthesis.proofs.StateBlocks.{pointOf}
 use Rattle.synthesis.proofs.TableWords.{words-length, state-written}
 use Rattle.synthesis.proofs.MachineTable.{nth, first-more, first-length, first-count, first-room}
-
--- a state's end: its wires, its next state and its next registers
-abbrev pub pointOf : State → Point
-pointOf q = record { arrival = q .next; values = q .nextRegisters; wires = q .wires }
 
 wiresIn-length : (n : ℕ) (t : List ℕ) → length (wiresIn n t) ≡ n
 unfolding wiresIn
@@ -97,13 +93,8 @@ module _ (t : List ℕ) (a : admitted t ≡ true) (table : List ℕ) (k first : 
 
 -- ---- what making a state asks
 
-pub end-is : (t starters states : List ℕ) (k : ℕ) → starters ≡ groups (graphOf t) .starters → states ≡ groups (graphOf t) .states
-    → endOf (graphOf t) (groupsIn starters states) k ≡ pointOf (nth t k)
-unfolding endOf placedState noBuild stateOf
-end-is t starters states k e f = ap (λ (x : List ℕ). endOf (graphOf t) (groupsIn x states) k) e ∙ ap (λ (x : List ℕ). endOf (graphOf t) (groupsIn (groups (graphOf t) .starters) x) k) f
-
-pub ready : (t edges starts starters states : List ℕ) → Prepared t edges starts starters states → Ready t edges starters states
-ready t edges starts starters states p =
+pub groups-held : (t edges starts starters states : List ℕ) → Prepared t edges starts starters states → Grouped starters states
+groups-held t edges starts starters states p =
     let c = admitted-closed t (p .admits) in
     let g = grouped (graphOf t) c in
     let b = c .few-blocks in
@@ -111,16 +102,7 @@ ready t edges starts starters states p =
     let m = g .all-blocks in
     let e = ap length (p .its-starters) in
     let f = ap length (p .its-states) in
-    record {
-      admits = p .admits;
-      grouped = record {
-        owned = λ k h. rw (p .its-states, p .its-starters) (g .starter-home k 255 (omega arith));
-        few = omega arith;
-        known = omega arith;
-      };
-      all = f ∙ m ∙ blocks-length t;
-      edges = p .leading;
-    }
+    record { owned = λ k h. rw (p .its-states, p .its-starters) (g .starter-home k 255 (omega arith)); few = omega arith; known = omega arith }
 
 pub drop-zeros : (r n : ℕ) → r ≤ n → drop r (replicate {A = ℕ} n 0) ≡ replicate (n - r) 0
 drop-zeros zero n h = let e : n - 0 ≡ n = omega arith in rw e refl
@@ -130,7 +112,7 @@ drop-zeros (suc r) (suc n) h = let e : suc n - suc r ≡ n - r = omega arith in 
 -- ---- a state made and put
 
 module _ (t edges starts starters states : List ℕ) (p : Prepared t edges starts starters states) (table : List ℕ) (k first : ℕ) (f : Filled t table k first) (low : k < length starters) where
-  below : k < length (groups (graphOf t) .starters)
+  pub below : k < length (groups (graphOf t) .starters)
   below = let e = ap length (p .its-starters) in omega arith
 
   pub few-states : k < 64
@@ -153,18 +135,18 @@ module _ (t edges starts starters states : List ℕ) (p : Prepared t edges start
   pub rest-of : take (length table - (1346 + 4 * first)) (drop (1346 + 4 * first) table) ≡ drop (1346 + 4 * first) table
   rest-of = take-all (length table - (1346 + 4 * first)) (drop (1346 + 4 * first) table) (let l = length-drop (1346 + 4 * first) table in omega arith)
 
-  pub room-for : Room (length (endOf (graphOf t) (groupsIn starters states) k .wires)) (take (length table - (1346 + 4 * first)) (drop (1346 + 4 * first) table))
-  room-for =
-      let e : length (endOf (graphOf t) (groupsIn starters states) k .wires) ≡ length (nth t k .wires) = ap (λ (x : Point). length (x .wires)) (end-is t starters states k (p .its-starters) (p .its-states)) in
+  pub room-for : (point : Point) → point ≡ pointOf (nth t k) → Room (length (point .wires)) (take (length table - (1346 + 4 * first)) (drop (1346 + 4 * first) table))
+  room-for point is =
+      let e : length (point .wires) ≡ length (nth t k .wires) = ap (λ (x : Point). length (x .wires)) is in
       let r = put-room t (p .admits) table k first f below in
       let l = ap length rest-of ∙ length-drop (1346 + 4 * first) table in
       let a = f .all in
       record { fits = omega arith; few = omega arith }
 
-  module _ (new values : List ℕ) (m n next : ℕ) (h : Held (endOf (graphOf t) (groupsIn starters states) k) (take (length table - (1346 + 4 * first)) (drop (1346 + 4 * first) table)) next (take m values) n new)
+  module _ (point : Point) (is : point ≡ pointOf (nth t k)) (new values : List ℕ) (m n next : ℕ) (h : Held point (take (length table - (1346 + 4 * first)) (drop (1346 + 4 * first) table)) next (take m values) n new)
       (as-many : length values ≡ getD t 1 0) (m-low : m ≤ getD t 1 0) where
     held : Held (pointOf (nth t k)) (drop (1346 + 4 * first) table) next (take m values) n new
-    held = subst (λ (l : List ℕ). Held (pointOf (nth t k)) l next (take m values) n new) rest-of (subst (λ (x : Point). Held x (take (length table - (1346 + 4 * first)) (drop (1346 + 4 * first) table)) next (take m values) n new) (end-is t starters states k (p .its-starters) (p .its-states)) h)
+    held = subst (λ (l : List ℕ). Held (pointOf (nth t k)) l next (take m values) n new) rest-of (subst (λ (x : Point). Held x (take (length table - (1346 + 4 * first)) (drop (1346 + 4 * first) table)) next (take m values) n new) is h)
 
     pub made-low : first + n ≤ 3072
     made-low = let r = put-room t (p .admits) table k first f below in let c = its-count (nth t k) (drop (1346 + 4 * first) table) new next (take m values) n held in omega arith

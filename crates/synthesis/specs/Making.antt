@@ -13,14 +13,13 @@ use Rattle.cfg.specs.declared.Ending.{Ending}
 use Rattle.cfg.specs.declared.Ending.the-variants.{Goto, Ite, Halt}
 use Rattle.cfg.specs.declared.Block.{Block}
 use Rattle.cfg.specs.Layout.{maxInstructions, blockOffset, graphWords}
-use Rattle.cfg.specs.Graph.{CFG, codeOf}
+use Rattle.cfg.specs.Graph.{codeOf}
 use Rattle.cfg.specs.Table.{blockAt}
 use Rattle.fsmd.specs.declared.Wire.{Wire}
 use Rattle.fsmd.specs.Layout.{maxStates, maxBlocks, maxWires, wireWords, none}
 use Rattle.fsmd.specs.Table.{wireWordsOf}
 use Rattle.grouping.specs.Grouping.{Groups}
-use Rattle.synthesis.specs.Wires.{wire, set-wire, select-wire, Edge, Point, Build, fresh, selects, leadsTo, towards, enter, assigns, close, after, build, leaves, closeState}
-use Rattle.synthesis.specs.Placement.{order}
+use Rattle.synthesis.specs.Wires.{wire, set-wire, select-wire, Edge, Point, Build, fresh, selects, leadsTo, towards, enter, assigns, close, after}
 
 -- ---- wires
 
@@ -159,18 +158,3 @@ exitTo k e p =
       values = upFrom (2 + n) (length (e .values));
       wires = p .wires ++ (set-wire k ∷ select-wire (e .taken) n (p .arrival) ∷ selects (e .taken) (e .values) (p .values));
     }
-
--- ---- a whole state
-
-unfoldable pub noBuild : Build
-noBuild = record { wires = []; edges = [] }
-
--- the blocks of state k placed
-unfoldable pub placedState : CFG → Groups → ℕ → Build
-unfolding order build noBuild
-placedState g s k = build g s (order g s k) noBuild
-
--- its exits: a point's arrival is here the next state's reference
-unfoldable pub endOf : CFG → Groups → ℕ → Point
-unfolding placedState closeState
-endOf g s k = let b = placedState g s k in closeState s (towards (leaves s) (b .edges)) (b .wires)

@@ -5,7 +5,7 @@ ghost use mathlib.Core.Path.{_≡_};
 ghost use mathlib.Core.Bool.{not, _&&_};
 ghost use mathlib.Core.List.{[]};
 ghost use Prim.Native.Nat.{_<_, _≤_};
-ghost use lib.ListN.{take};
+ghost use lib.ListN.{length, take};
 ghost use Rattle.runs.specs.Lists.{mem, every, first};
 ghost use Rattle.fsmd.specs.Layout.{maxBlocks};
 ghost use Rattle.grouping.specs.Bytes.{edgesIn};
@@ -108,7 +108,7 @@ fn next(edges: &[u8], states: &[u8], starts: &[u8], placed: &[u8], k: u8) -> u8
 
 // The blocks of state k, always the lowest-numbered that is ready.
 pub fn place(edges: &[u8], states: &[u8], starts: &[u8], k: u8) -> Order
-    ensures { λ r. ⌜ (r .count ≤ maxBlocks) × (take (r .count) (r .blocks) ≡ placeIn (now (edges .entry)) (now (starts .entry)) (membersIn (now (states .entry)) k) maxBlocks []) ⌝ }
+    ensures { λ r. ⌜ (r .count ≤ maxBlocks) × (length (r .blocks) ≡ maxBlocks) × (take (r .count) (r .blocks) ≡ placeIn (now (edges .entry)) (now (starts .entry)) (membersIn (now (states .entry)) k) maxBlocks []) ⌝ }
 {
     let mut placed = [0u8; 64];
     let mut blocks = [0u8; 64];

@@ -1,6 +1,7 @@
 // The machine table of an admitted graph: its head, then the wires and the record of one state after another.
 use crate::SynthesisAnswer;
-use crate::states;
+use crate::placement;
+use crate::state;
 use cfg::Graph;
 use cfg::admission;
 use fsmd::Machine;
@@ -117,21 +118,19 @@ fn one_state(
     requires { ⌜ (k < length (now starters)) × Filled (now graph) (now table) k first ⌝ }
     ensures { λ r. ⌜ (now (table .exit) ≡ withStates (take recordsOffset (now (table .entry))) (firstStates (now (graph .entry)) (k + 1))) × (r ≡ wireCount (firstStates (now (graph .entry)) (k + 1))) ⌝ }
 {
+    let order = placement::place(edges, states, starts, k as u8);
+    let count = order.count;
+    let blocks = order.blocks;
     let registers = graph[1] as usize;
     let mut values = [0u32; 16];
-    let mut targets = [0u32; 128];
-    let mut rows = [0u32; 2176];
     let at = Machine::WIRE_WORDS + Wire::WORDS * first;
-    let made = states::make(
+    let made = state::make(
         graph,
-        edges,
+        &blocks[..count],
         starters,
         states,
-        k as u32,
         &mut table[at..],
         &mut values[..registers],
-        &mut targets,
-        &mut rows,
     );
     write_record(
         table,

@@ -38,14 +38,14 @@ returns : tie.Need-returns Inv-loop μ-loop
 returns c =
     let a = c .before .before .before .before .before .args in
     let l = c .before .loop in
-    (l .inv .few, placing-full (now (a .edges)) (now (a .starts)) (now (a .states)) (a .k) (l .placed) (l .blocks) (l .count) (l .inv) (omega (arith, c .loop-test .left)))
+    (l .inv .few, l .inv .list-64, placing-full (now (a .edges)) (now (a .starts)) (now (a .states)) (a .k) (l .placed) (l .blocks) (l .count) (l .inv) (omega (arith, c .loop-test .left)))
 
 returns-2 : tie.Need-returns-2 Inv-loop μ-loop
 returns-2 c =
     let a = c .before .before .before .before .before .before .before .before .args in
     let l = c .before .before .before .before .loop in
     let x = c .before .next .result in
-    (l .inv .few, placing-stops (now (a .edges)) (now (a .starts)) (now (a .states)) (a .k) (l .placed) (l .blocks) (l .count) (l .inv) (c .before .before .before .loop-test .taken) x (c .before .next .ensures) (omega (arith, c .if1 .taken)))
+    (l .inv .few, l .inv .list-64, placing-stops (now (a .edges)) (now (a .starts)) (now (a .states)) (a .k) (l .placed) (l .blocks) (l .count) (l .inv) (c .before .before .before .loop-test .taken) x (c .before .next .ensures) (omega (arith, c .if1 .taken)))
 
 pub place-spec : {M : Type 1} → statement M
 place-spec =

@@ -10,7 +10,7 @@ ghost use Rattle.grouping.specs.Bytes.{Listed, startersOf, withStarter};
 ghost use Rattle.grouping.specs.Answer.{groupingOf};
 
 mod detection; // detection.rt: the first illegal edge
-mod edges; // edges.rt: successors as bytes
+pub mod edges; // edges.rt: successors as bytes
 mod loops; // loops.rt: starters by loop detection
 mod population; // population.rt: the blocks that each state takes
 

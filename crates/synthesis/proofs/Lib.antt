@@ -15,6 +15,8 @@ pub mod PutLaws
 pub mod StarterLaws
 pub mod ExitLaws
 pub mod PlacementLaws
+pub mod PlacementSteps
+pub mod PlacedOrder
 pub mod StateOrder
 pub mod GraphFacts
 pub mod WireValues
@@ -29,3 +31,9 @@ pub mod StateValidity
 pub mod WireCount
 pub mod SynthesisedMachine
 pub mod BlocksLaws
+pub mod TableWords
+pub mod TableWrites
+pub mod MachineTable
+pub mod TableFilled
+pub mod StateBlocks
+pub mod StatePut

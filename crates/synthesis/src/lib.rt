@@ -5,7 +5,9 @@ pub mod edges; // edges.rt: the edges out of placed blocks
 pub mod exits; // exits.rt: where a state leads
 pub mod groups; // groups.rt: starters and states of blocks
 pub mod joins; // joins.rt: how a block's arrival and values come about
+pub mod placement; // placement.rt: the order of a state's blocks
 pub mod state; // state.rt: one state
+pub mod table; // table.rt: the machine table of a graph, and the operation that makes it
 pub mod wires; // wires.rt: one wire, the selections of a join
 
 pub enum SynthesisAnswer {

@@ -1,0 +1,160 @@
+-- How the words of a machine table grow by a state. Assumes nothing.
+use Prim.Native.Nat.{ℕ, zero, suc, _+_, _-_, _*_, _≤_, _<_}
+use native.Mathlib.Nat.{add-zero, add-assoc}
+use native.Mathlib.Numerals.{add-one}
+use native.Mathlib.Omega.{arith}
+use mathlib.Core.Path.{_≡_, refl, sym, _∙_, ap}
+use mathlib.Core.List.{List, [], _∷_, _++_, map, append-assoc, append-nil}
+use lib.ListN.{length, take, drop, replicate, set, length-append, length-replicate, replicate-append-replicate, length-map}
+use lib.Seq.{take-at, drop-at, take-length, take-append-le, drop-append-le, take-append-add, drop-append-add, drop-drop}
+use Rattle.runs.specs.Lists.{upFrom, padded, concatMap}
+use Rattle.runs.proofs.ListLaws.{padded-append, length-padded, length-upFrom}
+use Rattle.fsmd.specs.declared.Wire.{Wire}
+use Rattle.fsmd.specs.Layout.{maxStates, maxRegisters, maxWires, wireWords, recordWords}
+use Rattle.fsmd.specs.Machine.{State}
+use Rattle.fsmd.specs.Table.{wireWordsOf, recordsOf, tableOf}
+use Rattle.synthesis.specs.StateWords.{written, wiresOf, wireCount, recordOf, withStates}
+
+-- ---- words put over others
+
+module _ (p old q s : List ℕ) (at : ℕ) (here : length p ≡ at) (as-many : length old ≡ length s) where
+  pub written-over : written at s (p ++ (old ++ q)) ≡ p ++ (s ++ q)
+  written-over =
+      ap (λ (l : List ℕ). l ++ (s ++ drop (at + length s) (p ++ (old ++ q)))) (take-at p (old ++ q) at here)
+      ∙ ap (λ (l : List ℕ). p ++ (s ++ l)) behind
+    where
+      behind : drop (at + length s) (p ++ (old ++ q)) ≡ q
+      behind =
+          sym (drop-drop (length s) at (p ++ (old ++ q)))
+          ∙ ap (drop (length s)) (drop-at p (old ++ q) at here)
+          ∙ drop-at old q (length s) as-many
+
+module _ (a b s : List ℕ) (at : ℕ) where
+  written-inside : at + length s ≤ length a → written at s (a ++ b) ≡ written at s a ++ b
+  written-inside h =
+      ap (λ (l : List ℕ). l ++ (s ++ drop (at + length s) (a ++ b))) (take-append-le at a b (omega arith))
+      ∙ ap (λ (l : List ℕ). take at a ++ (s ++ l)) (drop-append-le (at + length s) a b h)
+      ∙ ap (λ (l : List ℕ). take at a ++ l) (sym (append-assoc s (drop (at + length s) a) b))
+      ∙ sym (append-assoc (take at a) (s ++ drop (at + length s) a) b)
+
+  written-past : (to : ℕ) → to ≡ length a + at → written to s (a ++ b) ≡ a ++ written at s b
+  written-past to e =
+      let f : to + length s ≡ length a + (at + length s) = omega arith in
+      ap (λ (l : List ℕ). l ++ (s ++ drop (to + length s) (a ++ b))) (ap (λ (i : ℕ). take i (a ++ b)) e ∙ take-append-add a b at)
+      ∙ ap (λ (l : List ℕ). (a ++ take at b) ++ (s ++ l)) (ap (λ (i : ℕ). drop i (a ++ b)) f ∙ drop-append-add a b (at + length s))
+      ∙ append-assoc a (take at b) (s ++ drop (at + length s) b)
+
+-- the first of the zeros behind a list
+padded-more : (n : ℕ) (l v : List ℕ) → length l + length v ≤ n → (at : ℕ) → at ≡ length l → written at v (padded n 0 l) ≡ padded n 0 (l ++ v)
+padded-more n l v h at e =
+    let z : n - length l ≡ length v + (n - (length l + length v)) = omega arith in
+    let m : length (l ++ v) ≡ length l + length v = length-append l v in
+    ap (λ (t : List ℕ). written at v t)
+    (padded-append n 0 l (omega arith) ∙ ap (λ (i : ℕ). l ++ replicate i 0) z
+    ∙ ap (λ (t : List ℕ). l ++ t) (sym (replicate-append-replicate (length v) (n - (length l + length v)) 0)))
+    ∙ written-over l (replicate (length v) 0) (replicate (n - (length l + length v)) 0) v at (sym e) (length-replicate (length v) 0)
+    ∙ sym (append-assoc l v (replicate (n - (length l + length v)) 0))
+    ∙ ap (λ (i : ℕ). (l ++ v) ++ replicate (n - i) 0) (sym m)
+    ∙ sym (padded-append n 0 (l ++ v) (omega arith))
+
+-- ---- one state more
+
+concatMap-more : {A : Type 0} (f : A → List ℕ) (l : List A) (x : A) → concatMap f (l ++ (x ∷ [])) ≡ concatMap f l ++ f x
+unfolding concatMap
+concatMap-more f [] x = append-nil (f x)
+concatMap-more f (y ∷ l) x = ap (λ (m : List ℕ). f y ++ m) (concatMap-more f l x) ∙ sym (append-assoc (f y) (concatMap f l) (f x))
+
+wires-more : (qs : List State) (q : State) → wiresOf (qs ++ (q ∷ [])) ≡ wiresOf qs ++ concatMap wireWordsOf (q .wires)
+unfolding wiresOf
+wires-more qs q = concatMap-more (λ (q : State). concatMap wireWordsOf (q .wires)) qs q
+
+pub words-length : (ws : List Wire) → length (concatMap wireWordsOf ws) ≡ 4 * length ws
+unfolding concatMap
+words-length [] = refl
+words-length (w ∷ ws) = let e = words-length ws in omega arith
+
+wires-length : (qs : List State) → length (wiresOf qs) ≡ 4 * wireCount qs
+unfolding wiresOf concatMap wireCount
+wires-length [] = refl
+wires-length (q ∷ qs) = omega (arith, length-append (concatMap wireWordsOf (q .wires)) (wiresOf qs), words-length (q .wires), wires-length qs)
+
+pub count-more : (qs : List State) (q : State) → wireCount (qs ++ (q ∷ [])) ≡ wireCount qs + length (q .wires)
+unfolding wireCount
+count-more [] q = omega arith
+count-more (p ∷ qs) q = let e = count-more qs q in omega arith
+
+records-more : (n : ℕ) (qs : List State) (q : State) → recordsOf n (qs ++ (q ∷ [])) ≡ recordsOf n qs ++ recordOf (n + wireCount qs) q
+unfolding recordsOf wireCount
+records-more n [] q = let e : n + 0 ≡ n = omega arith in rw (e, append-nil (padded 16 0 (q .nextRegisters))) refl
+records-more n (p ∷ qs) q =
+    let e : n + length (p .wires) + wireCount qs ≡ n + (length (p .wires) + wireCount qs) = omega arith in
+    ap (λ (l : List ℕ). n ∷ length (p .wires) ∷ p .next ∷ (padded 16 0 (p .nextRegisters) ++ l))
+    (records-more (n + length (p .wires)) qs q ∙ ap (λ (i : ℕ). recordsOf (n + length (p .wires)) qs ++ recordOf i q) e)
+    ∙ ap (λ (l : List ℕ). n ∷ length (p .wires) ∷ p .next ∷ l)
+    (sym (append-assoc (padded 16 0 (p .nextRegisters)) (recordsOf (n + length (p .wires)) qs) (recordOf (n + (length (p .wires) + wireCount qs)) q)))
+
+record-length : (n : ℕ) (q : State) → length (recordOf n q) ≡ 19
+record-length n q = let e = length-padded 16 0 (q .nextRegisters) in omega arith
+
+records-length : (n : ℕ) (qs : List State) → length (recordsOf n qs) ≡ 19 * length qs
+unfolding recordsOf
+records-length n [] = refl
+records-length n (q ∷ qs) =
+    omega (arith, length-append (padded 16 0 (q .nextRegisters)) (recordsOf (n + length (q .wires)) qs), length-padded 16 0 (q .nextRegisters), records-length (n + length (q .wires)) qs)
+
+-- with any room for records and wires
+parts : ℕ → ℕ → List ℕ → List ℕ → List ℕ → List ℕ
+parts m n head records wires = head ++ (padded m 0 records ++ padded n 0 wires)
+
+module _ (m n : ℕ) (head records wires : List ℕ) (head-130 : length head ≡ 130) where
+  parts-wires : (ws : List ℕ) → length wires + length ws ≤ n → (at : ℕ) → at ≡ 130 + (m + length wires)
+      → written at ws (parts m n head records wires) ≡ parts m n head records (wires ++ ws)
+  unfolding parts
+  parts-wires ws h at e =
+      written-past head (padded m 0 records ++ padded n 0 wires) ws (m + length wires) at (omega arith)
+      ∙ ap (λ (l : List ℕ). head ++ l)
+      (written-past (padded m 0 records) (padded n 0 wires) ws (length wires) (m + length wires) (rw length-padded refl)
+      ∙ ap (λ (l : List ℕ). padded m 0 records ++ l) (padded-more n wires ws h (length wires) refl))
+
+  parts-record : (r : List ℕ) → length records + length r ≤ m → (at : ℕ) → at ≡ 130 + length records
+      → written at r (parts m n head records wires) ≡ parts m n head (records ++ r) wires
+  unfolding parts
+  parts-record r h at e =
+      let l : length (padded m 0 records) ≡ m = length-padded m 0 records in
+      written-past head (padded m 0 records ++ padded n 0 wires) r (length records) at (omega arith)
+      ∙ ap (λ (l : List ℕ). head ++ l)
+      (written-inside (padded m 0 records) (padded n 0 wires) r (length records) (omega arith)
+      ∙ ap (λ (l : List ℕ). l ++ padded n 0 wires) (padded-more m records r h (length records) refl))
+
+parts-none : (m n k : ℕ) (head : List ℕ) → k ≡ m + n → head ++ replicate k 0 ≡ parts m n head [] []
+unfolding parts
+parts-none m n k head e =
+    let z : (i : ℕ) → i - 0 ≡ i = λ i. omega arith in
+    ap (λ (l : List ℕ). head ++ l)
+    (ap (λ (i : ℕ). replicate i 0) e ∙ sym (replicate-append-replicate m n 0)
+    ∙ sym (ap (λ (l : List ℕ). l ++ padded n 0 []) (padded-append m 0 [] (omega arith) ∙ ap (λ (i : ℕ). replicate i 0) (z m))
+    ∙ ap (λ (l : List ℕ). replicate m 0 ++ l) (padded-append n 0 [] (omega arith) ∙ ap (λ (i : ℕ). replicate i 0) (z n))))
+
+-- a table with no state yet
+pub no-states : (head : List ℕ) (k : ℕ) → k ≡ 13504 → head ++ replicate k 0 ≡ withStates head []
+unfolding withStates parts recordsOf wiresOf concatMap
+no-states head k e = parts-none 1216 12288 k head e
+
+-- the wires and then the record of a state put into a table of the states before it
+module _ (head : List ℕ) (qs : List State) (q : State) (head-130 : length head ≡ 130) (few : length qs < 64) (room : wireCount qs + length (q .wires) ≤ 3072) where
+  pub state-written : (t : List ℕ) → t ≡ withStates head qs
+      → written (130 + 19 * length qs) (recordOf (wireCount qs) q) (written (1346 + 4 * wireCount qs) (concatMap wireWordsOf (q .wires)) t)
+      ≡ withStates head (qs ++ (q ∷ []))
+  unfolding withStates parts
+  state-written t e =
+      let w = concatMap wireWordsOf (q .wires) in
+      let a = wires-length qs in
+      let b = words-length (q .wires) in
+      let c = records-length 0 qs in
+      let r = record-length (wireCount qs) q in
+      ap (λ (l : List ℕ). written (130 + 19 * length qs) (recordOf (wireCount qs) q) (written (1346 + 4 * wireCount qs) w l)) e
+      ∙ ap (λ (l : List ℕ). written (130 + 19 * length qs) (recordOf (wireCount qs) q) l)
+      (parts-wires 1216 12288 head (recordsOf 0 qs) (wiresOf qs) head-130 w (omega arith) (1346 + 4 * wireCount qs) (omega arith))
+      ∙ parts-record 1216 12288 head (recordsOf 0 qs) (wiresOf qs ++ w) head-130 (recordOf (wireCount qs) q) (omega arith) (130 + 19 * length qs) (omega arith)
+      ∙ ap (λ (l : List ℕ). parts 1216 12288 head l (wiresOf qs ++ w)) (sym (records-more 0 qs q ∙ ap (λ (i : ℕ). recordsOf 0 qs ++ recordOf i q) (omega arith)))
+      ∙ ap (λ (l : List ℕ). parts 1216 12288 head (recordsOf 0 (qs ++ (q ∷ []))) l) (sym (wires-more qs q))

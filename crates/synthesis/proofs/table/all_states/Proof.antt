@@ -1,0 +1,42 @@
+-- `synthesis::table::all_states` meets its contract. Assumes nothing.
+use mathlib.Core.Path.{_≡_, refl, sym, ap, _∙_}
+use mathlib.Core.List.{List}
+use Prim.Native.Nat.{ℕ, _-_, _+_, _<_, _≤_}
+use native.Mathlib.Omega.{arith}
+use denote.Ref.{now}
+use lib.ListN.{length, take, set, length-set}
+use borrow.Author.Needs.{needs}
+use Rattle.synthesis.specs.StateWords.{written, withStates, firstStates, Filled}
+use Rattle.synthesis.proofs.MachineTable.{filled-on}
+use Rattle.synthesis.proofs.table.all_states.Statement.{statement}
+use Rattle.synthesis.proofs.table.all_states.Tie as tie
+
+abbrev Inv-loop : tie.InvT-loop
+Inv-loop graph edges starts starters states table₀ k₀ first₀ table k first = Filled graph table k first × (take 130 table ≡ take 130 table₀) × (k ≤ length starters)
+
+abbrev μ-loop : tie.MeasureT-loop
+μ-loop graph edges starts starters states table₀ k₀ first₀ table k first = length starters - k
+
+loop-holds : tie.Need-loop-holds Inv-loop μ-loop
+loop-holds c = (c .before .before .before .before .before .before .pre .1, refl, omega arith)
+
+one-state-requires : tie.Need-one-state-requires Inv-loop μ-loop
+one-state-requires c κs = (c .before .before .before .before .before .before .before .before .before .pre .0, (c .before .loop-test .taken, c .before .before .loop .inv .0))
+
+loop-again : tie.Need-loop-again Inv-loop μ-loop
+loop-again c =
+    let a = c .before .before .before .before .before .before .before .before .before .before .before .before .args in
+    let l = c .before .before .before .before .before .loop in
+    let o = c .before .before .one-state in
+    let f = filled-on (now (a .graph)) (l .table) (l .k) (l .first) (l .inv .0) (o .last .1 .1 .1 .1 .1 .1 .1 .0) (o .result) (o .kept .1 .1 .1 .1 .1 .1 .1 .0) (o .ensures .0) (o .ensures .1) in
+    (f .0, f .1 ∙ l .inv .1, omega (arith, c .before .before .before .before .loop-test .taken))
+
+returns : tie.Need-returns Inv-loop μ-loop
+returns c =
+    let a = c .before .before .before .before .before .before .before .before .args in
+    let l = c .before .loop in
+    let e : l .k ≡ length (now (a .starters)) = omega (arith, c .loop-test .left, l .inv .2) in
+    l .inv .0 .words ∙ ap (λ (h : List ℕ). withStates h (firstStates (now (a .graph)) (l .k))) (l .inv .1) ∙ ap (λ (n : ℕ). withStates (take 130 (now (a .table))) (firstStates (now (a .graph)) n)) e
+
+pub all-states-spec : {M : Type 1} → statement M
+all-states-spec = tie.close (tie.spec Inv-loop μ-loop loop-holds one-state-requires (λ c. search needs) (λ c. omega (arith, c .before .before .before .before .loop-test .taken)) loop-again (λ c. c .before .loop .inv .0 .all ∙ sym (c .before .before .before .before .before .before .before .before .pre .1 .all)) returns)

@@ -1,0 +1,35 @@
+-- `synthesis::table::write_head` meets its contract. Assumes nothing.
+use mathlib.Core.Path.{_≡_, refl, sym, ap, _∙_}
+use mathlib.Core.List.{List}
+use Prim.Native.Nat.{ℕ, _-_, _+_, _<_, _≤_}
+use native.Mathlib.Omega.{arith}
+use denote.Ref.{now}
+use lib.ListN.{length, take, set, length-set}
+use borrow.Author.Needs.{needs}
+use Rattle.synthesis.specs.StateWords.{written, withStates, firstStates, Filled}
+use Rattle.synthesis.proofs.TableWrites.{head-written}
+use Rattle.synthesis.proofs.table.write_head.Statement.{statement}
+use Rattle.synthesis.proofs.table.write_head.Tie as tie
+
+copy-bytes-requires : tie.Need-copy-bytes-requires
+copy-bytes-requires c κs = let p = c .before .before .before .before .before .before .before .before .pre in simp length-set (omega (arith, c .before .before .before .clear .kept .0, p .0, p .1))
+
+copy-bytes-requires-2 : tie.Need-copy-bytes-requires-2
+copy-bytes-requires-2 c κs =
+    let p = c .before .before .before .before .before .before .before .before .before .before .before .before .pre in
+    let k = simp length-set at (c .before .before .before .copy-bytes .kept .0) in
+    omega (arith, k, c .before .before .before .before .before .before .before .clear .kept .0, p .0, p .2)
+
+same-length : tie.Need-same-length
+same-length c = c .before .before .copy-bytes2 .kept .0 ∙ c .before .before .before .before .before .before .copy-bytes .kept .0 ∙ simp length-set (c .before .before .before .before .before .before .before .before .before .before .clear .kept .0)
+
+returns : tie.Need-returns
+returns c =
+    let a = c .before .before .before .before .before .before .before .before .before .before .before .before .before .before .before .args in
+    let p = c .before .before .before .before .before .before .before .before .before .before .before .before .before .before .before .pre in
+    c .before .before .copy-bytes2 .ensures
+    ∙ ap (written 66 (now (a .states))) (c .before .before .before .before .before .before .copy-bytes .ensures ∙ ap (λ (l : List ℕ). written 2 (now (a .starters)) (set (set l 0 (a .count)) 1 (a .registers))) (c .before .before .before .before .before .before .before .before .before .before .clear .ensures))
+    ∙ head-written (length (now (a .table))) (a .count) (a .registers) (now (a .starters)) (now (a .states)) (p .0) (p .1) (p .2)
+
+pub write-head-spec : {M : Type 1} → statement M
+write-head-spec = tie.close (tie.spec (λ c κs. search needs) (λ c. search needs) (λ c. search needs) copy-bytes-requires copy-bytes-requires-2 same-length returns)

@@ -1,0 +1,57 @@
+-- A machine table of which some states are written, which the contracts of the table code cite. Assumes nothing.
+use Prim.Native.Nat.{ℕ, _+_, _*_}
+use mathlib.Core.Path.{_≡_}
+use mathlib.Core.Bool.{true}
+use mathlib.Core.List.{List, [], _∷_, _++_, map}
+use lib.ListN.{length, take, drop}
+use Rattle.runs.specs.Lists.{upFrom, mem, padded, concatMap}
+use Rattle.cfg.specs.Graph.{successors}
+use Rattle.cfg.specs.Table.{graphOf, admitted}
+use Rattle.fsmd.specs.Layout.{maxStates, maxRegisters, maxWires, wireWords, recordWords, recordsOffset, machineWords}
+use Rattle.fsmd.specs.Machine.{State}
+use Rattle.fsmd.specs.Table.{wireWordsOf, recordsOf}
+use Rattle.grouping.specs.Grouping.{groups}
+use Rattle.grouping.specs.Bytes.{edgesIn}
+use Rattle.synthesis.specs.PlacementBytes.{marked}
+use Rattle.synthesis.specs.Wires.{stateOf}
+
+-- words t with the words s from number `at` on
+abbrev pub written : ℕ → List ℕ → List ℕ → List ℕ
+written at s t = take at t ++ (s ++ drop (at + length s) t)
+
+-- the words of some states' wires, and how many wires they are
+unfoldable pub wiresOf : List State → List ℕ
+unfolding concatMap
+wiresOf qs = concatMap (λ q. concatMap wireWordsOf (q .wires)) qs
+
+unfoldable pub wireCount : List State → ℕ
+wireCount [] = 0
+wireCount (q ∷ qs) = length (q .wires) + wireCount qs
+
+-- the words of a state's record, whose first wire is number n
+abbrev pub recordOf : ℕ → State → List ℕ
+recordOf n q = n ∷ length (q .wires) ∷ q .next ∷ padded maxRegisters 0 (q .nextRegisters)
+
+-- a table whose words before the records are `head`, with the records and wires of the states qs and no others
+unfoldable pub withStates : List ℕ → List State → List ℕ
+unfolding recordsOf wiresOf
+withStates head qs = head ++ (padded (maxStates * recordWords) 0 (recordsOf 0 qs) ++ padded (maxWires * wireWords) 0 (wiresOf qs))
+
+-- the first k states of the machine of a graph table
+unfoldable pub firstStates : List ℕ → ℕ → List State
+unfolding graphOf groups stateOf
+firstStates t k = map (stateOf (graphOf t) (groups (graphOf t))) (upFrom 0 k)
+
+-- what the code knows of a graph table t: its successors, its starters marked, its starters and its blocks' states
+pub record Prepared (t edges starts starters states : List ℕ) : Type 0 where
+  pub admits : admitted t ≡ true
+  pub leading : (n : ℕ) → edgesIn edges n ≡ successors (graphOf t) n
+  pub starting : (x : ℕ) → marked starts x ≡ mem x (groups (graphOf t) .starters)
+  pub its-starters : starters ≡ groups (graphOf t) .starters
+  pub its-states : states ≡ groups (graphOf t) .states
+
+-- a table of which the first k states are written, and the number of the next wire
+pub record Filled (t table : List ℕ) (k first : ℕ) : Type 0 where
+  pub all : length table ≡ machineWords
+  pub words : table ≡ withStates (take recordsOffset table) (firstStates t k)
+  pub passed : first ≡ wireCount (firstStates t k)

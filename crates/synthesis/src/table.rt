@@ -1,0 +1,206 @@
+// The machine table of an admitted graph: its head, then the wires and the record of one state after another.
+use crate::SynthesisAnswer;
+use crate::placement;
+use crate::state;
+use cfg::Graph;
+use cfg::admission;
+use fsmd::Machine;
+use fsmd::Wire;
+use grouping::edges;
+ghost use mathlib.Core.Path.{_≡_};
+ghost use mathlib.Core.Bool.{true};
+ghost use mathlib.Core.List.{[], _∷_, _++_};
+ghost use Prim.Native.Nat.{ℕ, _+_, _<_, _≤_};
+ghost use lib.ListN.{length, getD, take, replicate};
+ghost use Rattle.runs.specs.Lists.{mem};
+ghost use Rattle.cfg.specs.Table.{graphOf, admitted};
+ghost use Rattle.fsmd.specs.Layout.{maxBlocks, maxRegisters, maxWires, recordWords, recordsOffset, machineWords};
+ghost use Rattle.fsmd.specs.Table.{tableOf};
+ghost use Rattle.synthesis.specs.PlacementBytes.{marked};
+ghost use Rattle.synthesis.specs.Synthesis.{machine, synthesisAnswer, synthesisWords};
+ghost use Rattle.synthesis.specs.StateWords.{written, withStates, firstStates, wireCount, Prepared, Filled};
+
+fn word(x: u8) -> u32
+    ensures { λ r. ⌜ r ≡ x ⌝ }
+{
+    x as u32
+}
+
+fn clear(words: &mut [u32])
+    ensures { λ r. ⌜ now (words .exit) ≡ replicate (length (now (words .entry))) 0 ⌝ }
+{
+    let mut i = 0;
+    while i < words.len() {
+        words[i] = 0;
+        i += 1;
+    }
+}
+
+// The bytes as words from number `at` on.
+fn copy_bytes(words: &mut [u32], at: usize, bytes: &[u8])
+    requires { ⌜ at + length (now bytes) ≤ length (now words) ⌝ }
+    ensures { λ r. ⌜ now (words .exit) ≡ written at (now (bytes .entry)) (now (words .entry)) ⌝ }
+{
+    let mut i = 0;
+    while i < bytes.len() {
+        words[at + i] = word(bytes[i]);
+        i += 1;
+    }
+}
+
+fn copy_words(words: &mut [u32], at: usize, source: &[u32])
+    requires { ⌜ at + length (now source) ≤ length (now words) ⌝ }
+    ensures { λ r. ⌜ now (words .exit) ≡ written at (now (source .entry)) (now (words .entry)) ⌝ }
+{
+    let mut i = 0;
+    while i < source.len() {
+        words[at + i] = source[i];
+        i += 1;
+    }
+}
+
+// The words before the records; every other word becomes 0.
+fn write_head(table: &mut [u32], count: u32, registers: u32, starters: &[u8], states: &[u8])
+    requires { ⌜ (length (now table) ≡ machineWords) × (length (now starters) ≡ maxBlocks) × (length (now states) ≡ maxBlocks) ⌝ }
+    ensures { λ r. ⌜ now (table .exit) ≡ withStates (count ∷ registers ∷ (now (starters .entry) ++ now (states .entry))) [] ⌝ }
+{
+    clear(table);
+    table[0] = count;
+    table[1] = registers;
+    copy_bytes(table, Machine::STARTERS, starters);
+    copy_bytes(table, Machine::BLOCK_STATES, states);
+}
+
+// A state's record at word `at`.
+fn write_record(
+    words: &mut [u32],
+    at: usize,
+    first: usize,
+    count: usize,
+    next: u32,
+    registers: &[u32],
+)
+    requires { ⌜ (at + recordWords ≤ length (now words)) × (length (now registers) ≡ maxRegisters) × (first ≤ maxWires) × (count ≤ maxWires) ⌝ }
+    ensures { λ r. ⌜ now (words .exit) ≡ written at (first ∷ count ∷ next ∷ now (registers .entry)) (now (words .entry)) ⌝ }
+{
+    words[at] = first as u32;
+    words[at + 1] = count as u32;
+    words[at + Machine::NEXT_STATE] = next;
+    copy_words(words, at + Machine::NEXT_REGISTERS, registers);
+}
+
+// A mark at each starter.
+fn starter_marks(starters: &[u8]) -> [u8; 64]
+    requires { ⌜ ((i : ℕ) → i < length (now starters) → getD (now starters) i 0 < maxBlocks) ⌝ }
+    ensures { λ r. ⌜ ((x : ℕ) → marked r x ≡ mem x (now (starters .entry))) ⌝ }
+{
+    let mut marks = [0u8; 64];
+    let mut i = 0;
+    while i < starters.len() {
+        marks[edges::wide(starters[i])] = 1;
+        i += 1;
+    }
+    marks
+}
+
+// State k, whose first wire is number `first`; the number of the next state's first wire.
+fn one_state(
+    graph: &[u32],
+    edges: &[u8],
+    starts: &[u8],
+    starters: &[u8],
+    states: &[u8],
+    k: usize,
+    first: usize,
+    table: &mut [u32],
+) -> usize
+    requires { ⌜ Prepared (now graph) (now edges) (now starts) (now starters) (now states) ⌝ }
+    requires { ⌜ (k < length (now starters)) × Filled (now graph) (now table) k first ⌝ }
+    ensures { λ r. ⌜ (now (table .exit) ≡ withStates (take recordsOffset (now (table .entry))) (firstStates (now (graph .entry)) (k + 1))) × (r ≡ wireCount (firstStates (now (graph .entry)) (k + 1))) ⌝ }
+{
+    let order = placement::place(edges, states, starts, k as u8);
+    let count = order.count;
+    let blocks = order.blocks;
+    let registers = graph[1] as usize;
+    let mut values = [0u32; 16];
+    let at = Machine::WIRE_WORDS + Wire::WORDS * first;
+    let made = state::make(
+        graph,
+        &blocks[..count],
+        starters,
+        states,
+        &mut table[at..],
+        &mut values[..registers],
+    );
+    write_record(
+        table,
+        Machine::RECORDS + Machine::RECORD * k,
+        first,
+        made.wires,
+        made.next,
+        &values,
+    );
+    first + made.wires
+}
+
+// The states one after another, behind the head.
+fn all_states(
+    graph: &[u32],
+    edges: &[u8],
+    starts: &[u8],
+    starters: &[u8],
+    states: &[u8],
+    table: &mut [u32],
+)
+    requires { ⌜ Prepared (now graph) (now edges) (now starts) (now starters) (now states) ⌝ }
+    requires { ⌜ Filled (now graph) (now table) 0 0 ⌝ }
+    ensures { λ r. ⌜ now (table .exit) ≡ withStates (take recordsOffset (now (table .entry))) (firstStates (now (graph .entry)) (length (now (starters .entry)))) ⌝ }
+{
+    let mut k: usize = 0;
+    let mut first: usize = 0;
+    while k < starters.len() {
+        let next = one_state(graph, edges, starts, starters, states, k, first, table);
+        first = next;
+        k += 1;
+    }
+}
+
+// The table of an admitted graph's machine.
+fn fill(graph: &[u32], table: &mut [u32])
+    requires { ⌜ (admitted (now graph) ≡ true) × (length (now table) ≡ machineWords) ⌝ }
+    ensures { λ r. ⌜ now (table .exit) ≡ tableOf (machine (graphOf (now (graph .entry)))) ⌝ }
+{
+    let grouping = grouping::group(graph);
+    let count = grouping.count;
+    let list = grouping.starters;
+    let bytes = grouping.states;
+    let blocks = graph[0] as usize;
+    let edges = edges::edges_of(graph);
+    let starts = starter_marks(&list[..count]);
+    write_head(table, count as u32, graph[1], &list, &bytes);
+    all_states(
+        graph,
+        &edges,
+        &starts,
+        &list[..count],
+        &bytes[..blocks],
+        table,
+    );
+}
+
+// The machine of a graph table into a machine table.
+pub fn synthesise(graph: &[u32], machine: &mut [u32]) -> SynthesisAnswer
+    ensures { λ r. ⌜ (r ≡ synthesisAnswer (now (graph .entry)) (now (machine .entry))) × (now (machine .exit) ≡ synthesisWords (now (graph .entry)) (now (machine .entry))) ⌝ }
+{
+    if graph.len() < Graph::WORDS {
+        return SynthesisAnswer::Refused(7);
+    }
+    if machine.len() < Machine::WORDS {
+        return SynthesisAnswer::Refused(7);
+    }
+    if !admission::is_admitted(graph) {
+        return SynthesisAnswer::Refused(6);
+    }
+    fill(graph, &mut machine[..Machine::WORDS]);
+    SynthesisAnswer::Made
+}

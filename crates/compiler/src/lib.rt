@@ -5,11 +5,15 @@ pub mod fields; // fields.rt: the numbers and values of an answer
 ghost use mathlib.Core.Path.{_≡_};
 ghost use Rattle.cfg_text.specs.Read.{readAnswer, readWords};
 ghost use Rattle.cfg_write.specs.Write.{writeAnswer, writeBytes};
+ghost use Rattle.synthesis.specs.Synthesis.{synthesisAnswer, synthesisWords};
+ghost use Rattle.synthesis.specs.declared.SynthesisAnswer.«the-variants».{Made};
+ghost use Rattle.agreement.specs.Agreement.{Agreement};
 ghost use Rattle.cfg.specs.Run.{runAnswer as graphAnswer, runRegisters as graphRegisters};
 ghost use Rattle.fsmd.specs.Run.{runAnswer as machineAnswer, runRegisters as machineRegisters};
 use cfg_text::ReadAnswer;
 use cfg_write::WriteAnswer;
 use runs::RunAnswer;
+use synthesis::SynthesisAnswer;
 
 // "Read text into graph table".
 pub fn read_text(text: &[u8], table: &mut [u32]) -> ReadAnswer
@@ -25,6 +29,15 @@ pub fn write_text(table: &[u32], out: &mut [u8]) -> WriteAnswer
     ensures { λ _. ⌜ now (out .exit) ≡ writeBytes (now (table .entry)) (now (out .entry)) ⌝ }
 {
     cfg_write::write_text(table, out)
+}
+
+// "Synthesise graph table into machine table". Where it succeeds, graph and machine agree on whole runs: demand 3.
+pub fn synthesise(graph: &[u32], machine: &mut [u32]) -> SynthesisAnswer
+    ensures { λ r. ⌜ r ≡ synthesisAnswer (now (graph .entry)) (now (machine .entry)) ⌝ }
+    ensures { λ _. ⌜ now (machine .exit) ≡ synthesisWords (now (graph .entry)) (now (machine .entry)) ⌝ }
+    ensures { λ r. ⌜ (r ≡ Made → Agreement (now (graph .entry)) (now (machine .exit))) ⌝ }
+{
+    synthesis::table::synthesise(graph, machine)
 }
 
 // "Run graph": so many blocks from a start block on.

@@ -5,6 +5,8 @@ use runs::RunAnswer;
 ghost use mathlib.Core.Path.{_≡_};
 ghost use Rattle.cfg_text.specs.Read.{readAnswer, readWords, numberOf as readNumber, lineOf};
 ghost use Rattle.cfg_write.specs.Write.{writeAnswer, writeBytes, numberOf as writeNumber, lengthOf};
+ghost use Rattle.synthesis.specs.Synthesis.{synthesisAnswer, synthesisWords};
+ghost use Rattle.compiler.specs.Answers.{synthesisNumber};
 ghost use Rattle.cfg.specs.Run.{runAnswer as graphAnswer, runRegisters as graphRegisters};
 ghost use Rattle.fsmd.specs.Run.{runAnswer as machineAnswer, runRegisters as machineRegisters};
 ghost use Rattle.host.specs.Fields.{RunFields};
@@ -29,6 +31,15 @@ pub extern "C" fn gutkavu_write(table: &[u32], out: &mut [u8], length: &mut u32)
     let answer = compiler::write_text(table, out);
     *length = fields::write_length(answer);
     fields::write_number(answer)
+}
+
+#[no_mangle]
+pub extern "C" fn gutkavu_synthesise(graph: &[u32], machine: &mut [u32]) -> u32
+    ensures { λ r. ⌜ r ≡ synthesisNumber (synthesisAnswer (now (graph .entry)) (now (machine .entry))) ⌝ }
+    ensures { λ _. ⌜ now (machine .exit) ≡ synthesisWords (now (graph .entry)) (now (machine .entry)) ⌝ }
+{
+    let answer = compiler::synthesise(graph, machine);
+    fields::synthesis_number(answer)
 }
 
 // The fields of a run's answer.

@@ -29,10 +29,10 @@ fn word(x: u8) -> u32
 fn clear(words: &mut [u32])
     ensures { λ r. ⌜ now (words .exit) ≡ replicate (length (now (words .entry))) 0 ⌝ }
 {
-    let mut i = 0;
-    while i < words.len() {
-        words[i] = 0;
-        i += 1;
+    let mut at = 0;
+    while at < words.len() {
+        words[at] = 0;
+        at += 1;
     }
 }
 

@@ -26,14 +26,14 @@ loop-again c =
     let d = now (c .before .before .args .words) in
     let l = c .before .loop in
     let n = length-replicate {A = ℕ} (length d) 0 in
-    copied-on d (replicate (length d) 0) (l .words) 0 (l .i) (l .inv) (omega arith) (omega (arith, c .loop-test .taken, l .inv .size)) (l .i) 0 (omega arith) (sym (getD-replicate {A = ℕ} (length d) (l .i) 0 0 (omega (arith, c .loop-test .taken, l .inv .size))))
+    copied-on d (replicate (length d) 0) (l .words) 0 (l .at) (l .inv) (omega arith) (omega (arith, c .loop-test .taken, l .inv .size)) (l .at) 0 (omega arith) (sym (getD-replicate {A = ℕ} (length d) (l .at) 0 0 (omega (arith, c .loop-test .taken, l .inv .size))))
 
 returns : tie.Need-returns Inv-loop μ-loop
 returns c =
     let d = now (c .before .before .args .words) in
     let l = c .before .loop in
     let n = length-replicate {A = ℕ} (length d) 0 in
-    copied-all d (replicate (length d) 0) (l .words) 0 (l .i) (l .inv) (omega (arith, c .loop-test .left, l .inv .size)) ∙ cleared d
+    copied-all d (replicate (length d) 0) (l .words) 0 (l .at) (l .inv) (omega (arith, c .loop-test .left, l .inv .size)) ∙ cleared d
 
 pub clear-spec : {M : Type 1} → statement M
 clear-spec = tie.close (tie.spec Inv-loop μ-loop loop-holds (λ c. search needs) (λ c. search needs) (λ c. search needs) loop-less loop-again (λ c. c .before .loop .inv .size) returns)

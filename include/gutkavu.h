@@ -37,6 +37,9 @@ uint32_t gutkavu_read(const uint8_t *text, size_t text_len, uint32_t *table, siz
  * Bytes of the output past the text stay. */
 uint32_t gutkavu_write(const uint32_t *table, size_t table_len, uint8_t *out, size_t out_len, uint32_t *length);
 
+/* Synthesises a graph table into a machine table. Refusals 7, 6. */
+uint32_t gutkavu_synthesise(const uint32_t *graph, size_t graph_len, uint32_t *machine, size_t machine_len);
+
 /* Runs a graph from a start block on, at most budget blocks. Refusals 7, 6, 9. Sets halted to 1 or 0, the count of blocks
  * run, the halting one included, and the next block, GUTKAVU_NONE where it halted. Registers from R up keep their words. */
 uint32_t gutkavu_run_graph(const uint32_t *graph, size_t graph_len, uint32_t *registers, size_t registers_len,

@@ -1,0 +1,84 @@
+//! The five operations on lent buffers. Each buffer that an operation refuses to change is left as it was.
+
+use crate::raw;
+
+/// Every field that an operation answers, as C gives it: the number is 0 for success.
+#[derive(Clone, Copy, Debug, PartialEq, Eq)]
+pub struct ReadFields {
+    pub number: u32,
+    pub line: u32,
+}
+
+#[derive(Clone, Copy, Debug, PartialEq, Eq)]
+pub struct WriteFields {
+    pub number: u32,
+    pub length: u32,
+}
+
+#[derive(Clone, Copy, Debug, PartialEq, Eq)]
+pub struct RunFields {
+    pub number: u32,
+    pub halted: u32,
+    pub count: u32,
+    pub next: u32,
+}
+
+/// What a field holds before a call, so that one that is not set would show.
+const UNSET: u32 = 0xA5A5_A5A5;
+
+/// Reads a graph's text into a graph table.
+pub fn read(text: &[u8], table: &mut [u32]) -> ReadFields {
+    let mut line = UNSET;
+    // SAFETY: pointers and lengths are those of slices, and the borrows keep them apart.
+    let number = unsafe {
+        raw::gutkavu_read(text.as_ptr(), text.len(), table.as_mut_ptr(), table.len(), &mut line)
+    };
+    ReadFields { number, line }
+}
+
+/// Writes a graph table as text.
+pub fn write(table: &[u32], out: &mut [u8]) -> WriteFields {
+    let mut length = UNSET;
+    // SAFETY: as in `read`.
+    let number = unsafe {
+        raw::gutkavu_write(table.as_ptr(), table.len(), out.as_mut_ptr(), out.len(), &mut length)
+    };
+    WriteFields { number, length }
+}
+
+/// Synthesises a graph table into a machine table; gives the refusal's number, or 0.
+pub fn synthesise(graph: &[u32], machine: &mut [u32]) -> u32 {
+    // SAFETY: as in `read`.
+    unsafe {
+        raw::gutkavu_synthesise(graph.as_ptr(), graph.len(), machine.as_mut_ptr(), machine.len())
+    }
+}
+
+fn run(call: raw::Run, table: &[u32], registers: &mut [u32], start: u32, budget: u32) -> RunFields {
+    let (mut halted, mut count, mut next) = (UNSET, UNSET, UNSET);
+    // SAFETY: as in `read`.
+    let number = unsafe {
+        call(
+            table.as_ptr(),
+            table.len(),
+            registers.as_mut_ptr(),
+            registers.len(),
+            start,
+            budget,
+            &mut halted,
+            &mut count,
+            &mut next,
+        )
+    };
+    RunFields { number, halted, count, next }
+}
+
+/// Runs a graph from a start block, at most `budget` blocks.
+pub fn run_graph(graph: &[u32], registers: &mut [u32], start: u32, budget: u32) -> RunFields {
+    run(raw::gutkavu_run_graph, graph, registers, start, budget)
+}
+
+/// Runs a machine from a start state, at most `budget` cycles.
+pub fn run_machine(machine: &[u32], registers: &mut [u32], start: u32, budget: u32) -> RunFields {
+    run(raw::gutkavu_run_machine, machine, registers, start, budget)
+}

@@ -1,0 +1,59 @@
+//! The functions of `include/gutkavu.h`, as C sees them.
+
+/// "Run graph" and "Run machine" take the same arguments.
+pub type Run = unsafe extern "C" fn(
+    *const u32,
+    usize,
+    *mut u32,
+    usize,
+    u32,
+    u32,
+    *mut u32,
+    *mut u32,
+    *mut u32,
+) -> u32;
+
+extern "C" {
+    pub fn gutkavu_read(
+        text: *const u8,
+        text_len: usize,
+        table: *mut u32,
+        table_len: usize,
+        line: *mut u32,
+    ) -> u32;
+    pub fn gutkavu_write(
+        table: *const u32,
+        table_len: usize,
+        out: *mut u8,
+        out_len: usize,
+        length: *mut u32,
+    ) -> u32;
+    pub fn gutkavu_synthesise(
+        graph: *const u32,
+        graph_len: usize,
+        machine: *mut u32,
+        machine_len: usize,
+    ) -> u32;
+    pub fn gutkavu_run_graph(
+        graph: *const u32,
+        graph_len: usize,
+        registers: *mut u32,
+        registers_len: usize,
+        start: u32,
+        budget: u32,
+        halted: *mut u32,
+        count: *mut u32,
+        next: *mut u32,
+    ) -> u32;
+    pub fn gutkavu_run_machine(
+        machine: *const u32,
+        machine_len: usize,
+        registers: *mut u32,
+        registers_len: usize,
+        start: u32,
+        budget: u32,
+        halted: *mut u32,
+        count: *mut u32,
+        next: *mut u32,
+    ) -> u32;
+}

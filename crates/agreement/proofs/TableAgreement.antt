@@ -25,7 +25,7 @@ use Rattle.synthesis.specs.Synthesis.{machineFor, machine, synthesisAnswer, mad
 use Rattle.synthesis.specs.declared.SynthesisAnswer.{SynthesisAnswer}
 use Rattle.synthesis.specs.declared.SynthesisAnswer.the-variants.{Refused, Made}
 use Rattle.synthesis.proofs.GraphFacts.{graph-fits}
-use Rattle.synthesis.proofs.StateOrder.{groups-arranged}
+use Rattle.placement.proofs.StateOrder.{groups-arranged}
 use Rattle.synthesis.proofs.SynthesisedMachine.{machine-is, machine-fits}
 use Rattle.agreement.specs.Agreement.{AgreeAfter, Agreement}
 use Rattle.agreement.proofs.WholeRun.{cycle-halted, agree-after}

@@ -15,11 +15,11 @@ use Rattle.cfg.specs.Graph.{CFG, step}
 use Rattle.fsmd.specs.Layout.{none}
 use Rattle.fsmd.specs.Machine.{State, FSMD, stateOf as stateAt, worked, toState, clock, cycle}
 use Rattle.grouping.specs.Grouping.{Groups}
-use Rattle.synthesis.specs.Placement.{members}
-use Rattle.synthesis.specs.Wires.{nextStateOf, stateOf}
+use Rattle.placement.specs.Placement.{members}
+use Rattle.state.specs.Wires.{nextStateOf, stateOf}
 use Rattle.synthesis.specs.Synthesis.{machineFor}
 use Rattle.synthesis.proofs.GraphFacts.{GraphFits}
-use Rattle.synthesis.proofs.StateOrder.{Arranged}
+use Rattle.placement.proofs.StateOrder.{Arranged}
 use Rattle.synthesis.proofs.SynthesisedMachine.{states-count, state-at, registers-are}
 use Rattle.agreement.specs.Agreement.{haltedWith, graphAfter, moves, arrivals, Arrival, HaltBefore, EndOfCycle, machineAfter, stateIn, AgreeAfter}
 use Rattle.synthesis.proofs.Readings.{Reads}

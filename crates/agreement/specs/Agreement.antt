@@ -17,7 +17,7 @@ use Rattle.fsmd.specs.Machine.{FSMD, stateOf, cycle}
 use Rattle.fsmd.specs.Table.{machineOf, validState}
 use Rattle.fsmd.specs.Run.{runAnswer, runRegisters}
 use Rattle.grouping.specs.Grouping.{Groups, groups}
-use Rattle.synthesis.specs.Placement.{members}
+use Rattle.placement.specs.Placement.{members}
 
 abbrev pub haltedWith : List ℕ → Configuration
 haltedWith q = record { place = halted; registers = q }

@@ -10,7 +10,7 @@ use Rattle.word.specs.Word.{choose, truth}
 use Rattle.runs.specs.Lists.{upFrom}
 use Rattle.fsmd.specs.declared.Wire.{Wire}
 use Rattle.fsmd.specs.Machine.{wireValue, worked}
-use Rattle.synthesis.specs.Wires.{selects, select-wire}
+use Rattle.state.specs.Wires.{selects, select-wire}
 use Rattle.synthesis.proofs.WireValues.{select-value}
 
 abbrev pub at : List ℕ → ℕ → ℕ

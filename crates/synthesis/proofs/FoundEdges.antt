@@ -15,10 +15,10 @@ use Rattle.cfg.specs.declared.Ending.the-variants.{Goto, Ite, Halt}
 use Rattle.cfg.specs.Graph.{CFG, blockOf, targets, successors}
 use Rattle.grouping.specs.Grouping.{Groups, groups}
 use Rattle.grouping.proofs.Reach.{Closed}
-use Rattle.synthesis.specs.Placement.{order}
-use Rattle.synthesis.specs.Wires.{Edge, Point, Build, close, leadsTo, towards, after, put, build, leaves}
-use Rattle.synthesis.proofs.PlacementLaws.{placed-states}
-use Rattle.synthesis.proofs.StateOrder.{Ahead, Ordered, StateOrder}
+use Rattle.placement.specs.Placement.{order}
+use Rattle.state.specs.Wires.{Edge, Point, Build, close, leadsTo, towards, after, put, build, leaves}
+use Rattle.placement.proofs.PlacementLaws.{placed-states}
+use Rattle.placement.proofs.StateOrder.{Ahead, Ordered, StateOrder}
 
 -- some edge's target passes a test
 abbrev Some : (Place → Bool) → List Edge → Type 0

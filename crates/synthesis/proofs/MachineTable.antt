@@ -21,7 +21,7 @@ use Rattle.grouping.specs.Grouping.{Groups, groups}
 use Rattle.grouping.specs.Answer.{groupingOf}
 use Rattle.grouping.proofs.Reach.{Closed, admitted-closed, reached-below}
 use Rattle.grouping.proofs.GroupingLaws.{grouped}
-use Rattle.synthesis.specs.Wires.{stateOf}
+use Rattle.state.specs.Wires.{stateOf}
 use Rattle.synthesis.specs.Synthesis.{machineFor, machine}
 use Rattle.synthesis.specs.StateWords.{wiresOf, wireCount, withStates, firstStates, Filled}
 use Rattle.synthesis.proofs.SynthesisedMachine.{machine-is, machine-fits}

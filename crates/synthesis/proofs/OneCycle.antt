@@ -17,10 +17,10 @@ use Rattle.cfg.specs.declared.Ending.the-variants.{Goto, Ite, Halt}
 use Rattle.cfg.specs.Graph.{CFG, blockOf, codeOf, targets, successors, executeAll, holds, leave, runBlock}
 use Rattle.fsmd.specs.Machine.{State, worked}
 use Rattle.grouping.specs.Grouping.{Groups}
-use Rattle.synthesis.specs.Placement.{order}
-use Rattle.synthesis.specs.Wires.{towards, leadsTo, Build, arrive, start, enter, after, put, build, leaves, nextStateOf, closeState, stateOf}
+use Rattle.placement.specs.Placement.{order}
+use Rattle.state.specs.Wires.{towards, leadsTo, Build, arrive, start, enter, after, put, build, leaves, nextStateOf, closeState, stateOf}
 use Rattle.synthesis.proofs.GraphFacts.{GraphFits}
-use Rattle.synthesis.proofs.StateOrder.{Ahead, Ordered, StateOrder}
+use Rattle.placement.proofs.StateOrder.{Ahead, Ordered, StateOrder}
 use Rattle.synthesis.proofs.Readings.{Reads, start-reads}
 use Rattle.synthesis.proofs.TakenEdges.{OneTaken, none-grow, one-grow, one-towards, one-away, arrive-grow, arrive-none, arrive-one}
 use Rattle.synthesis.proofs.TakenEdges.{blockMade, made-reached, made-passed, close-state-one}

@@ -13,7 +13,7 @@ use Rattle.cfg.specs.declared.Condition.{Condition}
 use Rattle.cfg.specs.Graph.{valueOf, execute, holds}
 use Rattle.fsmd.specs.declared.Wire.{Wire}
 use Rattle.fsmd.specs.Machine.{wireValue, worked}
-use Rattle.synthesis.specs.Wires.{wire, set-wire, and-wire, or-wire, and-not-wire, select-wire, selects, Edge, Point, fresh, join, instructionWire, assign}
+use Rattle.state.specs.Wires.{wire, set-wire, and-wire, or-wire, and-not-wire, select-wire, selects, Edge, Point, fresh, join, instructionWire, assign}
 use Rattle.runs.proofs.ListLaws.{length-upFrom}
 use Rattle.cfg.proofs.Admitted.{ValidInstruction}
 use Rattle.synthesis.proofs.WireValues.{set-value, and-value, or-value, and-not-value, select-value, comparison-value, instruction-value}

@@ -4,7 +4,7 @@ use native.Mathlib.Omega.{arith}
 use mathlib.Core.Path.{_≡_, refl, ap}
 use mathlib.Core.List.{List, [], _∷_}
 use lib.ListN.{length}
-use Rattle.synthesis.specs.Wires.{selects}
+use Rattle.state.specs.Wires.{selects}
 
 pub length-selects : (t : ℕ) (vs ss : List ℕ) → length vs ≡ length ss → length (selects t vs ss) ≡ length vs
 length-selects t [] ss h = refl

@@ -21,12 +21,12 @@ use Rattle.fsmd.specs.Machine.{State}
 use Rattle.grouping.specs.Grouping.{Groups, groups}
 use Rattle.grouping.proofs.Reach.{Closed, admitted-closed}
 use Rattle.grouping.proofs.GroupingLaws.{Grouped, grouped}
-use Rattle.synthesis.specs.Placement.{order}
-use Rattle.synthesis.specs.Wires.{Build, Point, put, build, stateOf}
-use Rattle.synthesis.specs.Making.{Aims, Placeable, putBlock, groupsIn}
-use Rattle.synthesis.specs.BlocksMaking.{buildBlocks, nothing, AllPlaceable, stateBlocks}
-use Rattle.synthesis.proofs.PlacementLaws.{order-length, placed-states}
-use Rattle.synthesis.proofs.PlacedOrder.{members-few}
+use Rattle.placement.specs.Placement.{order}
+use Rattle.state.specs.Wires.{Build, Point, put, build, stateOf}
+use Rattle.state.specs.Making.{Aims, Placeable, putBlock, groupsIn}
+use Rattle.state.specs.BlocksMaking.{buildBlocks, nothing, AllPlaceable, stateBlocks}
+use Rattle.placement.proofs.PlacementLaws.{order-length, placed-states}
+use Rattle.placement.proofs.PlacedOrder.{members-few}
 
 -- a state's end: its wires, its next state and its next registers
 abbrev pub pointOf : State → Point

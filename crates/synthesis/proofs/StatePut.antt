@@ -16,8 +16,8 @@ use Rattle.fsmd.specs.Table.{wireWordsOf}
 use Rattle.grouping.specs.Grouping.{Groups, groups}
 use Rattle.grouping.proofs.Reach.{Closed, admitted-closed}
 use Rattle.grouping.proofs.GroupingLaws.{grouped}
-use Rattle.synthesis.specs.Wires.{Point, stateOf}
-use Rattle.synthesis.specs.Making.{wiresIn, stored, pointIn, Room, Held, groupsIn, Grouped}
+use Rattle.state.specs.Wires.{Point, stateOf}
+use Rattle.state.specs.Making.{wiresIn, stored, pointIn, Room, Held, groupsIn, Grouped}
 use Rattle.synthesis.specs.StateWords.{written, wireCount, recordOf, withStates, firstStates, Filled, Prepared}
 use Rattle.synthesis.proofs.StateValidity.{StateValid}
 use Rattle.synthesis.proofs.SynthesisedMachine.{made-valid}

@@ -19,12 +19,12 @@ use Rattle.cfg.proofs.Admitted.{ValidInstruction}
 use Rattle.fsmd.specs.declared.Wire.{Wire}
 use Rattle.fsmd.specs.Table.{validReference, validWires, validState}
 use Rattle.grouping.specs.Grouping.{Groups}
-use Rattle.synthesis.specs.Placement.{order}
-use Rattle.synthesis.specs.Wires.{wire, set-wire, and-wire, or-wire, and-not-wire, select-wire, selects, Edge, Point, Build, fresh, join, joins, arrive, start}
-use Rattle.synthesis.specs.Wires.{instructionWire, assign, assigns, close, leadsTo, towards, enter, after, put, build, leaves, nextStateOf, exit, exits, closeState, stateOf}
+use Rattle.placement.specs.Placement.{order}
+use Rattle.state.specs.Wires.{wire, set-wire, and-wire, or-wire, and-not-wire, select-wire, selects, Edge, Point, Build, fresh, join, joins, arrive, start}
+use Rattle.state.specs.Wires.{instructionWire, assign, assigns, close, leadsTo, towards, enter, after, put, build, leaves, nextStateOf, exit, exits, closeState, stateOf}
 use Rattle.synthesis.proofs.GraphFacts.{ValidCode, Compares, BlockFits, GraphFits}
 use Rattle.synthesis.proofs.SelectionCount.{length-selects}
-use Rattle.synthesis.proofs.StateOrder.{StateOrder}
+use Rattle.placement.proofs.StateOrder.{StateOrder}
 use Rattle.synthesis.proofs.FoundEdges.{exit-found}
 use Rattle.synthesis.proofs.WireValidity.{Reference, References, reference-more, references-more, reference-at, references-set, new-references, register-references, reference-valid, references-valid, set-valid, select-valid, two-valid, and-two, or-two, and-not-two, comparison-two, instruction-valid, wires-append, one-wire, cons-wires, no-wires, selects-valid}
 

@@ -16,10 +16,10 @@ use Rattle.fsmd.proofs.WrittenTable.{wireCount}
 use Rattle.grouping.specs.Grouping.{Groups, groups}
 use Rattle.grouping.proofs.Reach.{Closed, valid-closed}
 use Rattle.grouping.proofs.GroupingLaws.{grouped}
-use Rattle.synthesis.specs.Wires.{stateOf}
+use Rattle.state.specs.Wires.{stateOf}
 use Rattle.synthesis.specs.Synthesis.{machineFor, machine}
 use Rattle.synthesis.proofs.GraphFacts.{graph-fits}
-use Rattle.synthesis.proofs.StateOrder.{StateOrder, groups-arranged}
+use Rattle.placement.proofs.StateOrder.{StateOrder, groups-arranged}
 use Rattle.synthesis.proofs.StateValidity.{StateValid, state-valid}
 use Rattle.synthesis.proofs.WireCount.{machine-count}
 

@@ -10,9 +10,9 @@ use lib.Dec.{eqb}
 use lib.ListN.{length, getD, take, drop, replicate, set, length-append, length-replicate, length-set, length-drop, getD-replicate, replicate-append-replicate, take-append-drop, drop-of-length-le}
 use lib.Seq.{take-at, drop-at, take-suc, take-all, take-length, drop-drop, drop-append-le, length-take-le, paste, paste-zero, paste-suc, length-paste, sets-eq}
 use Rattle.runs.specs.Lists.{mem}
-use Rattle.synthesis.specs.PlacementBytes.{marked}
+use Rattle.placement.specs.PlacementBytes.{marked}
 use Rattle.synthesis.specs.StateWords.{written, withStates}
-use Rattle.synthesis.proofs.PlacementSteps.{marked-set, no-marks}
+use Rattle.placement.proofs.PlacementSteps.{marked-set, no-marks}
 use Rattle.synthesis.proofs.TableWords.{written-over, no-states}
 
 -- ---- words copied one by one

@@ -17,8 +17,8 @@ use Rattle.cfg.specs.Graph.{codeOf, executeAll, holds, leave, runBlock}
 use Rattle.fsmd.specs.declared.Wire.{Wire}
 use Rattle.fsmd.specs.Machine.{worked}
 use Rattle.grouping.specs.Grouping.{Groups}
-use Rattle.synthesis.specs.Wires.{set-wire, Edge, Point, Build, fresh, join, joins, arrive}
-use Rattle.synthesis.specs.Wires.{assign, assigns, edge, close, towards, after, exit, exits, closeState, nextStateOf}
+use Rattle.state.specs.Wires.{set-wire, Edge, Point, Build, fresh, join, joins, arrive}
+use Rattle.state.specs.Wires.{assign, assigns, edge, close, towards, after, exit, exits, closeState, nextStateOf}
 use Rattle.synthesis.proofs.GraphFacts.{ValidCode, Compares, BlockFits}
 use Rattle.synthesis.proofs.WireValues.{set-value}
 use Rattle.synthesis.proofs.Environments.{at, worked-append, worked-nil, worked-cons, Grows, grows-refl, grows-trans, wires-grow}

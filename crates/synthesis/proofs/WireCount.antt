@@ -19,12 +19,12 @@ use Rattle.fsmd.specs.declared.Wire.{Wire}
 use Rattle.fsmd.specs.Layout.{none}
 use Rattle.fsmd.proofs.WrittenTable.{wireCount}
 use Rattle.grouping.specs.Grouping.{Groups}
-use Rattle.synthesis.specs.Placement.{members, order}
+use Rattle.placement.specs.Placement.{members, order}
 use Rattle.synthesis.specs.Synthesis.{machineFor}
-use Rattle.synthesis.specs.Wires.{wire, set-wire, and-wire, or-wire, and-not-wire, select-wire, selects, Edge, Point, Build, fresh, join, joins, arrive, start}
-use Rattle.synthesis.specs.Wires.{instructionWire, assign, assigns, close, leadsTo, towards, enter, after, put, build, leaves, nextStateOf, exit, exits, closeState, stateOf}
+use Rattle.state.specs.Wires.{wire, set-wire, and-wire, or-wire, and-not-wire, select-wire, selects, Edge, Point, Build, fresh, join, joins, arrive, start}
+use Rattle.state.specs.Wires.{instructionWire, assign, assigns, close, leadsTo, towards, enter, after, put, build, leaves, nextStateOf, exit, exits, closeState, stateOf}
 use Rattle.synthesis.proofs.GraphFacts.{GraphFits}
-use Rattle.synthesis.proofs.PlacementLaws.{order-length}
+use Rattle.placement.proofs.PlacementLaws.{order-length}
 use Rattle.synthesis.proofs.SelectionCount.{selects-short}
 use Rattle.synthesis.proofs.StateValidity.{EdgesValid, BuildValid, edges-towards, put-valid, build-valid, empty-valid}
 

@@ -18,8 +18,8 @@ use Rattle.cfg.specs.declared.Instruction.{Instruction}
 use Rattle.cfg.proofs.Admitted.{ValidInstruction}
 use Rattle.fsmd.specs.declared.Wire.{Wire}
 use Rattle.fsmd.specs.Table.{validReference, validWire, validWires}
-use Rattle.synthesis.specs.Wires.{wire, set-wire, select-wire, selects}
-use Rattle.synthesis.specs.Wires.{instructionWire}
+use Rattle.state.specs.Wires.{wire, set-wire, select-wire, selects}
+use Rattle.state.specs.Wires.{instructionWire}
 use Rattle.synthesis.proofs.GraphFacts.{two-operands}
 
 -- ---- references, where the next wire is number n

@@ -17,7 +17,7 @@ use Rattle.cfg.specs.declared.Instruction.{Instruction}
 use Rattle.cfg.specs.Graph.{valueOf}
 use Rattle.fsmd.specs.Machine.{wireValue}
 use Rattle.synthesis.proofs.GraphFacts.{two-operands}
-use Rattle.synthesis.specs.Wires.{wire, set-wire, and-wire, or-wire, and-not-wire, select-wire, instructionWire}
+use Rattle.state.specs.Wires.{wire, set-wire, and-wire, or-wire, and-not-wire, select-wire, instructionWire}
 use Rattle.cfg.proofs.Admitted.{ValidInstruction}
 
 -- ---- the wires that synthesis adds by itself, where `at` reads a reference

@@ -12,8 +12,8 @@ use Rattle.fsmd.specs.Machine.{State}
 use Rattle.fsmd.specs.Table.{wireWordsOf, recordsOf}
 use Rattle.grouping.specs.Grouping.{groups}
 use Rattle.grouping.specs.Bytes.{edgesIn}
-use Rattle.synthesis.specs.PlacementBytes.{marked}
-use Rattle.synthesis.specs.Wires.{stateOf}
+use Rattle.placement.specs.PlacementBytes.{marked}
+use Rattle.state.specs.Wires.{stateOf}
 
 -- words t with the words s from number `at` on
 abbrev pub written : ℕ → List ℕ → List ℕ → List ℕ

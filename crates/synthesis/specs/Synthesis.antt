@@ -13,7 +13,7 @@ use Rattle.fsmd.specs.Layout.{machineWords}
 use Rattle.fsmd.specs.Machine.{FSMD}
 use Rattle.fsmd.specs.Table.{tableOf}
 use Rattle.grouping.specs.Grouping.{Groups, groups}
-use Rattle.synthesis.specs.Wires.{stateOf}
+use Rattle.state.specs.Wires.{stateOf}
 use Rattle.synthesis.specs.declared.SynthesisAnswer.{SynthesisAnswer}
 use Rattle.synthesis.specs.declared.SynthesisAnswer.the-variants.{Refused, Made}
 

@@ -1,7 +1,5 @@
 // The machine table of an admitted graph: its head, then the wires and the record of one state after another.
 use crate::SynthesisAnswer;
-use crate::placement;
-use crate::state;
 use cfg::Graph;
 use cfg::admission;
 use fsmd::Machine;
@@ -16,7 +14,7 @@ ghost use Rattle.runs.specs.Lists.{mem};
 ghost use Rattle.cfg.specs.Table.{graphOf, admitted};
 ghost use Rattle.fsmd.specs.Layout.{maxBlocks, maxRegisters, maxWires, recordWords, recordsOffset, machineWords};
 ghost use Rattle.fsmd.specs.Table.{tableOf};
-ghost use Rattle.synthesis.specs.PlacementBytes.{marked};
+ghost use Rattle.placement.specs.PlacementBytes.{marked};
 ghost use Rattle.synthesis.specs.Synthesis.{machine, synthesisAnswer, synthesisWords};
 ghost use Rattle.synthesis.specs.StateWords.{written, withStates, firstStates, wireCount, Prepared, Filled};
 

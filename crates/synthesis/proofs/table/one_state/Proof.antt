@@ -11,11 +11,11 @@ use borrow.Rule.Slice.PartMut.{same-len-mid, putMid}
 use Rattle.cfg.specs.Table.{graphOf}
 use Rattle.grouping.specs.Grouping.{groups}
 use Rattle.grouping.proofs.Reach.{admitted-closed}
-use Rattle.synthesis.specs.Placement.{order}
-use Rattle.synthesis.specs.Wires.{Point}
-use Rattle.synthesis.specs.PlacementBytes.{membersIn, placeIn}
-use Rattle.synthesis.specs.BlocksMaking.{stateBlocks}
-use Rattle.synthesis.proofs.PlacedOrder.{placed-order}
+use Rattle.placement.specs.Placement.{order}
+use Rattle.state.specs.Wires.{Point}
+use Rattle.placement.specs.PlacementBytes.{membersIn, placeIn}
+use Rattle.state.specs.BlocksMaking.{stateBlocks}
+use Rattle.placement.proofs.PlacedOrder.{placed-order}
 use Rattle.synthesis.proofs.MachineTable.{nth}
 use Rattle.synthesis.proofs.StateBlocks.{pointOf, all-placeable, state-is}
 use Rattle.synthesis.proofs.StatePut.{groups-held, drop-zeros, below, few-states, first-low, registers-low, words-long, room-for, made-low, made-count, made-table, made-words}

@@ -1,0 +1,4 @@
+pub mod PlacementLaws
+pub mod PlacementSteps
+pub mod PlacedOrder
+pub mod StateOrder

@@ -1,0 +1,93 @@
+-- The placement code's meaning is the order of a state's blocks. Assumes nothing.
+use Prim.Native.Nat.{ℕ, zero, suc, _+_, _-_, _≤_, _<_}
+use native.Mathlib.Omega.{arith}
+use native.Mathlib.Decide.{decLt}
+use mathlib.Core.Bool.{Bool, not, _&&_, _||_, true, false}
+use mathlib.Core.Path.{_≡_, refl, sym, _∙_, ap, fun-ext}
+use mathlib.Core.List.{List, [], _∷_, _++_}
+use mathlib.Core.Option.{Option}
+use lib.Dec.{eqb}
+use lib.ListN.{length, getD, List·getD-eq-default}
+use borrow.Author.Tests.{ne-eqb}
+use Rattle.runs.specs.Lists.{upFrom, mem, only, keep, every, first, padded}
+use Rattle.runs.proofs.ListLaws.{getD-padded, length-padded, length-upFrom}
+use Rattle.cfg.specs.Graph.{CFG, successors}
+use Rattle.fsmd.specs.Layout.{none}
+use Rattle.grouping.specs.Grouping.{Groups, groups}
+use Rattle.grouping.specs.Bytes.{edgesIn}
+use Rattle.grouping.proofs.Reach.{Closed}
+use Rattle.grouping.proofs.GroupingLaws.{Grouped, grouped}
+use Rattle.placement.specs.Placement.{members, ready, placeNext, place, order}
+use Rattle.placement.specs.PlacementBytes.{marked, ofState, membersIn, nextIn, placeIn}
+use Rattle.placement.proofs.PlacementLaws.{order-turns}
+
+-- the same blocks are placed where the bytes say what the graph and its grouping say
+place-alike : (g : CFG) (s : Groups) (edges starts blocks : List ℕ) → ((n : ℕ) → edgesIn edges n ≡ successors g n)
+    → ((x : ℕ) → marked starts x ≡ mem x (s .starters)) → (n : ℕ) (placed : List ℕ) → placeIn edges starts blocks n placed ≡ place g s blocks n placed
+unfolding placeIn place
+place-alike g s edges starts blocks e m zero placed = refl
+place-alike g s edges starts blocks e m (suc n) placed =
+    ap (λ (f : ℕ → List ℕ). placeNext (first (nextIn edges starts blocks (λ x. mem x placed)) blocks) f) (fun-ext (λ x. place-alike g s edges starts blocks e m n (x ∷ placed)))
+    ∙ ap (λ (p : ℕ → Bool). placeNext (first p blocks) (λ x. place g s blocks n (x ∷ placed))) (fun-ext due)
+  where
+    passing : (x u : ℕ) → (not (mem x (edgesIn edges u)) || mem u placed) ≡ (not (mem x (successors g u)) || mem u placed)
+    passing x u = ap (λ (l : List ℕ). not (mem x l) || mem u placed) (e u)
+
+    due : (x : ℕ) → nextIn edges starts blocks (λ x. mem x placed) x ≡ (not (mem x placed) && ready g s blocks placed x)
+    due x =
+        ap (λ (b : Bool). not (mem x placed) && (b || every (λ u. not (mem x (edgesIn edges u)) || mem u placed) blocks)) (m x)
+        ∙ ap (λ (p : ℕ → Bool). not (mem x placed) && (mem x (s .starters) || every p blocks)) (fun-ext (passing x))
+
+-- more numbers, none of which passes
+only-more : (p : ℕ → Bool) (k n m : ℕ) → ((x : ℕ) → k + n ≤ x → p x ≡ false) → only p (upFrom k (n + m)) ≡ only p (upFrom k n)
+only-more p k zero zero f = refl
+only-more p k zero (suc m) f =
+    let e : zero + suc m ≡ suc (zero + m) = omega arith in
+    rw (e, f k (omega arith)) (only-more p (suc k) zero m (λ x h. f x (omega arith)))
+only-more p k (suc n) m f =
+    let e : suc n + m ≡ suc (n + m) = omega arith in
+    rw e (ap (keep (p k) k) (only-more p (suc k) n m (λ x h. f x (omega arith))))
+
+only-length : (p : ℕ → Bool) (l : List ℕ) → length (only p l) ≤ length l
+only-length p [] = omega arith
+only-length p (x ∷ l) = go (p x) (only-length p l)
+  where
+    go : (b : Bool) → length (only p l) ≤ length l → length (keep b x (only p l)) ≤ suc (length l)
+    go true h = omega arith
+    go false h = omega arith
+
+module _ (g : CFG) (a : Closed g) (k : ℕ) (k-in : k < length (groups g .starters)) where
+  states-length : length (groups g .states) ≡ length (g .blocks)
+  states-length = grouped g a .all-blocks
+
+  k-low : k < 64
+  k-low = let n = grouped g a .few-states in let b = a .few-blocks in omega arith
+
+  outside : (x : ℕ) → length (g .blocks) ≤ x → ofState (groups g .states) k x ≡ false
+  outside x h =
+      ne-eqb (getD (groups g .states) x none) k
+      (λ (e : getD (groups g .states) x none ≡ k).
+      let d : getD (groups g .states) x none ≡ none = List·getD-eq-default (groups g .states) none {n = x} (omega (arith, states-length)) in
+      omega (arith, k-low))
+
+  pub members-alike : membersIn (groups g .states) k ≡ members g (groups g) k
+  unfolding members
+  members-alike =
+      let b = a .few-blocks in
+      let n : 64 ≡ length (g .blocks) + (64 - length (g .blocks)) = omega arith in
+      ap (λ (m : ℕ). only (ofState (groups g .states) k) (upFrom 0 m)) n
+      ∙ only-more (ofState (groups g .states) k) 0 (length (g .blocks)) (64 - length (g .blocks)) (λ x h. outside x (omega arith))
+
+  pub members-few : length (members g (groups g) k) ≤ 64
+  unfolding members
+  members-few =
+      let l = only-length (ofState (groups g .states) k) (upFrom 0 (length (g .blocks))) in
+      let b = a .few-blocks in
+      omega (arith, length-upFrom 0 (length (g .blocks)))
+
+  pub placed-order : (edges starts : List ℕ) → ((n : ℕ) → edgesIn edges n ≡ successors g n)
+      → ((x : ℕ) → marked starts x ≡ mem x (groups g .starters)) → placeIn edges starts (membersIn (groups g .states) k) 64 [] ≡ order g (groups g) k
+  placed-order edges starts e m =
+      ap (λ (l : List ℕ). placeIn edges starts l 64 []) members-alike
+      ∙ place-alike g (groups g) edges starts (members g (groups g) k) e m 64 []
+      ∙ order-turns g a k k-in 64 members-few

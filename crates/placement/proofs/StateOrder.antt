@@ -1,0 +1,97 @@
+-- What a run through a state uses of the grouping and the placement, as tests. Assumes nothing.
+use Prim.Native.Nat.{ℕ, _≤_, _<_}
+use mathlib.Core.Bool.{true, false}
+use mathlib.Core.Logic.{_⊎_, inl, inr, ⊎-map}
+use mathlib.Core.Path.{_≡_, refl, sym, _∙_, ap}
+use mathlib.Core.List.{List, [], _∷_}
+use native.Mathlib.Omega.{arith}
+use lib.ListN.{length, getD}
+use Rattle.runs.specs.Lists.{mem}
+use Rattle.runs.proofs.Sets.{In, mem→In, In→mem, Out→mem, in-getD, getD-in}
+use Rattle.cfg.specs.Graph.{CFG, successors}
+use Rattle.fsmd.specs.Layout.{none}
+use Rattle.grouping.specs.Grouping.{Groups, groups}
+use Rattle.grouping.proofs.Reach.{Closed}
+use Rattle.grouping.proofs.GroupingLaws.{Grouped, grouped}
+use Rattle.placement.specs.Placement.{members, order}
+use Rattle.placement.proofs.PlacementLaws.{Forward, Placed, placed-states, order-length}
+
+-- each of vs is a starter or among xs
+abbrev pub Ahead : List ℕ → List ℕ → List ℕ → Type 0
+Ahead starters xs [] = Unit {0}
+Ahead starters xs (v ∷ vs) = ((mem v starters ≡ true) ⊎ (mem v xs ≡ true)) × Ahead starters xs vs
+
+-- no block of a list is a starter, and each successor is a starter or stands later in the list
+abbrev pub Ordered : CFG → List ℕ → List ℕ → Type 0
+Ordered g starters [] = Unit {0}
+Ordered g starters (x ∷ xs) = (mem x starters ≡ false) × Ahead starters xs (successors g x) × Ordered g starters xs
+
+-- the blocks of state k, whose starter is y, in order
+pub record StateOrder (g : CFG) (s : Groups) (k y : ℕ) : Type 0 where
+  pub others : List ℕ
+  pub order-is : order g s k ≡ y ∷ others
+  pub starter : mem y (s .starters) ≡ true
+  pub ahead : Ahead (s .starters) others (successors g y)
+  pub ordered : Ordered g (s .starters) others
+
+-- of the whole grouping: few states, block 0 in state 0, and each starter's state is one, its own and in order
+pub record Arranged (g : CFG) (s : Groups) : Type 0 where
+  pub few : length (s .starters) ≤ none
+  pub entry : mem 0 (s .starters) ≡ true
+  pub entry-state : getD (s .states) 0 none ≡ 0
+  pub home : (y : ℕ) → mem y (s .starters) ≡ true → getD (s .states) y none < length (s .starters)
+  pub own : (y : ℕ) → mem y (s .starters) ≡ true → getD (s .starters) (getD (s .states) y none) none ≡ y
+  pub placed : (y : ℕ) → mem y (s .starters) ≡ true → StateOrder g s (getD (s .states) y none) y
+  pub sized : (k : ℕ) → length (order g s k) ≤ length (members g s k)
+
+ahead-made : (starters xs vs : List ℕ) → ((v : ℕ) → In v vs → In v starters ⊎ In v xs) → Ahead starters xs vs
+ahead-made starters xs [] h = tt
+ahead-made starters xs (v ∷ vs) h = (⊎-map (In→mem v starters) (In→mem v xs) (h v (inl refl)), ahead-made starters xs vs (λ w i. h w (inr i)))
+
+ordered-made : (g : CFG) (starters l : List ℕ) → Forward g starters l → ((x : ℕ) → In x l → In x starters → ⊥) → Ordered g starters l
+ordered-made g starters [] f o = tt
+ordered-made g starters (x ∷ l) f o =
+    (Out→mem x starters (o x (inl refl)), ahead-made starters l (successors g x) (f .0), ordered-made g starters l (f .1) (λ z i. o z (inr i)))
+
+module _ (g : CFG) (a : Closed g) where
+  state-order : (k : ℕ) → k < length (groups g .starters) → StateOrder g (groups g) k (getD (groups g .starters) k none)
+  state-order k h = record {
+    others = p .others;
+    order-is = p .starter-first none;
+    starter = In→mem (getD (groups g .starters) k none) (groups g .starters) (getD-in (groups g .starters) k none h);
+    ahead = ahead-made (groups g .starters) (p .others) (successors g (getD (groups g .starters) k none)) (f .0);
+    ordered = ordered-made g (groups g .starters) (p .others) (f .1) (p .no-starter);
+  }
+    where
+      p : Placed g (groups g) k
+      p = placed-states g a k h
+
+      f : Forward g (groups g .starters) (getD (groups g .starters) k none ∷ p .others)
+      f = rw (p .starter-first none) at (p .forward)
+
+  pub groups-arranged : Arranged g (groups g)
+  groups-arranged = record {
+    few = let n = G .few-states in let b = a .few-blocks in omega arith;
+    entry = In→mem 0 (groups g .starters) zero-in;
+    entry-state = sym (ap (λ (z : ℕ). getD (groups g .states) z none) (G .entry-first none)) ∙ G .starter-home 0 none (G .some-state);
+    home = λ y m. of-starter y m .0;
+    own = λ y m. of-starter y m .1;
+    placed = λ y m. of-starter y m .2;
+    sized = order-length g (groups g);
+  }
+    where
+      G : Grouped g (groups g)
+      G = grouped g a
+
+      zero-in : In 0 (groups g .starters)
+      zero-in = rw (G .entry-first none) at (getD-in (groups g .starters) 0 none (G .some-state))
+
+      of-starter : (y : ℕ) → mem y (groups g .starters) ≡ true
+          → (getD (groups g .states) y none < length (groups g .starters))
+          × (getD (groups g .starters) (getD (groups g .states) y none) none ≡ y)
+          × StateOrder g (groups g) (getD (groups g .states) y none) y
+      of-starter y m =
+          let r = in-getD y (groups g .starters) none (mem→In y (groups g .starters) m) in
+          let e : getD (groups g .states) y none ≡ r .0 = rw (r .2) at (G .starter-home (r .0) none (r .1)) in
+          let o : StateOrder g (groups g) (r .0) y = rw (r .2) at (state-order (r .0) (r .1)) in
+          (rw e (r .1), rw e (r .2), rw e o)

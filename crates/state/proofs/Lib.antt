@@ -1,0 +1,17 @@
+pub mod Counting
+pub mod StoredWires
+pub mod Selections
+pub mod UsedUp
+pub mod Points
+pub mod EdgeLaws
+pub mod AddedEdge
+pub mod Folds
+pub mod WalkLaws
+pub mod JoinLaws
+pub mod EnterLaws
+pub mod AssignLaws
+pub mod CloseLaws
+pub mod PutLaws
+pub mod StarterLaws
+pub mod ExitLaws
+pub mod BlocksLaws

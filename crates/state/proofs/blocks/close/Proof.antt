@@ -1,0 +1,202 @@
+use Prim.Native.Nat.{ℕ, _+_, _≤_, _<_}
+use native.Mathlib.Omega.{arith}
+use mathlib.Core.Path.{_≡_, refl, sym, ap, _∙_, subst}
+use mathlib.Core.List.{List}
+use denote.Ref.{now}
+use lib.ListN.{length}
+use Rattle.cfg.specs.declared.Ending.{Ending}
+use Rattle.cfg.specs.declared.Ending.the-variants.{Goto, Ite, Halt}
+use Rattle.cfg.specs.Table.{blockAt}
+use Rattle.state.specs.Wires.{close}
+use Rattle.state.specs.Making.{Aims, Room, pointIn}
+use Rattle.state.proofs.CloseLaws.{ending-of, close-goto, close-halt, close-ite, length-ite}
+use borrow.Author.Needs.{needs}
+use Rattle.state.proofs.blocks.close.Statement.{statement}
+use Rattle.state.proofs.blocks.close.Tie as tie
+use Rattle.state.proofs.blocks.close.Reads as reads
+use Rattle.state.proofs.blocks.close.Lts as lts
+use Rattle.cfg.proofs.decode.ending_at.Reads as ending-at-reads
+use Rattle.state.proofs.blocks.branch.Reads as branch-reads
+use Rattle.state.proofs.blocks.fork.Reads as fork-reads
+use Rattle.state.proofs.edges.add.Reads as add-reads
+
+ite : (c : tie.After-ending2) → blockAt (now (c .before .before .before .before .before .before .before .before .args .graph)) (c .before .before .before .before .before .before .before .before .args .x) .ending ≡ Ite (c .ending2 .given .0 .0) (c .ending2 .given .0 .1 .0) (c .ending2 .given .0 .1 .1 .0)
+ite c = ending-of (now (c .before .before .before .before .before .before .before .before .args .graph)) (c .before .before .before .before .before .before .before .before .args .x) ∙ sym (c .before .before .ending-at .ensures) ∙ c .ending2 .given .1
+
+aimed : (c : tie.After-ending2) → Aims (Ite (c .ending2 .given .0 .0) (c .ending2 .given .0 .1 .0) (c .ending2 .given .0 .1 .1 .0))
+aimed c = subst Aims (ite c) (c .before .before .before .before .before .before .before .before .pre .0 .3)
+
+forked : (c : tie.After-ending2) → Room (c .before .before .before .before .before .before .before .before .args .front .wires + 3) (now (c .before .before .before .before .before .before .before .before .args .wires))
+forked c =
+    let a = c .before .before .before .before .before .before .before .before .args in
+    let p = c .before .before .before .before .before .before .before .before .pre in
+    let g = c .ending2 .given in
+    let e : length (close (blockAt (now (a .graph)) (a .x) .ending) (pointIn (a .front .arrival) (now (a .values)) (a .front .wires) (now (a .wires))) .wires) ≡ a .front .wires + 3 =
+    length-ite (length (now (a .values))) (now (a .targets)) (now (a .rows)) (now (a .targets)) (now (a .rows)) (a .count) (a .front .arrival) (now (a .values)) (a .front .wires) (now (a .wires)) (p .1 .1 .0 .fits)
+    (blockAt (now (a .graph)) (a .x) .ending) (g .0 .0) (g .0 .1 .0) (g .0 .1 .1 .0) (ite c) in
+    subst (λ (k : ℕ). Room k (now (a .wires))) e (p .1 .1 .1)
+
+-- src/blocks.rt:163:57
+mul-ending-at : tie.Need-mul-ending-at
+mul-ending-at c = search needs
+
+-- src/blocks.rt:163:43
+add-ending-at : tie.Need-add-ending-at
+add-ending-at c = search needs
+
+-- src/blocks.rt:163:43
+add-ending-at-2 : tie.Need-add-ending-at-2
+add-ending-at-2 c = search needs
+
+-- src/blocks.rt:163:9
+ending-at-requires : tie.Need-ending-at-requires
+ending-at-requires c κs = search needs
+
+-- src/blocks.rt:165:22
+enum-known-ending : tie.Need-enum-known-ending
+enum-known-ending c = search needs
+
+-- src/blocks.rt:166:13
+add-requires : tie.Need-add-requires
+add-requires c κs =
+    let p = c .before .before .before .before .before .before .before .before .before .before .before .pre in
+    let e : blockAt (now (c .before .before .before .before .before .before .before .before .before .before .before .args .graph)) (c .before .before .before .before .before .before .before .before .before .before .before .args .x) .ending ≡ Goto (c .before .before .before .ending .given .0 .0) =
+    ending-of (now (c .before .before .before .before .before .before .before .before .before .before .before .args .graph)) (c .before .before .before .before .before .before .before .before .before .before .before .args .x) ∙ sym (c .before .before .before .before .before .ending-at .ensures) ∙ c .before .before .before .ending .given .1 in
+    let lt : Aims (Goto (c .before .before .before .ending .given .0 .0)) = rw e at (p .0 .3) in
+    (search needs, (p .0 .2, λ h. omega arith))
+
+-- src/blocks.rt:168:24
+add-t24 : tie.Need-add-t24
+add-t24 c = search needs
+
+-- src/blocks.rt:172:21
+enum-known-ending-2 : tie.Need-enum-known-ending-2
+enum-known-ending-2 c = search needs
+
+-- src/blocks.rt:173:13
+branch-requires : tie.Need-branch-requires
+branch-requires c κs = forked (c .before .before)
+
+-- src/blocks.rt:174:13
+fork-requires : tie.Need-fork-requires
+fork-requires c κs =
+    let p = c .before .before .before .before .before .before .before .before .before .before .before .before .before .before .before .pre in
+    let room = forked (c .before .before .before .before .before .before .before) in
+    let lt = aimed (c .before .before .before .before .before .before .before) in
+    (p .1 .0, (p .0 .2, lt .0, lt .1, omega (arith, room .few)))
+
+-- src/blocks.rt:176:24
+add-t32 : tie.Need-add-t32
+add-t32 c = search needs
+
+-- src/blocks.rt:177:24
+add-t33 : tie.Need-add-t33
+add-t33 c =
+    let room = forked (c .before .before .before .before .before .before .before .before .before .before .before .before) in
+    omega (arith, room .few)
+
+-- src/blocks.rt:181:24
+enum-told : tie.Need-enum-told
+enum-told c = search needs
+
+-- src/blocks.rt:181:13
+add-requires-2 : tie.Need-add-requires-2
+add-requires-2 c κs = search needs
+
+-- src/blocks.rt:183:24
+add-t39 : tie.Need-add-t39
+add-t39 c = search needs
+
+-- src/blocks.rt:154:1
+same-length : tie.Need-same-length
+same-length c = search needs
+
+-- src/blocks.rt:154:1
+same-length-2 : tie.Need-same-length-2
+same-length-2 c = search needs
+
+-- src/blocks.rt:154:1
+returns : tie.Need-returns
+returns c =
+    let a = c .before .before .before .before .before .before .before .before .before .before .before .before .before .before .before .before .args in
+    let p = c .before .before .before .before .before .before .before .before .before .before .before .before .before .before .before .before .pre in
+    let y = c .before .before .before .before .before .before .before .before .ending .given .0 .0 in
+    let e : blockAt (now (a .graph)) (a .x) .ending ≡ Goto y = ending-of (now (a .graph)) (a .x) ∙ sym (c .before .before .before .before .before .before .before .before .before .before .ending-at .ensures) ∙ c .before .before .before .before .before .before .before .before .ending .given .1 in
+    let lt : Aims (Goto y) = rw e at (p .0 .3) in (
+      close-goto (length (now (a .values))) (now (a .targets)) (now (a .rows)) (c .before .before .before .before .add .last .0) (c .before .before .before .before .add .last .1 .0) (a .count) (a .front .arrival) (now (a .values)) (a .front .wires) (now (a .wires)) (p .1 .1 .0 .fits)
+          (blockAt (now (a .graph)) (a .x) .ending) y e lt (c .before .before .before .before .add .ensures),
+      omega arith,
+    )
+
+-- src/blocks.rt:154:1
+same-length-3 : tie.Need-same-length-3
+same-length-3 c = search needs
+
+-- src/blocks.rt:154:1
+same-length-4 : tie.Need-same-length-4
+same-length-4 c = search needs
+
+-- src/blocks.rt:154:1
+same-length-5 : tie.Need-same-length-5
+same-length-5 c = search needs
+
+-- src/blocks.rt:154:1
+returns-2 : tie.Need-returns-2
+returns-2 c =
+    let a = c .before .before .before .before .before .before .before .before .before .before .before .before .before .before .before .before .before .before .before .before .args in
+    let p = c .before .before .before .before .before .before .before .before .before .before .before .before .before .before .before .before .before .before .before .before .pre in
+    let g = c .before .before .before .before .before .before .before .before .before .before .before .before .ending2 .given in
+    let lt = aimed (c .before .before .before .before .before .before .before .before .before .before .before .before) in (
+      close-ite (length (now (a .values))) (now (a .targets)) (now (a .rows)) (c .before .before .before .before .fork .last .0) (c .before .before .before .before .fork .last .1 .0) (a .count) (a .front .arrival) (now (a .values)) (a .front .wires) (now (a .wires)) (p .1 .1 .0 .fits)
+          (blockAt (now (a .graph)) (a .x) .ending) (g .0 .0) (g .0 .1 .0) (g .0 .1 .1 .0) (c .before .before .before .before .before .before .before .before .before .branch .last .0) (ite (c .before .before .before .before .before .before .before .before .before .before .before .before)) (lt .0) (lt .1) (c .before .before .before .before .before .before .before .before .before .branch .ensures) (c .before .before .before .before .fork .ensures),
+      omega arith,
+    )
+
+-- src/blocks.rt:154:1
+same-length-6 : tie.Need-same-length-6
+same-length-6 c = search needs
+
+-- src/blocks.rt:154:1
+same-length-7 : tie.Need-same-length-7
+same-length-7 c = search needs
+
+-- src/blocks.rt:154:1
+returns-3 : tie.Need-returns-3
+returns-3 c =
+    let a = c .before .before .before .before .before .before .before .before .before .before .before .before .before .before .before .args in
+    let p = c .before .before .before .before .before .before .before .before .before .before .before .before .before .before .before .pre in
+    let e : blockAt (now (a .graph)) (a .x) .ending ≡ Halt = ending-of (now (a .graph)) (a .x) ∙ sym (c .before .before .before .before .before .before .before .before .before .ending-at .ensures) ∙ c .before .before .before .before .before .before .before .enum-told .given .1 in (
+      close-halt (length (now (a .values))) (now (a .targets)) (now (a .rows)) (c .before .before .before .before .add2 .last .0) (c .before .before .before .before .add2 .last .1 .0) (a .count) (a .front .arrival) (now (a .values)) (a .front .wires) (now (a .wires)) (p .1 .1 .0 .fits)
+          (blockAt (now (a .graph)) (a .x) .ending) e (c .before .before .before .before .add2 .ensures),
+      omega arith,
+    )
+
+pub close-spec : {M : Type 1} → statement M
+close-spec =
+    tie.close
+    (tie.spec
+    mul-ending-at
+    add-ending-at
+    add-ending-at-2
+    ending-at-requires
+    enum-known-ending
+    add-requires
+    add-t24
+    enum-known-ending-2
+    branch-requires
+    fork-requires
+    add-t32
+    add-t33
+    enum-told
+    add-requires-2
+    add-t39
+    same-length
+    same-length-2
+    returns
+    same-length-3
+    same-length-4
+    same-length-5
+    returns-2
+    same-length-6
+    same-length-7
+    returns-3)

@@ -1,0 +1,211 @@
+use Rattle.state.specs.Wires.{joins}
+use Rattle.state.specs.Making.{pointIn}
+use Rattle.state.proofs.JoinLaws.{incoming}
+use Prim.Native.Nat.{ℕ, _+_, _-_, _*_, _≤_, _<_}
+use native.Mathlib.Omega.{arith}
+use mathlib.Core.Path.{_≡_, refl, sym, ap, _∙_, subst}
+use mathlib.Core.List.{List, [], _∷_}
+use mathlib.Core.Bool.{Bool, true, false}
+use denote.Ref.{now}
+use lib.ListN.{length, getD, take, drop}
+use Rattle.state.specs.Wires.{Point, enter}
+use Rattle.state.specs.Making.{Room, Held, buildIn}
+use Rattle.state.proofs.EnterLaws.{enter-start, enter-start-length, enter-none, enter-none-length, enter-first, paste-whole, source-length}
+use borrow.Author.Needs.{needs}
+use Rattle.state.proofs.joins.enter.Statement.{statement}
+use Rattle.state.proofs.joins.enter.Tie as tie
+use Rattle.state.proofs.joins.enter.Reads as reads
+use Rattle.state.proofs.joins.enter.Lts as lts
+use Rattle.state.proofs.edges.copy.Reads as copy-reads
+use Rattle.state.proofs.edges.next_edge.Reads as next-edge-reads
+use Rattle.state.proofs.joins.begin.Reads as begin-reads
+use Rattle.state.proofs.joins.join_all.Reads as join-all-reads
+
+-- what is entered by a first edge and further ones
+further : (c : tie.After-copy)
+    → enter (length (now (c .before .before .before .before .before .before .before .before .before .before .args .values))) false (c .before .before .before .before .before .before .before .before .before .before .args .x) (buildIn (length (now (c .before .before .before .before .before .before .before .before .before .before .args .values))) (now (c .before .before .before .before .before .before .before .before .before .before .args .targets)) (now (c .before .before .before .before .before .before .before .before .before .before .args .rows)) (c .before .before .before .before .before .before .before .before .before .before .args .made .edges) (c .before .before .before .before .before .before .before .before .before .before .args .made .wires) (now (c .before .before .before .before .before .before .before .before .before .before .args .wires)))
+    ≡ joins (incoming (length (c .copy .last .0)) (now (c .before .before .before .before .before .before .before .before .before .before .args .targets)) (now (c .before .before .before .before .before .before .before .before .before .before .args .rows)) (c .before .before .before .before .before .before .before .before .before .before .args .x) (c .before .before .before .before .before .before .before .before .before .before .args .made .edges) (c .before .before .before .before .next-edge .result + 1))
+    (pointIn (getD (now (c .before .before .before .before .before .before .before .before .before .before .args .rows)) (17 * c .before .before .before .before .next-edge .result) 0) (c .copy .last .0) (c .before .before .before .before .before .before .before .before .before .before .args .made .wires) (now (c .before .before .before .before .before .before .before .before .before .before .args .wires)))
+further c =
+    let a = c .before .before .before .before .before .before .before .before .before .before .args in
+    let p = c .before .before .before .before .before .before .before .before .before .before .pre in
+    let vs = now (a .values) in
+    let rows = now (a .rows) in
+    let r = length vs in
+    let i = c .before .before .before .before .next-edge .result in
+    let high = c .before .before .before .before .next-edge .ensures .high in
+    let lt : i < a .made .edges = omega (arith, c .before .before .before .if2 .left) in
+    let e : 17 * i + 1 + r - (17 * i + 1) ≡ r = omega arith in
+    let l = source-length r i (a .made .edges) rows (p .1 .0 .0) lt (omega (arith, p .0)) in
+    let es : take (17 * i + 1 + r - (17 * i + 1)) (drop (17 * i + 1) rows) ≡ take r (drop (17 * i + 1) rows) = ap (λ (k : ℕ). take k (drop (17 * i + 1) rows)) e in
+    let ev : c .copy .last .0 ≡ take r (drop (17 * i + 1) rows) =
+    c .copy .ensures ∙ paste-whole vs (take (17 * i + 1 + r - (17 * i + 1)) (drop (17 * i + 1) rows)) (ap length es ∙ l) ∙ es in
+    enter-first r (now (a .targets)) rows (a .made .edges) (a .x) (a .made .wires) (now (a .wires)) i (p .1 .0 .1) (c .before .before .before .before .next-edge .ensures) lt (c .copy .last .0) ev (ap length ev ∙ l)
+
+-- src/joins.rt:88:9
+begin-requires : tie.Need-begin-requires
+begin-requires c κs =
+    let a = c .before .before .before .before .before .before .before .args in
+    let p = c .before .before .before .before .before .before .before .pre in
+    let r = length (now (a .values)) in
+    let room : Room (length (enter r true (a .x) (buildIn r (now (a .targets)) (now (a .rows)) (a .made .edges) (a .made .wires) (now (a .wires))) .wires)) (now (a .wires)) =
+    rw (c .before .before .if1 .taken) at (p .1 .1 .1) in
+    let e = enter-start-length r (now (a .targets)) (now (a .rows)) (a .made .edges) (a .x) (a .made .wires) (now (a .wires)) in
+    (rw e at room, p .1 .0 .0)
+
+-- src/joins.rt:88:9
+same-length : tie.Need-same-length
+same-length c = search needs
+
+-- src/joins.rt:88:9
+same-length-2 : tie.Need-same-length-2
+same-length-2 c = search needs
+
+-- src/joins.rt:88:9
+returns : tie.Need-returns
+returns c =
+    let a = c .before .before .before .before .before .before .before .before .before .before .before .before .args in
+    let r = length (now (a .values)) in
+    let b = c .before .before .before .before .begin in
+    rw (c .before .before .before .before .before .before .before .if1 .taken)
+    (enter-start r (now (a .targets)) (now (a .rows)) (a .made .edges) (a .x) (a .made .wires) (now (a .wires))
+    (b .result .arrival) (b .last .1 .0) (b .result .wires) (b .last .0) (b .ensures .0 .0) (b .ensures .0 .1) (b .ensures .1 .0) (b .ensures .1 .1))
+
+-- src/joins.rt:90:9
+next-edge-requires : tie.Need-next-edge-requires
+next-edge-requires c κs = search needs
+
+-- src/joins.rt:92:9
+begin-requires-2 : tie.Need-begin-requires-2
+begin-requires-2 c κs =
+    let a = c .before .before .before .before .before .before .before .before .before .args in
+    let p = c .before .before .before .before .before .before .before .before .before .pre in
+    let r = length (now (a .values)) in
+    let room : Room (length (enter r false (a .x) (buildIn r (now (a .targets)) (now (a .rows)) (a .made .edges) (a .made .wires) (now (a .wires))) .wires)) (now (a .wires)) =
+    rw (c .before .before .before .before .if1 .left) at (p .1 .1 .1) in
+    let e = enter-none-length r (now (a .targets)) (now (a .rows)) (a .made .edges) (a .x) (a .made .wires) (now (a .wires)) (c .before .before .before .next-edge .result) (p .1 .0 .1) (c .before .before .before .next-edge .ensures) (c .before .before .if2 .taken) in
+    (rw e at room, p .1 .0 .0)
+
+-- src/joins.rt:92:9
+same-length-3 : tie.Need-same-length-3
+same-length-3 c = search needs
+
+-- src/joins.rt:92:9
+same-length-4 : tie.Need-same-length-4
+same-length-4 c = search needs
+
+-- src/joins.rt:92:9
+returns-2 : tie.Need-returns-2
+returns-2 c =
+    let a = c .before .before .before .before .before .before .before .before .before .before .before .before .before .before .args in
+    let p = c .before .before .before .before .before .before .before .before .before .before .before .before .before .before .pre in
+    let r = length (now (a .values)) in
+    let b = c .before .before .before .before .begin2 in
+    rw (c .before .before .before .before .before .before .before .before .before .if1 .left)
+    (enter-none r (now (a .targets)) (now (a .rows)) (a .made .edges) (a .x) (a .made .wires) (now (a .wires)) (c .before .before .before .before .before .before .before .before .next-edge .result) (p .1 .0 .1) (c .before .before .before .before .before .before .before .before .next-edge .ensures) (c .before .before .before .before .before .before .before .if2 .taken)
+    (b .result .arrival) (b .last .1 .0) (b .result .wires) (b .last .0) (b .ensures .0 .0) (b .ensures .0 .1) (b .ensures .1 .0) (b .ensures .1 .1))
+
+-- src/joins.rt:94:15
+mul-row : tie.Need-mul-row
+mul-row c = search needs
+
+-- src/joins.rt:95:34
+add-copy : tie.Need-add-copy
+add-copy c = search needs
+
+-- src/joins.rt:95:43
+add-copy-2 : tie.Need-add-copy-2
+add-copy-2 c = search needs
+
+-- src/joins.rt:95:43
+add-copy-3 : tie.Need-add-copy-3
+add-copy-3 c = search needs
+
+-- src/joins.rt:95:28
+mul-copy : tie.Need-mul-copy
+mul-copy c = search needs
+
+-- src/joins.rt:95:28
+sub-copy : tie.Need-sub-copy
+sub-copy c = search needs
+
+-- src/joins.rt:95:28
+part-copy-start : tie.Need-part-copy-start
+part-copy-start c = search needs
+
+-- src/joins.rt:95:28
+part-copy-end : tie.Need-part-copy-end
+part-copy-end c = search needs
+
+-- src/joins.rt:95:5
+copy-requires : tie.Need-copy-requires
+copy-requires c κs = search needs
+
+-- src/joins.rt:97:18
+mul-t25 : tie.Need-mul-t25
+mul-t25 c = search needs
+
+-- src/joins.rt:97:18
+shared-slice-read-t35 : tie.Need-shared-slice-read-t35
+shared-slice-read-t35 c = search needs
+
+-- src/joins.rt:100:51
+add-join-all : tie.Need-add-join-all
+add-join-all c = search needs
+
+-- src/joins.rt:100:5
+join-all-requires : tie.Need-join-all-requires
+join-all-requires c κs =
+    let a = c .before .before .before .before .before .before .before .before .before .before .before .before .before .before .before .args in
+    let p = c .before .before .before .before .before .before .before .before .before .before .before .before .before .before .before .pre in
+    let r = length (now (a .values)) in
+    let room : Room (length (enter r false (a .x) (buildIn r (now (a .targets)) (now (a .rows)) (a .made .edges) (a .made .wires) (now (a .wires))) .wires)) (now (a .wires)) =
+    rw (c .before .before .before .before .before .before .before .before .before .before .if1 .left) at (p .1 .1 .1) in
+    let i = c .before .before .before .before .before .before .before .before .before .next-edge in
+    let lt : i .result < a .made .edges = omega (arith, i .ensures .high, c .before .before .before .before .before .before .before .before .if2 .left) in
+    (p .0, ((omega arith, omega (arith, c .before .before .before .before .before .copy .kept .0, p .1 .0), p .1 .0 .1), (p .1 .1 .0, rw (further (c .before .before .before .before .before)) at room)))
+
+-- src/joins.rt:78:1
+same-length-5 : tie.Need-same-length-5
+same-length-5 c = search needs
+
+-- src/joins.rt:78:1
+same-length-6 : tie.Need-same-length-6
+same-length-6 c = search needs
+
+-- src/joins.rt:78:1
+returns-3 : tie.Need-returns-3
+returns-3 c =
+    let a = c .before .before .before .before .before .before .before .before .before .before .before .before .before .before .before .before .before .before .before .before .args in
+    let e = further (c .before .before .before .before .before .before .before .before .before .before) in
+    rw (c .before .before .before .before .before .before .before .before .before .before .before .before .before .before .before .if1 .left) (rw e (c .before .before .before .before .join-all .ensures))
+
+pub enter-spec : {M : Type 1} → statement M
+enter-spec =
+    tie.close
+    (tie.spec
+    begin-requires
+    same-length
+    same-length-2
+    returns
+    next-edge-requires
+    begin-requires-2
+    same-length-3
+    same-length-4
+    returns-2
+    mul-row
+    add-copy
+    add-copy-2
+    add-copy-3
+    mul-copy
+    sub-copy
+    part-copy-start
+    part-copy-end
+    copy-requires
+    mul-t25
+    shared-slice-read-t35
+    add-join-all
+    join-all-requires
+    same-length-5
+    same-length-6
+    returns-3)

@@ -1,0 +1,3 @@
+pub mod Wires
+pub mod Making
+pub mod BlocksMaking

@@ -1,0 +1,197 @@
+-- The wires of a state ("Wires" of paper 01). Assumes nothing.
+-- A reference below 16 is a register at the start of the cycle, and 16 + i is wire i of the state.
+use Prim.Native.Nat.{ℕ, suc, _+_}
+use mathlib.Core.Bool.{Bool, true, false, not}
+use mathlib.Core.List.{List, [], _∷_, _++_}
+use lib.ListN.{length, getD, set}
+use lib.Dec.{eqb, ltb}
+use Rattle.word.specs.Word.{choose, arity, codeOf as comparisonCode}
+use Rattle.runs.specs.Lists.{upFrom, mem, only}
+use Rattle.runs.specs.Runs.{Place, standing, halted}
+use Rattle.cfg.specs.declared.Instruction.{Instruction}
+use Rattle.cfg.specs.declared.Ending.{Ending}
+use Rattle.cfg.specs.declared.Ending.the-variants.{Goto, Ite, Halt}
+use Rattle.cfg.specs.Graph.{CFG, blockOf, codeOf}
+use Rattle.fsmd.specs.declared.Wire.{Wire}
+use Rattle.fsmd.specs.Layout.{maxRegisters, none}
+use Rattle.fsmd.specs.Machine.{State}
+use Rattle.grouping.specs.Grouping.{Groups}
+use Rattle.placement.specs.Placement.{order}
+
+abbrev pub wire : ℕ → ℕ → ℕ → ℕ → Wire
+wire code a b c = record { code = code; a = a; b = b; c = c }
+
+-- the codes that synthesis adds by itself
+abbrev pub set-wire : ℕ → Wire
+set-wire w = wire 1 w 0 0
+
+abbrev pub and-wire : ℕ → ℕ → Wire
+and-wire a b = wire 5 a b 0
+
+abbrev pub or-wire : ℕ → ℕ → Wire
+or-wire a b = wire 6 a b 0
+
+abbrev pub and-not-wire : ℕ → ℕ → Wire
+and-not-wire a b = wire 18 a b 0
+
+-- b where a is nonzero, else c
+abbrev pub select-wire : ℕ → ℕ → ℕ → Wire
+select-wire a b c = wire 19 a b c
+
+-- an edge out of a placed block: where it leads, the reference that says whether it is taken, and those of the registers along it
+pub record Edge : Type 0 where
+  pub target : Place
+  pub taken : ℕ
+  pub values : List ℕ
+
+-- a block in the making: the reference of its arrival, those of its registers, and the state's wires so far
+pub record Point : Type 0 where
+  pub arrival : ℕ
+  pub values : List ℕ
+  pub wires : List Wire
+
+-- the reference of the next wire
+abbrev pub fresh : List Wire → ℕ
+fresh ws = maxRegisters + length ws
+
+-- for each register in rising order: the source's value where the edge is taken, else the one so far
+abbrev pub selects : ℕ → List ℕ → List ℕ → List Wire
+selects taken [] soFar = []
+selects taken (v ∷ vs) [] = []
+selects taken (v ∷ vs) (s ∷ ss) = select-wire taken v s ∷ selects taken vs ss
+
+-- a further incoming edge: an `or` for the arrival, then a 19 for each register
+unfoldable pub join : Edge → Point → Point
+join e p =
+    let n = fresh (p .wires) in
+    record {
+      arrival = n;
+      values = upFrom (suc n) (length (e .values));
+      wires = p .wires ++ (or-wire (p .arrival) (e .taken) ∷ selects (e .taken) (e .values) (p .values));
+    }
+
+unfoldable pub joins : List Edge → Point → Point
+unfolding join
+joins [] p = p
+joins (e ∷ es) p = joins es (join e p)
+
+-- arrival and values of a block that is no starter, from its first incoming edge and each further one
+-- (every such block has an incoming edge: the first clause is never used, which is proved; it is a block not arrived at)
+unfoldable pub arrive : ℕ → List Edge → List Wire → Point
+unfolding joins
+arrive r [] ws = record { arrival = fresh ws; values = upFrom 0 r; wires = ws ++ (set-wire 0 ∷ []) }
+arrive r (e ∷ es) ws = joins es (record { arrival = e .taken; values = e .values; wires = ws })
+
+-- the starter arrives by a wire `set 1` and has the start values
+unfoldable pub start : ℕ → List Wire → Point
+start r ws = record { arrival = fresh ws; values = upFrom 0 r; wires = ws ++ (set-wire 1 ∷ []) }
+
+-- an instruction's wire: the same code over references, where `at` gives a register's; operands that the code does not read are 0
+unfoldable pub instructionWire : (ℕ → ℕ) → Instruction → Wire
+unfolding arity
+instructionWire at i =
+    wire (i .code) (choose (eqb (i .code) 1) (i .a) (at (i .a))) (choose (ltb (arity (i .code)) 2) 0 (at (i .b))) 0
+
+unfoldable pub assign : Instruction → Point → Point
+unfolding instructionWire
+assign i p =
+    record {
+      arrival = p .arrival;
+      values = set (p .values) (i .d) (fresh (p .wires));
+      wires = p .wires ++ (instructionWire (λ r. getD (p .values) r 0) i ∷ []);
+    }
+
+unfoldable pub assigns : List Instruction → Point → Point
+unfolding assign
+assigns [] p = p
+assigns (i ∷ is) p = assigns is (assign i p)
+
+-- the wires of a state so far, and the edges out of its placed blocks that lead to no placed block
+pub record Build : Type 0 where
+  pub wires : List Wire
+  pub edges : List Edge
+
+abbrev pub edge : Place → ℕ → Point → Edge
+edge target taken p = record { target = target; taken = taken; values = p .values }
+
+-- an ending's wires and edges, true first: an ite adds its comparison, `and` for true and 18 for false
+unfoldable pub close : Ending → Point → Build
+close (Goto t) p = record { wires = p .wires; edges = edge (standing t) (p .arrival) p ∷ [] }
+close (Ite c t f) p =
+    let n = fresh (p .wires) in
+    record {
+      wires = p .wires ++ (wire (comparisonCode (c .comparison)) (getD (p .values) (c .a) 0) (getD (p .values) (c .b) 0) 0
+          ∷ and-wire (p .arrival) n ∷ and-not-wire (p .arrival) n ∷ []);
+      edges = edge (standing t) (1 + n) p ∷ edge (standing f) (2 + n) p ∷ [];
+    }
+close Halt p = record { wires = p .wires; edges = edge halted (p .arrival) p ∷ [] }
+
+abbrev pub leadsTo : ℕ → Place → Bool
+leadsTo x (standing y) = eqb y x
+leadsTo x halted = false
+
+-- the edges whose target passes a test
+abbrev pub towards : (Place → Bool) → List Edge → List Edge
+towards p es = only (λ e. p (e .target)) es
+
+unfoldable pub enter : ℕ → Bool → ℕ → Build → Point
+unfolding arrive start
+enter r true x b = start r (b .wires)
+enter r false x b = arrive r (towards (leadsTo x) (b .edges)) (b .wires)
+
+unfoldable pub after : List Edge → Build → Build
+after es b = record { wires = b .wires; edges = es ++ b .edges }
+
+-- block x placed: its arrival and joins, its instructions, its ending; the edges that lead to it are used up
+unfoldable pub put : CFG → Groups → ℕ → Build → Build
+unfolding enter assigns close after
+put g s x b =
+    after (towards (λ p. not (leadsTo x p)) (b .edges))
+    (close (blockOf g x .ending) (assigns (codeOf (blockOf g x)) (enter (g .registers) (mem x (s .starters)) x b)))
+
+unfoldable pub build : CFG → Groups → List ℕ → Build → Build
+unfolding put
+build g s [] b = b
+build g s (x ∷ xs) b = build g s xs (put g s x b)
+
+-- ---- the exits: edges to starters and halts
+
+abbrev pub leaves : Groups → Place → Bool
+leaves s (standing y) = mem y (s .starters)
+leaves s halted = true
+
+-- the next state of an exit
+abbrev pub nextStateOf : Groups → Place → ℕ
+nextStateOf s (standing y) = getD (s .states) y none
+nextStateOf s halted = none
+
+-- a further exit: a `set` of its next state, a 19 for the next state, then one for each register
+unfoldable pub exit : Groups → Edge → Point → Point
+exit s e p =
+    let n = fresh (p .wires) in
+    record {
+      arrival = 1 + n;
+      values = upFrom (2 + n) (length (e .values));
+      wires = p .wires ++ (set-wire (nextStateOf s (e .target)) ∷ select-wire (e .taken) n (p .arrival) ∷ selects (e .taken) (e .values) (p .values));
+    }
+
+unfoldable pub exits : Groups → List Edge → Point → Point
+unfolding exit
+exits s [] p = p
+exits s (e ∷ es) p = exits s es (exit s e p)
+
+-- the first exit adds only its `set`; a point's arrival is here the next state's reference
+-- (every state has an exit: the first clause is never used, which is proved)
+unfoldable pub closeState : Groups → List Edge → List Wire → Point
+unfolding exits
+closeState s [] ws = record { arrival = 0; values = []; wires = ws }
+closeState s (e ∷ es) ws =
+    exits s es (record { arrival = fresh ws; values = e .values; wires = ws ++ (set-wire (nextStateOf s (e .target)) ∷ []) })
+
+-- state k
+unfoldable pub stateOf : CFG → Groups → ℕ → State
+unfolding order build closeState
+stateOf g s k =
+    let b = build g s (order g s k) (record { wires = []; edges = [] }) in
+    let p = closeState s (towards (leaves s) (b .edges)) (b .wires) in
+    record { wires = p .wires; next = p .arrival; nextRegisters = p .values }

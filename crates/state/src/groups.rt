@@ -1,0 +1,30 @@
+// The groups of a graph's blocks: which blocks are starters, and which state a block has.
+ghost use mathlib.Core.Path.{_≡_};
+ghost use Prim.Native.Nat.{_≤_, _<_};
+ghost use lib.ListN.{length, getD};
+ghost use Rattle.runs.specs.Lists.{mem};
+ghost use Rattle.fsmd.specs.Layout.{none};
+ghost use Rattle.state.specs.Making.{Grouped};
+
+fn wide(x: u8) -> u32
+    ensures { λ r. ⌜ r ≡ x ⌝ }
+{
+    x as u32
+}
+
+// An entry of a list of blocks or states; past its end there is none.
+pub fn entry(list: &[u8], i: u32) -> u32
+    ensures { λ r. ⌜ r ≡ getD (now (list .entry)) i none ⌝ }
+{
+    let at = i as usize;
+    if at < list.len() { wide(list[at]) } else { 255 }
+}
+
+// A block is a starter where it is its own state's.
+pub fn is_starter(starters: &[u8], states: &[u8], y: u32) -> bool
+    requires { ⌜ Grouped (now starters) (now states) ⌝ }
+    requires { ⌜ (y ≡ none → ⊥) ⌝ }
+    ensures { λ r. ⌜ r ≡ mem y (now (starters .entry)) ⌝ }
+{
+    entry(starters, entry(states, y)) == y
+}

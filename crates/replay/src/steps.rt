@@ -1,0 +1,113 @@
+// The operations of a case in order, each with its fields of the answer line.
+use cases::buffers;
+use cases::buffers::store;
+use cases::digest;
+use cases::stream;
+use cases::stream::Case;
+use cases::stream::Region;
+use compiler::fields;
+use runs::RunAnswer;
+ghost use Prim.Native.Nat.{_≤_};
+ghost use Rattle.cases.specs.Limits.{Within};
+
+fn read(text: &[u8], graph: &mut [u32], line: &mut [u32]) {
+    buffers::fresh_words(graph);
+    let answer = compiler::read_text(text, graph);
+    store(line, 0, fields::read_number(answer));
+    store(line, 1, fields::read_line(answer));
+    store(line, 2, digest::of_words(graph));
+}
+
+fn write_into(graph: &[u32], out: &mut [u8], line: &mut [u32]) {
+    buffers::fresh_bytes(out);
+    let answer = compiler::write_text(graph, out);
+    store(line, 3, fields::write_number(answer));
+    store(line, 4, fields::write_length(answer));
+    store(line, 5, digest::of_bytes(out));
+}
+
+fn write(graph: &[u32], size: u32, line: &mut [u32])
+    requires { ⌜ size ≤ 17000 ⌝ }
+{
+    let mut out = [0u8; 17000];
+    let n = size as usize;
+    write_into(graph, &mut out[..n], line);
+}
+
+fn synthesise(graph: &[u32], machine: &mut [u32], line: &mut [u32]) {
+    buffers::fresh_words(machine);
+    let answer = compiler::synthesise(graph, machine);
+    store(line, 6, fields::synthesis_number(answer));
+    store(line, 7, digest::of_words(machine));
+}
+
+// The fields of a run from a place of the line on.
+fn put_run(answer: RunAnswer, registers: &[u32], line: &mut [u32], at: usize)
+    requires { ⌜ at ≤ 13 ⌝ }
+{
+    store(line, at, fields::run_number(answer));
+    store(line, at + 1, fields::run_halted(answer));
+    store(line, at + 2, fields::run_count(answer));
+    store(line, at + 3, fields::run_next(answer));
+    store(line, at + 4, digest::of_words(registers));
+}
+
+fn run_graph(graph: &[u32], registers: &mut [u32], s: &[u8], c: Case, line: &mut [u32]) {
+    let words = c.registers;
+    buffers::load(registers, s, words.at);
+    let answer = compiler::run_graph(graph, registers, c.start_block, c.block_budget);
+    put_run(answer, registers, line, 8);
+}
+
+fn run_machine(machine: &[u32], registers: &mut [u32], s: &[u8], c: Case, line: &mut [u32]) {
+    let words = c.registers;
+    buffers::load(registers, s, words.at);
+    let answer = compiler::run_machine(machine, registers, c.start_state, c.cycle_budget);
+    put_run(answer, registers, line, 13);
+}
+
+// Both runs, each on its own copy of the register words.
+fn run_both(s: &[u8], c: Case, graph: &[u32], machine: &[u32], line: &mut [u32])
+    requires { ⌜ Within c ⌝ }
+{
+    let words = c.registers;
+    let n = words.count as usize;
+    let mut first = [0u32; 20];
+    let mut second = [0u32; 20];
+    run_graph(graph, &mut first[..n], s, c, line);
+    run_machine(machine, &mut second[..n], s, c, line);
+}
+
+fn patch(w: &mut [u32], s: &[u8], patches: Region) {
+    buffers::patch(w, s, patches.at, patches.count);
+}
+
+// Both tables, with their patches.
+fn make_tables(s: &[u8], c: Case, graph: &mut [u32], machine: &mut [u32], line: &mut [u32])
+    requires { ⌜ Within c ⌝ }
+{
+    let text = c.text;
+    read(stream::part(s, text.at, text.count as usize), graph, line);
+    patch(graph, s, c.graph_patches);
+    write(graph, c.output, line);
+    synthesise(graph, machine, line);
+    patch(machine, s, c.machine_patches);
+}
+
+// All steps, on a graph and a machine buffer of the case's sizes.
+fn answer_on(s: &[u8], c: Case, graph: &mut [u32], machine: &mut [u32], line: &mut [u32])
+    requires { ⌜ Within c ⌝ }
+{
+    make_tables(s, c, graph, machine, line);
+    run_both(s, c, graph, machine, line);
+}
+
+pub fn answer(s: &[u8], c: Case, line: &mut [u32])
+    requires { ⌜ Within c ⌝ }
+{
+    let mut graph = [0u32; 2600];
+    let mut machine = [0u32; 13700];
+    let g = c.graph as usize;
+    let m = c.machine as usize;
+    answer_on(s, c, &mut graph[..g], &mut machine[..m], line);
+}

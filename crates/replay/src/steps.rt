@@ -6,9 +6,15 @@ use cases::stream;
 use cases::stream::Case;
 use cases::stream::Region;
 use compiler::fields;
+use listing::ListAnswer;
 use runs::RunAnswer;
 ghost use Prim.Native.Nat.{_≤_};
 ghost use Rattle.cases.specs.Limits.{Within};
+
+fn text_of(s: &[u8], c: Case) -> &[u8] {
+    let text = c.text;
+    stream::part(s, text.at, text.count as usize)
+}
 
 fn read(text: &[u8], graph: &mut [u32], line: &mut [u32]) {
     buffers::fresh_words(graph);
@@ -78,6 +84,20 @@ fn run_both(s: &[u8], c: Case, graph: &[u32], machine: &[u32], line: &mut [u32])
     run_machine(machine, &mut second[..n], s, c, line);
 }
 
+// The listing's bytes are the first of the output, as many as the answer says.
+fn list(text: &[u8], line: &mut [u32]) {
+    let mut out = [0u8; 4096];
+    let answer = listing::list(text, &mut out);
+    let ListAnswer::Listed(length) = answer else {
+        return;
+    };
+    let n = length as usize;
+    if n <= out.len() {
+        store(line, 18, length);
+        store(line, 19, digest::of_bytes(&out[..n]));
+    }
+}
+
 fn patch(w: &mut [u32], s: &[u8], patches: Region) {
     buffers::patch(w, s, patches.at, patches.count);
 }
@@ -86,8 +106,7 @@ fn patch(w: &mut [u32], s: &[u8], patches: Region) {
 fn make_tables(s: &[u8], c: Case, graph: &mut [u32], machine: &mut [u32], line: &mut [u32])
     requires { ⌜ Within c ⌝ }
 {
-    let text = c.text;
-    read(stream::part(s, text.at, text.count as usize), graph, line);
+    read(text_of(s, c), graph, line);
     patch(graph, s, c.graph_patches);
     write(graph, c.output, line);
     synthesise(graph, machine, line);
@@ -100,6 +119,7 @@ fn answer_on(s: &[u8], c: Case, graph: &mut [u32], machine: &mut [u32], line: &m
 {
     make_tables(s, c, graph, machine, line);
     run_both(s, c, graph, machine, line);
+    list(text_of(s, c), line);
 }
 
 pub fn answer(s: &[u8], c: Case, line: &mut [u32])

@@ -37,7 +37,7 @@ pub fn load(w: &mut [u32], s: &[u8], at: usize) {
 }
 
 // One word stored; past the end nothing is.
-fn store(w: &mut [u32], i: usize, v: u32) {
+pub fn store(w: &mut [u32], i: usize, v: u32) {
     if i < w.len() {
         w[i] = v;
     }

@@ -2,4 +2,5 @@ mod Puts
 mod Counts
 mod TableListings
 mod TextListings
+mod GraphListings
 mod Examples

@@ -2,10 +2,16 @@
 pub mod lines; // lines.rt: the lines of a listing in a buffer
 pub mod table; // table.rt: the listing that a machine table's words give
 
+use cfg::Graph;
+use cfg_text::ReadAnswer;
+use fsmd::Machine;
 ghost use mathlib.Core.Path.{_≡_};
+ghost use mathlib.Core.Bool.{true};
 ghost use Prim.Native.Nat.{_≤_};
 ghost use lib.ListN.{length};
-ghost use Rattle.listing.specs.Listing.{refusedLine, answerFor, outputFor};
+ghost use Rattle.cfg.specs.Table.{graphOf, admitted};
+ghost use Rattle.synthesis.specs.Synthesis.{machine};
+ghost use Rattle.listing.specs.Listing.{machineListing, refusedLine, answerFor, outputFor, listAnswer, listBytes};
 ghost use Rattle.listing.specs.Words.{tableListing, Listable};
 
 pub enum ListAnswer {
@@ -48,4 +54,28 @@ fn list_machine(machine: &[u32], out: &mut [u8]) -> ListAnswer
     let mut new = [0u8; 4096];
     let n = table::put_listing(machine, &mut new);
     hand_over(&new[..n], out)
+}
+
+// The lines of the machine of a graph table, for which synthesis has no refusal.
+fn list_graph(graph: &[u32], out: &mut [u8]) -> ListAnswer
+    requires { ⌜ admitted (now graph) ≡ true ⌝ }
+    ensures { λ r. ⌜ r ≡ answerFor (machineListing (machine (graphOf (now (graph .entry))))) (now (out .entry)) ⌝ }
+    ensures { λ _. ⌜ now (out .exit) ≡ outputFor (machineListing (machine (graphOf (now (graph .entry))))) (now (out .entry)) ⌝ }
+{
+    let mut words = [0u32; Machine::WORDS];
+    synthesis::table::synthesise(graph, &mut words);
+    list_machine(&words, out)
+}
+
+// The listing of a text, or the line of its refusal. Where the output is too short it holds what it held.
+pub fn list(text: &[u8], out: &mut [u8]) -> ListAnswer
+    ensures { λ r. ⌜ r ≡ listAnswer (now (text .entry)) (now (out .entry)) ⌝ }
+    ensures { λ _. ⌜ now (out .exit) ≡ listBytes (now (text .entry)) (now (out .entry)) ⌝ }
+{
+    let mut graph = [0u32; Graph::WORDS];
+    let answer = cfg_text::read_text(text, &mut graph);
+    match answer {
+        ReadAnswer::Refused(number, line) => list_refusal(number, line, out),
+        ReadAnswer::Read => list_graph(&graph, out),
+    }
 }

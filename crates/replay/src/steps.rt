@@ -6,9 +6,15 @@ use cases::stream;
 use cases::stream::Case;
 use cases::stream::Region;
 use compiler::fields;
+use listing::ListAnswer;
 use runs::RunAnswer;
 ghost use Prim.Native.Nat.{_≤_};
 ghost use Rattle.cases.specs.Limits.{Within};
+
+fn text_of(s: &[u8], c: Case) -> &[u8] {
+    let text = c.text;
+    stream::part(s, text.at, text.count as usize)
+}
 
 fn read(text: &[u8], graph: &mut [u32], line: &mut [u32]) {
     buffers::fresh_words(graph);
@@ -32,6 +38,13 @@ fn write(graph: &[u32], size: u32, line: &mut [u32])
     let mut out = [0u8; 17000];
     let n = size as usize;
     write_into(graph, &mut out[..n], line);
+}
+
+fn synthesise(graph: &[u32], machine: &mut [u32], line: &mut [u32]) {
+    buffers::fresh_words(machine);
+    let answer = compiler::synthesise(graph, machine);
+    store(line, 6, fields::synthesis_number(answer));
+    store(line, 7, digest::of_words(machine));
 }
 
 // The fields of a run from a place of the line on.
@@ -71,23 +84,42 @@ fn run_both(s: &[u8], c: Case, graph: &[u32], machine: &[u32], line: &mut [u32])
     run_machine(machine, &mut second[..n], s, c, line);
 }
 
+// The listing's bytes are the first of the output, as many as the answer says.
+fn list(text: &[u8], line: &mut [u32]) {
+    let mut out = [0u8; 4096];
+    let answer = listing::list(text, &mut out);
+    let ListAnswer::Listed(length) = answer else {
+        return;
+    };
+    let n = length as usize;
+    if n <= out.len() {
+        store(line, 18, length);
+        store(line, 19, digest::of_bytes(&out[..n]));
+    }
+}
+
 fn patch(w: &mut [u32], s: &[u8], patches: Region) {
     buffers::patch(w, s, patches.at, patches.count);
+}
+
+// Both tables, with their patches.
+fn make_tables(s: &[u8], c: Case, graph: &mut [u32], machine: &mut [u32], line: &mut [u32])
+    requires { ⌜ Within c ⌝ }
+{
+    read(text_of(s, c), graph, line);
+    patch(graph, s, c.graph_patches);
+    write(graph, c.output, line);
+    synthesise(graph, machine, line);
+    patch(machine, s, c.machine_patches);
 }
 
 // All steps, on a graph and a machine buffer of the case's sizes.
 fn answer_on(s: &[u8], c: Case, graph: &mut [u32], machine: &mut [u32], line: &mut [u32])
     requires { ⌜ Within c ⌝ }
 {
-    let region = c.text;
-    let text = stream::part(s, region.at, region.count as usize);
-    let graph_patches = c.graph_patches;
-    let machine_patches = c.machine_patches;
-    read(text, graph, line);
-    patch(graph, s, graph_patches);
-    write(graph, c.output, line);
-    patch(machine, s, machine_patches);
+    make_tables(s, c, graph, machine, line);
     run_both(s, c, graph, machine, line);
+    list(text_of(s, c), line);
 }
 
 pub fn answer(s: &[u8], c: Case, line: &mut [u32])

@@ -1,4 +1,5 @@
 // Answers recorded cases from standard input, one line a case: each operation's number and values, and digests of the buffers.
+// Both formats stand in reference/README.md.
 mod input; // input.rt: a window of the stream
 mod steps; // steps.rt: the operations of a case
 

@@ -3,4 +3,5 @@ mod Counts
 mod TableListings
 mod TextListings
 mod GraphListings
+pub mod Answers
 mod Examples

@@ -29,6 +29,16 @@ enum {
     GUTKAVU_NONE = 255             /* no block, or no state */
 };
 
+/* Where things stand in a machine table, in words. Word 0 is the number of states, word 1 that of registers. */
+enum {
+    GUTKAVU_STARTERS = 2,      /* the starter of each state */
+    GUTKAVU_BLOCK_STATES = 66, /* the state of each block, GUTKAVU_NONE for an absent one */
+    GUTKAVU_RECORDS = 130,     /* of each state: first wire, wire count, references of the next state and registers */
+    GUTKAVU_RECORD_WORDS = 19,
+    GUTKAVU_WIRES = 1346, /* the wires of all states: code, a, b, c */
+    GUTKAVU_WIRE_WORDS = 4
+};
+
 /* Reads a graph's text into a graph table. Refusals 1, 7, then 2 to 5 of the first faulty line, whose number is set in
  * line, counted from 1. */
 uint32_t gutkavu_read(const uint8_t *text, size_t text_len, uint32_t *table, size_t table_len, uint32_t *line);

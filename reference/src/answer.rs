@@ -29,15 +29,16 @@ pub fn digest<T: Copy + Into<u64>>(sequence: &[T]) -> u64 {
 }
 
 /// The words a buffer holds before anything is written to it.
-fn fresh_words(length: u32) -> Vec<u32> {
+pub fn fresh_words(length: u32) -> Vec<u32> {
     (0..length).map(|index| 1_515_870_810 - index).collect()
 }
 
-fn fresh_bytes(length: u32) -> Vec<u8> {
+pub fn fresh_bytes(length: u32) -> Vec<u8> {
     (0..length).map(|index| ((index * 7 + 3) % 256) as u8).collect()
 }
 
-fn patch(buffer: &mut [u32], patches: &[Patch]) {
+/// Puts the words of patches into a buffer, those past its end excepted.
+pub fn patch(buffer: &mut [u32], patches: &[Patch]) {
     for &(index, word) in patches {
         if let Some(place) = buffer.get_mut(index as usize) {
             *place = word;

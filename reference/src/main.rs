@@ -1,5 +1,7 @@
 //! The commands: cases, answers, list, stats.
 
+mod compare;
+
 use reference::answer::answer;
 use reference::case::{read_cases, Case};
 use reference::generate;
@@ -12,6 +14,7 @@ const USAGE: &str = "usage: reference cases SEED COUNT > cases
        reference answers < cases
        reference list < text
        reference stats < cases
+       reference compare SEED COUNT
 ";
 
 fn input() -> Result<Vec<u8>, String> {
@@ -43,6 +46,7 @@ fn command(arguments: &[&str]) -> Result<Vec<u8>, String> {
         ["answers"] => answers(),
         ["list"] => Ok(listing(&input()?).into_bytes()),
         ["stats"] => Ok(Stats::of(&input_cases()?).print().into_bytes()),
+        ["compare", seed, count] => compare::command(seed, count),
         _ => Err(String::from(USAGE)),
     }
 }

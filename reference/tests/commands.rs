@@ -1,4 +1,4 @@
-//! The binary: its four commands over standard input and output.
+//! The binary: its commands over standard input and output.
 
 use reference::generate::examples::P7;
 use std::io::Write;
@@ -43,4 +43,14 @@ fn damaged_streams_and_unknown_commands_fail() {
     assert!(!failed.status.success() && failed.stdout.is_empty());
     let unknown = Command::new(env!("CARGO_BIN_EXE_reference")).output().expect("it ends");
     assert!(!unknown.status.success());
+}
+
+/// The proved library agrees, and every number is hit.
+#[test]
+fn compare() {
+    let output = run(&["compare", "3", "2000"], b"");
+    let text = String::from_utf8_lossy(&output.stdout);
+    assert!(output.status.success(), "{text}{}", String::from_utf8_lossy(&output.stderr));
+    assert!(text.ends_with("seed 3: 2000 cases, 0 differ\n"), "{text}");
+    assert!(text.contains("run machine,10,"), "{text}");
 }

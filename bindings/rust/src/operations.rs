@@ -1,4 +1,4 @@
-//! The five operations on lent buffers. Each buffer that an operation refuses to change is left as it was.
+//! The five operations on lent buffers. On a refusal every buffer is left as it was.
 
 use crate::raw;
 

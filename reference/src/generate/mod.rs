@@ -200,12 +200,31 @@ pub fn case(seed: u64, index: u64) -> Case {
     case
 }
 
-/// Random cases, and among them, while they last, the fixed ones.
+/// All cases of a seed: random ones, and among them, while they last, the fixed ones.
+pub struct Cases {
+    seed: u64,
+    fixed: Vec<Case>,
+}
+
+impl Cases {
+    pub fn of(seed: u64) -> Cases {
+        Cases { seed, fixed: fixed::cases() }
+    }
+
+    pub fn seed(&self) -> u64 {
+        self.seed
+    }
+
+    pub fn get(&self, index: usize) -> Case {
+        match self.fixed.get(index / 4) {
+            Some(fixed) if index % 4 == 0 => fixed.clone(),
+            _ => case(self.seed, index as u64),
+        }
+    }
+}
+
+/// The first cases of a seed.
 pub fn cases(seed: u64, count: usize) -> Vec<Case> {
-    let mut fixed = fixed::cases().into_iter();
-    let mut choose = |index: usize| match index % 4 {
-        0 => fixed.next().unwrap_or_else(|| case(seed, index as u64)),
-        _ => case(seed, index as u64),
-    };
-    (0..count).map(&mut choose).collect()
+    let all = Cases::of(seed);
+    (0..count).map(|index| all.get(index)).collect()
 }

@@ -1,0 +1,119 @@
+/* How a C program reads a graph, synthesises its machine and runs both: example PATH, the path of examples/swing.txt. */
+#include "gutkavu.h"
+
+#include <inttypes.h>
+#include <stdio.h>
+#include <stdlib.h>
+#include <string.h>
+
+enum {
+    BUDGET = 1000,
+    TEXT_ROOM = GUTKAVU_TEXT_BYTES + 3 /* a byte too many, so that reading refuses it; one more; the zero byte */
+};
+
+static uint32_t graph[GUTKAVU_GRAPH_WORDS];
+static uint32_t machine[GUTKAVU_MACHINE_WORDS];
+
+static void fail(const char *what)
+{
+    fprintf(stderr, "%s\n", what);
+    exit(EXIT_FAILURE);
+}
+
+/* The operations below are not refused here. */
+static void made(uint32_t number)
+{
+    if (number != 0) {
+        fprintf(stderr, "refused %" PRIu32 "\n", number);
+        exit(EXIT_FAILURE);
+    }
+}
+
+/* The bytes of a file, with a zero byte after them. */
+static size_t load(const char *path, char *text)
+{
+    FILE *file = fopen(path, "rb");
+    if (file == NULL)
+        fail("the file is not there");
+    size_t length = fread(text, 1, GUTKAVU_TEXT_BYTES + 1, file);
+    fclose(file);
+    text[length] = 0;
+    return length;
+}
+
+/* The graph and the machine of a text. */
+static void compile(const char *text, size_t length)
+{
+    uint32_t line;
+    made(gutkavu_read((const uint8_t *)text, length, graph, GUTKAVU_GRAPH_WORDS, &line));
+    made(gutkavu_synthesise(graph, GUTKAVU_GRAPH_WORDS, machine, GUTKAVU_MACHINE_WORDS));
+}
+
+static uint32_t wires_of(uint32_t state)
+{
+    return machine[GUTKAVU_RECORDS + GUTKAVU_RECORD_WORDS * state + 1];
+}
+
+static void print_machine(void)
+{
+    uint32_t states = machine[0], blocks = graph[0], wires = 0;
+    for (uint32_t state = 0; state < states; state++)
+        wires += wires_of(state);
+    printf("blocks %" PRIu32 ", registers %" PRIu32 "\n", blocks, graph[1]);
+    printf("states %" PRIu32 ", wires %" PRIu32 "\n", states, wires);
+    for (uint32_t state = 0; state < states; state++) {
+        uint32_t starter = machine[GUTKAVU_STARTERS + state];
+        printf("state %" PRIu32 ": starter %" PRIu32 ", wires %" PRIu32 ", blocks", state, starter, wires_of(state));
+        for (uint32_t block = 0; block < blocks; block++)
+            if (machine[GUTKAVU_BLOCK_STATES + block] == state)
+                printf(" %" PRIu32, block);
+        printf("\n");
+    }
+}
+
+/* Runs graph and machine with a rate in register 0; they leave the same registers. */
+static void print_swing(int32_t rate)
+{
+    uint32_t registers[GUTKAVU_REGISTER_WORDS] = {(uint32_t)rate}, others[GUTKAVU_REGISTER_WORDS] = {(uint32_t)rate};
+    uint32_t halted, halted_too, blocks, cycles, next;
+    made(gutkavu_run_graph(graph, GUTKAVU_GRAPH_WORDS, registers, GUTKAVU_REGISTER_WORDS, 0, BUDGET, &halted, &blocks,
+                           &next));
+    made(gutkavu_run_machine(machine, GUTKAVU_MACHINE_WORDS, others, GUTKAVU_REGISTER_WORDS, 0, BUDGET, &halted_too,
+                             &cycles, &next));
+    if (!halted || !halted_too || memcmp(registers, others, sizeof registers) != 0)
+        fail("graph and machine do not agree");
+    const char *how = registers[5] ? "hard turn" : "slow swing";
+    const char *side = registers[3] == 1 ? "port" : "starboard";
+    printf("  %" PRId32 ": %s to %s, rate %" PRIu32 "; ", rate, how, side, registers[4]);
+    printf("blocks %" PRIu32 ", cycles %" PRIu32 "\n", blocks, cycles);
+}
+
+/* The same text with its first signed comparison made unsigned. */
+static size_t make_unsigned(const char *text, char *out)
+{
+    const char *place = strstr(text, "ite,lt,");
+    if (place == NULL)
+        fail("the text has no signed comparison");
+    return (size_t)snprintf(out, TEXT_ROOM, "%.*site,ltu,%s", (int)(place - text), text, place + strlen("ite,lt,"));
+}
+
+int main(int count, char **arguments)
+{
+    static char text[TEXT_ROOM], other[TEXT_ROOM];
+    if (count != 2)
+        fail("usage: example PATH");
+    size_t length = load(arguments[1], text);
+    compile(text, length);
+    print_machine();
+    printf("signed comparison (lt)\n");
+    print_swing(-200);
+    print_swing(200);
+    compile(other, make_unsigned(text, other));
+    printf("unsigned comparison (ltu)\n");
+    print_swing(-200);
+    print_swing(200);
+    uint32_t line;
+    uint32_t number = gutkavu_read((const uint8_t *)text, length - 1, graph, GUTKAVU_GRAPH_WORDS, &line);
+    printf("without the last line feed\n  refused %" PRIu32 " at line %" PRIu32 "\n", number, line);
+    return EXIT_SUCCESS;
+}

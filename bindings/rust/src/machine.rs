@@ -1,0 +1,91 @@
+//! A machine, held as its table.
+
+use crate::layout::{machine::*, MOST_BLOCKS, MOST_STATES};
+use crate::{operations, Refusal, Run, MACHINE_WORDS};
+use std::fmt;
+
+/// A state machine. One made by synthesis runs from each of its states; one made of other words may
+/// be refused when it is run.
+#[derive(Clone, PartialEq, Eq, Hash)]
+pub struct Machine {
+    words: Box<[u32; MACHINE_WORDS]>,
+}
+
+impl Machine {
+    /// A machine of any words, which a run may refuse; words past the table are not taken.
+    /// Refusal 7.
+    pub fn from_words(words: &[u32]) -> Result<Machine, Refusal> {
+        let taken = words.get(..MACHINE_WORDS).ok_or(Refusal::TableShort)?;
+        let mut table = Box::new([0; MACHINE_WORDS]);
+        table.copy_from_slice(taken);
+        Ok(Machine { words: table })
+    }
+
+    /// Runs at most `budget` cycles from a start state. Refusals 10, 9. Registers from R up keep
+    /// their words.
+    pub fn run(&self, registers: &mut [u32; 16], start: u32, budget: u32) -> Result<Run, Refusal> {
+        Run::answer(operations::run_machine(&self.words[..], registers, start, budget))
+    }
+
+    /// The number of states, N.
+    pub fn states(&self) -> u32 {
+        self.words[STATES]
+    }
+
+    /// The number of registers, R.
+    pub fn registers(&self) -> u32 {
+        self.words[REGISTERS]
+    }
+
+    /// The starter of a state below N.
+    pub fn starter(&self, state: u32) -> Option<u32> {
+        self.index(state).map(|index| self.words[STARTERS + index])
+    }
+
+    /// The state of a block; none for a block that is unreachable or not there.
+    pub fn state_of(&self, block: u32) -> Option<u32> {
+        let index = usize::try_from(block).ok().filter(|&index| index < MOST_BLOCKS)?;
+        Some(self.words[BLOCK_STATES + index]).filter(|&state| self.index(state).is_some())
+    }
+
+    /// The blocks of a state, in rising order.
+    pub fn blocks(&self, state: u32) -> impl Iterator<Item = u32> + '_ {
+        (0..MOST_BLOCKS as u32).filter(move |&block| self.state_of(block) == Some(state))
+    }
+
+    /// The wire count of a state below N.
+    pub fn wires(&self, state: u32) -> Option<u32> {
+        self.index(state).map(|index| self.words[RECORDS + index * RECORD_WORDS + WIRE_COUNT])
+    }
+
+    /// The wires of all states; at most 3,072 in a machine that can run.
+    pub fn wires_in_all(&self) -> u64 {
+        (0..self.states()).map_while(|state| self.wires(state)).map(u64::from).sum()
+    }
+
+    /// The machine table.
+    pub fn words(&self) -> &[u32; MACHINE_WORDS] {
+        &self.words
+    }
+
+    /// The state as an index, where it is below N and has a place in the table.
+    fn index(&self, state: u32) -> Option<usize> {
+        let index = usize::try_from(state).ok()?;
+        (state < self.states() && index < MOST_STATES).then_some(index)
+    }
+}
+
+/// As `from_words`, without a copy.
+impl From<Box<[u32; MACHINE_WORDS]>> for Machine {
+    fn from(words: Box<[u32; MACHINE_WORDS]>) -> Machine {
+        Machine { words }
+    }
+}
+
+impl fmt::Debug for Machine {
+    fn fmt(&self, f: &mut fmt::Formatter) -> fmt::Result {
+        let mut parts = f.debug_struct("Machine");
+        parts.field("states", &self.states()).field("registers", &self.registers());
+        parts.finish_non_exhaustive()
+    }
+}

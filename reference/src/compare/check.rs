@@ -1,0 +1,106 @@
+//! One case by this program and by a library, operation for operation.
+
+use super::lent::{Differing, Lent};
+use super::library::{Fields, Library, Operation};
+use reference::answer::{fresh_bytes, fresh_words, patch};
+use reference::case::Case;
+use reference::operations::{self, RunAnswer};
+
+/// What an operation answered, and the first place of its buffers that differs. The buffers have
+/// the same words before it in both programs, so one difference does not bring about others.
+pub struct Compared {
+    pub operation: Operation,
+    pub expected: Fields,
+    pub found: Fields,
+    pub differing: Option<Differing>,
+}
+
+impl Compared {
+    pub fn same(&self) -> bool {
+        self.expected == self.found && self.differing.is_none()
+    }
+}
+
+fn read(library: &impl Library, text: &[u8], graph: &mut [u32]) -> Compared {
+    let (mut lent_text, mut lent_graph) = (Lent::new(text), Lent::new(graph));
+    let found = library.read(&mut lent_text, &mut lent_graph);
+    let answer = operations::read(text, graph);
+    Compared {
+        operation: Operation::Read,
+        expected: [answer.number, answer.line, 0, 0],
+        found,
+        differing: (lent_text.differing("text", text))
+            .or_else(|| lent_graph.differing("graph table", graph)),
+    }
+}
+
+fn write(library: &impl Library, graph: &[u32], output: &mut [u8]) -> Compared {
+    let (mut lent_graph, mut lent_output) = (Lent::new(graph), Lent::new(output));
+    let found = library.write(&mut lent_graph, &mut lent_output);
+    let answer = operations::write(graph, output);
+    Compared {
+        operation: Operation::Write,
+        expected: [answer.number, answer.length, 0, 0],
+        found,
+        differing: (lent_graph.differing("graph table", graph))
+            .or_else(|| lent_output.differing("output", output)),
+    }
+}
+
+fn synthesise(library: &impl Library, graph: &[u32], machine: &mut [u32]) -> Compared {
+    let (mut lent_graph, mut lent_machine) = (Lent::new(graph), Lent::new(machine));
+    let found = library.synthesise(&mut lent_graph, &mut lent_machine);
+    Compared {
+        operation: Operation::Synthesise,
+        expected: [operations::synthesise(graph, machine), 0, 0, 0],
+        found,
+        differing: (lent_graph.differing("graph table", graph))
+            .or_else(|| lent_machine.differing("machine table", machine)),
+    }
+}
+
+fn run_fields(answer: RunAnswer) -> Fields {
+    [answer.number, u32::from(answer.halted), answer.count, answer.next]
+}
+
+fn run_graph(library: &impl Library, graph: &[u32], case: &Case) -> Compared {
+    let (start, budget) = (case.start_block, case.block_budget);
+    let mut registers = case.registers.clone();
+    let (mut lent_graph, mut lent_registers) = (Lent::new(graph), Lent::new(&registers));
+    let found = library.run_graph(&mut lent_graph, &mut lent_registers, start, budget);
+    Compared {
+        operation: Operation::RunGraph,
+        expected: run_fields(operations::run_graph(graph, &mut registers, start, budget)),
+        found,
+        differing: (lent_graph.differing("graph table", graph))
+            .or_else(|| lent_registers.differing("registers", &registers)),
+    }
+}
+
+fn run_machine(library: &impl Library, machine: &[u32], case: &Case) -> Compared {
+    let (start, budget) = (case.start_state, case.cycle_budget);
+    let mut registers = case.registers.clone();
+    let (mut lent_machine, mut lent_registers) = (Lent::new(machine), Lent::new(&registers));
+    let found = library.run_machine(&mut lent_machine, &mut lent_registers, start, budget);
+    Compared {
+        operation: Operation::RunMachine,
+        expected: run_fields(operations::run_machine(machine, &mut registers, start, budget)),
+        found,
+        differing: (lent_machine.differing("machine table", machine))
+            .or_else(|| lent_registers.differing("registers", &registers)),
+    }
+}
+
+/// The five operations on a case, each on the buffers that this program made so far.
+pub fn check(case: &Case, library: &impl Library) -> [Compared; 5] {
+    let mut graph = fresh_words(case.graph_length);
+    let read = read(library, &case.text, &mut graph);
+    patch(&mut graph, &case.graph_patches);
+    let write = write(library, &graph, &mut fresh_bytes(case.output_length));
+    let mut machine = fresh_words(case.machine_length);
+    let synthesise = synthesise(library, &graph, &mut machine);
+    patch(&mut machine, &case.machine_patches);
+    let run_graph = run_graph(library, &graph, case);
+    let run_machine = run_machine(library, &machine, case);
+    [read, write, synthesise, run_graph, run_machine]
+}

@@ -1,0 +1,121 @@
+//! The operations of a library that is compared with this program.
+
+use super::lent::Lent;
+use gutkavu::operations::{self, RunFields};
+
+#[derive(Clone, Copy, Debug, PartialEq, Eq, PartialOrd, Ord)]
+pub enum Operation {
+    Read,
+    Write,
+    Synthesise,
+    RunGraph,
+    RunMachine,
+}
+
+impl Operation {
+    pub const ALL: [Operation; 5] = [
+        Operation::Read,
+        Operation::Write,
+        Operation::Synthesise,
+        Operation::RunGraph,
+        Operation::RunMachine,
+    ];
+
+    pub fn name(self) -> &'static str {
+        match self {
+            Operation::Read => "read",
+            Operation::Write => "write",
+            Operation::Synthesise => "synthesise",
+            Operation::RunGraph => "run graph",
+            Operation::RunMachine => "run machine",
+        }
+    }
+
+    /// The fields of its answer.
+    pub fn fields(self) -> &'static [&'static str] {
+        match self {
+            Operation::Read => &["number", "line"],
+            Operation::Write => &["number", "length"],
+            Operation::Synthesise => &["number"],
+            Operation::RunGraph | Operation::RunMachine => &["number", "halted", "count", "next"],
+        }
+    }
+
+    /// The numbers that paper 01 names for it, 0 being success.
+    pub fn numbers(self) -> &'static [u32] {
+        match self {
+            Operation::Read => &[0, 1, 2, 3, 4, 5, 7],
+            Operation::Write => &[0, 6, 7, 8],
+            Operation::Synthesise => &[0, 6, 7],
+            Operation::RunGraph => &[0, 6, 7, 9],
+            Operation::RunMachine => &[0, 7, 9, 10],
+        }
+    }
+}
+
+/// The fields of an answer, in their order; 0 where an operation has fewer.
+pub type Fields = [u32; 4];
+
+/// Every buffer is lent with its guards, so that a test can change what should be left alone.
+pub trait Library: Sync {
+    fn read(&self, text: &mut Lent<u8>, graph: &mut Lent<u32>) -> Fields;
+    fn write(&self, graph: &mut Lent<u32>, output: &mut Lent<u8>) -> Fields;
+    fn synthesise(&self, graph: &mut Lent<u32>, machine: &mut Lent<u32>) -> Fields;
+    fn run_graph(
+        &self,
+        graph: &mut Lent<u32>,
+        registers: &mut Lent<u32>,
+        start: u32,
+        budget: u32,
+    ) -> Fields;
+    fn run_machine(
+        &self,
+        machine: &mut Lent<u32>,
+        registers: &mut Lent<u32>,
+        start: u32,
+        budget: u32,
+    ) -> Fields;
+}
+
+/// The proved library.
+pub struct Proved;
+
+fn run_fields(fields: RunFields) -> Fields {
+    [fields.number, fields.halted, fields.count, fields.next]
+}
+
+impl Library for Proved {
+    fn read(&self, text: &mut Lent<u8>, graph: &mut Lent<u32>) -> Fields {
+        let fields = operations::read(text.body(), graph.body_mut());
+        [fields.number, fields.line, 0, 0]
+    }
+
+    fn write(&self, graph: &mut Lent<u32>, output: &mut Lent<u8>) -> Fields {
+        let fields = operations::write(graph.body(), output.body_mut());
+        [fields.number, fields.length, 0, 0]
+    }
+
+    fn synthesise(&self, graph: &mut Lent<u32>, machine: &mut Lent<u32>) -> Fields {
+        [operations::synthesise(graph.body(), machine.body_mut()), 0, 0, 0]
+    }
+
+    fn run_graph(
+        &self,
+        graph: &mut Lent<u32>,
+        registers: &mut Lent<u32>,
+        start: u32,
+        budget: u32,
+    ) -> Fields {
+        run_fields(operations::run_graph(graph.body(), registers.body_mut(), start, budget))
+    }
+
+    fn run_machine(
+        &self,
+        machine: &mut Lent<u32>,
+        registers: &mut Lent<u32>,
+        start: u32,
+        budget: u32,
+    ) -> Fields {
+        run_fields(operations::run_machine(machine.body(), registers.body_mut(), start, budget))
+    }
+}

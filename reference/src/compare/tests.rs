@@ -1,0 +1,207 @@
+//! The comparison finds every kind of difference: it is tried on libraries that are made to differ.
+
+use super::check::check;
+use super::lent::{Differing, Element, Lent};
+use super::library::{Fields, Library, Operation};
+use super::{compare, outcome, tally_all, MOST_REPORTS};
+use reference::case::Case;
+use reference::generate::examples::P7;
+use reference::generate::Cases;
+use reference::operations;
+
+/// What a library does otherwise than this program.
+#[derive(Clone, Copy)]
+enum Change {
+    Nothing,
+    /// A field of its answer.
+    Field(usize),
+    /// An element of its first or second buffer, counted from the buffer's start.
+    Place(usize, isize),
+    /// The element just after the first or second buffer.
+    End(usize),
+}
+
+/// This program as a library, with a change in one operation.
+struct Changed(Operation, Change);
+
+impl Changed {
+    fn apply<A: Element, B: Element>(
+        &self,
+        operation: Operation,
+        mut fields: Fields,
+        first: &mut Lent<A>,
+        second: &mut Lent<B>,
+    ) -> Fields {
+        match self.1 {
+            _ if operation != self.0 => (),
+            Change::Nothing => (),
+            Change::Field(index) => fields[index] ^= 1,
+            Change::Place(0, index) => first.change(index),
+            Change::Place(_, index) => second.change(index),
+            Change::End(0) => first.change(first.length() as isize),
+            Change::End(_) => second.change(second.length() as isize),
+        }
+        fields
+    }
+}
+
+fn run_fields(answer: operations::RunAnswer) -> Fields {
+    [answer.number, u32::from(answer.halted), answer.count, answer.next]
+}
+
+impl Library for Changed {
+    fn read(&self, text: &mut Lent<u8>, graph: &mut Lent<u32>) -> Fields {
+        let answer = operations::read(text.body(), graph.body_mut());
+        self.apply(Operation::Read, [answer.number, answer.line, 0, 0], text, graph)
+    }
+
+    fn write(&self, graph: &mut Lent<u32>, output: &mut Lent<u8>) -> Fields {
+        let answer = operations::write(graph.body(), output.body_mut());
+        self.apply(Operation::Write, [answer.number, answer.length, 0, 0], graph, output)
+    }
+
+    fn synthesise(&self, graph: &mut Lent<u32>, machine: &mut Lent<u32>) -> Fields {
+        let number = operations::synthesise(graph.body(), machine.body_mut());
+        self.apply(Operation::Synthesise, [number, 0, 0, 0], graph, machine)
+    }
+
+    fn run_graph(
+        &self,
+        graph: &mut Lent<u32>,
+        registers: &mut Lent<u32>,
+        start: u32,
+        budget: u32,
+    ) -> Fields {
+        let answer = operations::run_graph(graph.body(), registers.body_mut(), start, budget);
+        self.apply(Operation::RunGraph, run_fields(answer), graph, registers)
+    }
+
+    fn run_machine(
+        &self,
+        machine: &mut Lent<u32>,
+        registers: &mut Lent<u32>,
+        start: u32,
+        budget: u32,
+    ) -> Fields {
+        let answer = operations::run_machine(machine.body(), registers.body_mut(), start, budget);
+        self.apply(Operation::RunMachine, run_fields(answer), machine, registers)
+    }
+}
+
+fn p7() -> Case {
+    Case::plain(P7.as_bytes())
+}
+
+/// The operations that differ on a case.
+fn differing(case: &Case, library: &Changed) -> Vec<Operation> {
+    let compared = check(case, library);
+    compared.iter().filter(|one| !one.same()).map(|one| one.operation).collect()
+}
+
+fn place(operation: Operation, change: Change) -> Option<Differing> {
+    let compared = check(&p7(), &Changed(operation, change));
+    compared.into_iter().find(|one| one.operation == operation)?.differing
+}
+
+#[test]
+fn nothing_changed_is_no_difference() {
+    let same = Changed(Operation::Read, Change::Nothing);
+    let cases = Cases::of(11);
+    assert!((0..200).all(|index| differing(&cases.get(index), &same).is_empty()));
+}
+
+#[test]
+fn every_changed_field_is_a_difference() {
+    for operation in Operation::ALL {
+        for field in 0..operation.fields().len() {
+            let library = Changed(operation, Change::Field(field));
+            assert_eq!(differing(&p7(), &library), [operation], "field {field}");
+        }
+    }
+}
+
+/// First, some and last places of both buffers, and the guards' nearest and farthest places.
+#[test]
+fn every_changed_place_is_a_difference() {
+    for operation in Operation::ALL {
+        for buffer in [0, 1] {
+            for index in [-64, -1, 0, 5, 15] {
+                let found = place(operation, Change::Place(buffer, index)).expect("a difference");
+                assert_eq!(found.index, index, "{operation:?}, buffer {buffer}");
+                assert_ne!(found.expected, found.found);
+            }
+            let end = place(operation, Change::End(buffer)).expect("a difference");
+            assert_eq!(end.index, end.length as isize);
+            for index in [end.index - 1, end.index + 63] {
+                let found = place(operation, Change::Place(buffer, index)).expect("a difference");
+                assert_eq!(found.index, index, "{operation:?}, buffer {buffer}");
+            }
+            let library = Changed(operation, Change::End(buffer));
+            assert_eq!(differing(&p7(), &library), [operation]);
+        }
+    }
+}
+
+/// Buffers are named, and a guard's place is told from a buffer's.
+#[test]
+fn places_are_printed() {
+    let printed = |operation, change| place(operation, change).expect("a difference").to_string();
+    assert_eq!(
+        printed(Operation::Read, Change::Place(0, 1)),
+        "text of length 135, index 1: 114 expected, 10 found"
+    );
+    assert_eq!(
+        printed(Operation::RunMachine, Change::Place(0, -1)),
+        "machine table of length 13634, index -1 in the guard before it: \
+         3235774527 expected, 3235774464 found"
+    );
+    assert_eq!(
+        printed(Operation::RunGraph, Change::End(1)),
+        "registers of length 16, index 16 in the guard after it: \
+         3235774464 expected, 3235774465 found"
+    );
+}
+
+/// A difference fails the command, with the case in full.
+#[test]
+fn differences_are_reported() {
+    let library = Changed(Operation::Synthesise, Change::Place(1, 0));
+    let text = compare(11, 40, &library).expect_err("a difference");
+    assert!(text.ends_with("seed 11: 40 cases, 40 differ\n"), "{text}");
+    let shown = text.lines().filter(|line| line.starts_with("difference: seed 11, case "));
+    assert_eq!(shown.count(), MOST_REPORTS);
+    let case = Cases::of(11).get(1);
+    let parts = [
+        String::from(
+            "difference: seed 11, case 1\n  synthesise differs\n    second program: number ",
+        ),
+        String::from("    first differing place: machine table of length "),
+        format!("  text of {} bytes: \"{}\"\n", case.text.len(), case.text.escape_ascii()),
+        format!("  graph buffer: {} words; patches: [", case.graph_length),
+        format!("  output buffer: {} bytes\n", case.output_length),
+        format!("  machine buffer: {} words; patches: [", case.machine_length),
+        format!("  register buffer: {} words: {:?}\n", case.registers.len(), case.registers),
+        format!("  start block {}, block budget {}, ", case.start_block, case.block_budget),
+        format!("start state {}, cycle budget {}\n", case.start_state, case.cycle_budget),
+    ];
+    for part in parts {
+        assert!(text.contains(&part), "{part}");
+    }
+}
+
+/// A number that no case hits fails a long run, and not a short one.
+#[test]
+fn numbers_that_are_not_hit_are_reported() {
+    let same = Changed(Operation::Read, Change::Nothing);
+    let mut tally = tally_all(&Cases::of(1), 2_000, &same);
+    assert!(outcome(1, 2_000, &tally).is_ok());
+    for operation in Operation::ALL {
+        for &number in operation.numbers() {
+            let cases = tally.counts.remove(&(operation, number)).expect("a hit");
+            let text = outcome(1, 2_000, &tally).expect_err("a number is missing");
+            assert!(text.contains(&format!("no case hit {},{number}\n", operation.name())));
+            assert!(outcome(1, 1_999, &tally).is_ok());
+            tally.counts.insert((operation, number), cases);
+        }
+    }
+}

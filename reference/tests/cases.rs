@@ -23,7 +23,7 @@ fn the_same_seed_makes_the_same_cases() {
 
 #[test]
 fn every_refusal_is_hit() {
-    let stats = Stats::of(&cases(1, 2_500));
+    let stats = Stats::of(&cases(1, 4_500));
     let expected: [(&str, &[u32]); 5] = [
         ("1 read", &[0, 1, 2, 3, 4, 5, 7]),
         ("2 write", &[0, 6, 7, 8]),
@@ -46,8 +46,8 @@ fn every_refusal_is_hit() {
 #[test]
 fn stored_cases_stay_small() {
     let mut stream = Vec::new();
-    cases(1, 2_500).iter().for_each(|case| case.append_to(&mut stream));
-    assert!(stream.len() < 2_500_000, "{}", stream.len());
+    cases(1, 4_500).iter().for_each(|case| case.append_to(&mut stream));
+    assert!(stream.len() < 3_500_000, "{}", stream.len());
 }
 
 #[test]
@@ -72,7 +72,7 @@ fn all_names_are_used() {
         "ite,eq,", "ite,ne,", "ite,lt,", "ite,ge,", "ite,ltu,", "ite,geu,", "goto,", "halt\n",
         ",-2147483648\n", ",2147483647\n", "graph,64,16\n", "block,63\n", "graph,1,1\n",
     ];
-    let made = cases(1, 2_500);
+    let made = cases(1, 4_500);
     let read = made.iter().filter(|case| answer(case).read.number == 0);
     let texts: Vec<String> =
         read.map(|case| String::from_utf8_lossy(&case.text).into_owned()).collect();
@@ -84,7 +84,7 @@ fn all_names_are_used() {
 /// Budgets are such that every answer comes soon.
 #[test]
 fn runs_are_short() {
-    for case in cases(1, 2_500) {
+    for case in cases(1, 4_500) {
         let answer = answer(&case);
         assert!(answer.run_graph.count <= 20_000 && answer.run_machine.count <= 20_000);
     }

@@ -10,6 +10,7 @@ fn print(text: &[u8]) -> bool {
     let mut out = io::buffer();
     let answer = listing::list(text, &mut out);
     let ListAnswer::Listed(count) = answer else {
+        // Never: no listing is longer than the buffer, as `list` promises.
         return false;
     };
     let n = count as usize;
@@ -17,7 +18,7 @@ fn print(text: &[u8]) -> bool {
 }
 
 fn main() {
-    // Longer than any text that is accepted.
+    // Longer than any text that is accepted: what has no room in it makes no difference.
     let mut buffer = io::large_buffer();
     let input = input::fill(&mut buffer);
     let n = input.count;

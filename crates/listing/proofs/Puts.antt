@@ -38,6 +38,9 @@ put-each most f k p q =
 
 -- ---- a buffer written from its start on
 
+pub put-few : {most end bound : ℕ} {before after new : List ℕ} → Put most before after 0 new end → most ≤ bound → length new ≤ bound
+put-few p h = omega (arith, p .place, p .near)
+
 module _ {most end : ℕ} {before after new : List ℕ} (p : Put most before after 0 new end) (h : end ≤ length before) where
   -- the place behind what was written, as a length
   pub put-taken : end ≡ length (take end after)

@@ -1,12 +1,12 @@
 -- The listing of a text by what reading answers. Assumes nothing.
-use Prim.Native.Nat.{ℕ, _≤_}
+use Prim.Native.Nat.{ℕ, _≤_, _<_}
 use mathlib.Core.Path.{_≡_, refl, ap, _∙_}
 use mathlib.Core.Bool.{true}
 use mathlib.Core.List.{List}
 use lib.ListN.{length, drop}
 use lib.Dec.{ltb}
 use native.Mathlib.Omega.{arith}
-use borrow.Author.Tests.{le-ltb}
+use borrow.Author.Tests.{lt-ltb, le-ltb}
 use Rattle.word.specs.Word.{choose}
 use Rattle.cfg.specs.Layout.{graphWords}
 use Rattle.cfg.specs.Graph.{CFG}
@@ -29,6 +29,11 @@ by-answer (read g) k n e = absurd (let z : _≡_ {A = ℕ} 0 1 = cc in omega ari
 short-listing : (text : List ℕ) (g : CFG) → length text ≤ maxText → readText text ≡ read g → listing text ≡ machineListing (machine g)
 unfolding listing
 short-listing text g h e = rw (le-ltb maxText (length text) h) (ap listingOf e)
+
+-- a text too long is refused whatever it says, so a part of it that is still too long has the same listing
+pub long-listing : (text : List ℕ) → maxText < length text → listing text ≡ refusedLine 1 0
+unfolding listing
+long-listing text h = rw (lt-ltb maxText (length text) h) refl
 
 module _ (text table : List ℕ) where
   -- a text that is refused

@@ -11,7 +11,7 @@ ghost use Prim.Native.Nat.{_≤_};
 ghost use lib.ListN.{length};
 ghost use Rattle.cfg.specs.Table.{graphOf, admitted};
 ghost use Rattle.synthesis.specs.Synthesis.{machine};
-ghost use Rattle.listing.specs.Listing.{machineListing, refusedLine, answerFor, outputFor, listAnswer, listBytes};
+ghost use Rattle.listing.specs.Listing.{machineListing, refusedLine, answerFor, outputFor, listing, listAnswer, listBytes};
 ghost use Rattle.listing.specs.Words.{tableListing, Listable};
 
 pub enum ListAnswer {
@@ -39,6 +39,7 @@ fn hand_over(new: &[u8], out: &mut [u8]) -> ListAnswer
 fn list_refusal(number: u32, line: u32, out: &mut [u8]) -> ListAnswer
     ensures { λ r. ⌜ r ≡ answerFor (refusedLine number line) (now (out .entry)) ⌝ }
     ensures { λ _. ⌜ now (out .exit) ≡ outputFor (refusedLine number line) (now (out .entry)) ⌝ }
+    ensures { λ _. ⌜ length (refusedLine number line) ≤ 4096 ⌝ }
 {
     let mut new = [0u8; 32];
     let n = lines::put_refused(&mut new, number, line);
@@ -50,6 +51,7 @@ fn list_machine(machine: &[u32], out: &mut [u8]) -> ListAnswer
     requires { ⌜ Listable (now machine) ⌝ }
     ensures { λ r. ⌜ r ≡ answerFor (tableListing (now (machine .entry))) (now (out .entry)) ⌝ }
     ensures { λ _. ⌜ now (out .exit) ≡ outputFor (tableListing (now (machine .entry))) (now (out .entry)) ⌝ }
+    ensures { λ _. ⌜ length (tableListing (now (machine .entry))) ≤ 4096 ⌝ }
 {
     let mut new = [0u8; 4096];
     let n = table::put_listing(machine, &mut new);
@@ -61,16 +63,18 @@ fn list_graph(graph: &[u32], out: &mut [u8]) -> ListAnswer
     requires { ⌜ admitted (now graph) ≡ true ⌝ }
     ensures { λ r. ⌜ r ≡ answerFor (machineListing (machine (graphOf (now (graph .entry))))) (now (out .entry)) ⌝ }
     ensures { λ _. ⌜ now (out .exit) ≡ outputFor (machineListing (machine (graphOf (now (graph .entry))))) (now (out .entry)) ⌝ }
+    ensures { λ _. ⌜ length (machineListing (machine (graphOf (now (graph .entry))))) ≤ 4096 ⌝ }
 {
     let mut words = [0u32; Machine::WORDS];
     synthesis::table::synthesise(graph, &mut words);
     list_machine(&words, out)
 }
 
-// The listing of a text, or the line of its refusal. Where the output is too short it holds what it held.
+// The listing of a text, or the line of its refusal. An output that is too short keeps its bytes; one of 4,096 bytes never is.
 pub fn list(text: &[u8], out: &mut [u8]) -> ListAnswer
     ensures { λ r. ⌜ r ≡ listAnswer (now (text .entry)) (now (out .entry)) ⌝ }
     ensures { λ _. ⌜ now (out .exit) ≡ listBytes (now (text .entry)) (now (out .entry)) ⌝ }
+    ensures { λ _. ⌜ length (listing (now (text .entry))) ≤ 4096 ⌝ }
 {
     let mut graph = [0u32; Graph::WORDS];
     let answer = cfg_text::read_text(text, &mut graph);

@@ -34,7 +34,7 @@ returns c =
     let got = c .before .before .before .before .before .before .before .before .read-text .ensures in
     let told = c .before .before .before .before .before .answer .given in
     let same = refused-listing text _ long (told .0 .0) (told .0 .1 .0) (sym (got .0) ∙ told .1) in
-    (listed .0 ∙ ap (λ (l : List ℕ). answerFor l out) (sym same), listed .1 ∙ ap (λ (l : List ℕ). outputFor l out) (sym same))
+    (listed .0 ∙ ap (λ (l : List ℕ). answerFor l out) (sym same), (listed .1 .0 ∙ ap (λ (l : List ℕ). outputFor l out) (sym same), omega (arith, listed .1 .1, ap length same)))
 
 returns-2 : tie.Need-returns-2
 unfolding listAnswer listBytes
@@ -46,7 +46,7 @@ returns-2 c =
     let got = c .before .before .before .before .before .before .before .before .read-text .ensures in
     let l = read-listing text _ (sym (got .0) ∙ c .before .before .before .before .before .enum-told .given .1) in
     let same = l .same ∙ ap (λ (t : List ℕ). machineListing (machine (graphOf t))) (sym (got .1)) in
-    (listed .0 ∙ ap (λ (l : List ℕ). answerFor l out) (sym same), listed .1 ∙ ap (λ (l : List ℕ). outputFor l out) (sym same))
+    (listed .0 ∙ ap (λ (l : List ℕ). answerFor l out) (sym same), (listed .1 .0 ∙ ap (λ (l : List ℕ). outputFor l out) (sym same), omega (arith, listed .1 .1, ap length same)))
 
 pub list-spec : {M : Type 1} → statement M
 list-spec =

@@ -26,7 +26,7 @@ returns c =
     let out = start .args .out .now in
     let listed = c .before .before .list-machine .ensures in
     let same = made-listing (start .args .graph .now) _ (start .pre) long _ (c .before .before .before .before .before .before .synthesise .ensures .1) in
-    (listed .0 ∙ ap (λ (l : List ℕ). answerFor l out) same, listed .1 ∙ ap (λ (l : List ℕ). outputFor l out) same)
+    (listed .0 ∙ ap (λ (l : List ℕ). answerFor l out) same, (listed .1 .0 ∙ ap (λ (l : List ℕ). outputFor l out) same, omega (arith, listed .1 .1, ap length same)))
 
 pub list-graph-spec : {M : Type 1} → statement M
 list-graph-spec =

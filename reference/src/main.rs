@@ -1,4 +1,7 @@
-//! The commands: cases, answers, list, stats.
+//! The commands: cases, answers, list, stats, bench, draw.
+
+mod bench;
+mod draw;
 
 use reference::answer::answer;
 use reference::case::{read_cases, Case};
@@ -12,6 +15,8 @@ const USAGE: &str = "usage: reference cases SEED COUNT > cases
        reference answers < cases
        reference list < text
        reference stats < cases
+       reference bench
+       reference draw < text
 ";
 
 fn input() -> Result<Vec<u8>, String> {
@@ -43,6 +48,8 @@ fn command(arguments: &[&str]) -> Result<Vec<u8>, String> {
         ["answers"] => answers(),
         ["list"] => Ok(listing(&input()?).into_bytes()),
         ["stats"] => Ok(Stats::of(&input_cases()?).print().into_bytes()),
+        ["bench"] => bench::bench(),
+        ["draw"] => draw::draw(&input()?),
         _ => Err(String::from(USAGE)),
     }
 }

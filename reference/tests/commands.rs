@@ -1,4 +1,4 @@
-//! The binary: its four commands over standard input and output.
+//! The binary: its commands over standard input and output.
 
 use reference::generate::examples::P7;
 use std::io::Write;

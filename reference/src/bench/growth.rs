@@ -82,44 +82,44 @@ fn measure(make: Maker, blocks: usize) -> Result<Row, String> {
     Ok(row)
 }
 
-type Column = (&'static str, fn(&Row) -> f64);
-
-const COLUMNS: [Column; 6] = [
-    ("synthesise, proved: mean", |row| row.proved.mean()),
-    ("worst", |row| row.proved.worst),
-    ("synthesise, plain: mean", |row| row.plain.mean()),
-    ("worst", |row| row.plain.worst),
-    ("grouping, plain: mean", |row| row.grouping.mean()),
-    ("worst", |row| row.grouping.worst),
+/// Mean and worst of synthesise, proved and plain, and of grouping alone, plain.
+const COLUMNS: [fn(&Row) -> f64; 6] = [
+    |row| row.proved.mean(),
+    |row| row.proved.worst,
+    |row| row.plain.mean(),
+    |row| row.plain.worst,
+    |row| row.grouping.mean(),
+    |row| row.grouping.worst,
 ];
 
 fn line(out: &mut String, first: &str, cells: impl Iterator<Item = String>) {
-    let _ = write!(out, "{first:<26}");
-    for (cell, (name, _)) in cells.zip(COLUMNS) {
-        let width = name.len().max(8) + 2;
-        let _ = write!(out, "{cell:>width$}");
-    }
+    let _ = write!(out, "  {first:<22}");
+    cells.for_each(|cell| *out += &format!("{cell:>10}"));
     out.push('\n');
+}
+
+/// How a column grows: its exponent by what the rows grow in.
+fn exponents(rows: &[Row], by: fn(&Row) -> f64) -> impl Iterator<Item = String> + '_ {
+    COLUMNS.iter().map(move |column| {
+        let points: Vec<(f64, f64)> = rows.iter().map(|row| (by(row), column(row))).collect();
+        format!("{:.2}", exponent(&points))
+    })
 }
 
 fn times(out: &mut String, name: &str, make: Maker) -> Result<(), String> {
     let rows: Vec<Row> =
         COUNTS.iter().map(|&blocks| measure(make, blocks)).collect::<Result<_, _>>()?;
-    let _ = writeln!(out, "\nTime of {GRAPHS} graphs of each size, {name}");
-    line(out, "blocks (mean McCabe)", COLUMNS.iter().map(|column| column.0.to_string()));
+    let _ = writeln!(out, "\nGrowth with the number of blocks: {GRAPHS} graphs of each, {name}");
+    let names = ["proved synthesise", "plain synthesise", "plain grouping"];
+    let _ = writeln!(out, "  {:<22}{:>20}{:>20}{:>20}", "", names[0], names[1], names[2]);
+    let heads = ["mean", "worst"].iter().cycle().take(COLUMNS.len());
+    line(out, "blocks (mean McCabe)", heads.map(|head| head.to_string()));
     for row in &rows {
         let first = format!("{} ({:.1})", row.blocks, row.complexity);
-        line(out, &first, COLUMNS.iter().map(|column| duration(column.1(row))));
+        line(out, &first, COLUMNS.iter().map(|column| duration(column(row))));
     }
-    let fit = |of: fn(&Row) -> f64| {
-        let rows = &rows;
-        COLUMNS.iter().map(move |column| {
-            let points: Vec<(f64, f64)> = rows.iter().map(|row| (of(row), column.1(row))).collect();
-            format!("{:.2}", exponent(&points))
-        })
-    };
-    line(out, "exponent by blocks", fit(|row| row.blocks));
-    line(out, "exponent by McCabe", fit(|row| row.complexity));
+    line(out, "exponent by blocks", exponents(&rows, |row| row.blocks));
+    line(out, "exponent by McCabe", exponents(&rows, |row| row.complexity));
     Ok(())
 }
 
@@ -136,7 +136,7 @@ fn gathering(out: &mut String, name: &str, make: Maker) -> Result<(), String> {
         points.iter().fold((0.0, 0.0), |sum, point| (sum.0 + point.0, sum.1 + point.1));
     let _ = writeln!(
         out,
-        "{name:<12}{:>8.2} blocks a state in all, {:.2} by the slope of the least-squares line",
+        "  {name:<22}{:.2} in all, {:.2} by the slope of the least-squares line",
         blocks / states,
         1.0 / slope(&points)
     );
@@ -149,7 +149,7 @@ pub fn report() -> Result<String, String> {
     for (name, make) in makers {
         times(&mut out, name, make)?;
     }
-    let _ = writeln!(out, "\nBlocks a state, {GROWING} graphs of 4 to 64 blocks");
+    let _ = writeln!(out, "\nBlocks a state: {GROWING} graphs of 4 to 64 blocks");
     for (name, make) in makers {
         gathering(&mut out, name, make)?;
     }

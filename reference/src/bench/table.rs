@@ -1,6 +1,6 @@
 //! The table of times: one row an operation.
 
-use super::timing::{compare, duration, Timing, ROUNDS, SAMPLE};
+use super::timing::{compare, duration, rate, Timing, ROUNDS, SAMPLE};
 use super::work::{Work, BLOCK_BUDGET, CYCLE_BUDGET};
 use gutkavu::operations::{self, RunFields};
 use std::fmt::Write;
@@ -9,25 +9,26 @@ use std::hint::black_box;
 pub fn heading() -> String {
     let sample = SAMPLE.as_millis();
     format!(
-        "Time a call, median of {ROUNDS} rounds in turns, each at least {sample} ms long; proved / plain with its quartiles.\n\
-         Runs of {BLOCK_BUDGET} blocks and {CYCLE_BUDGET} cycles, and of one; their rates in millions a second.\n\
-         Both programs gave the same answers and buffers on every row.\n"
+        "Time a call: the median of {ROUNDS} rounds in turns, each program at least {sample} ms a round.\n\
+         Ratio: proved / plain, the median of the rounds and its quartiles.\n\
+         Runs: so many blocks or cycles a call; the last two columns are blocks or cycles a second.\n\
+         On every graph both programs gave the same answers and the same buffers.\n"
     )
 }
 
-fn row(out: &mut String, name: &str, timing: &Timing, rate: Option<(u32, &str)>) {
-    let Timing { proved, plain, ratio: [low, median, high] } = timing;
-    let (proved_time, plain_time) = (duration(*proved), duration(*plain));
-    let _ = write!(
-        out,
-        "  {name:<22}{proved_time:>10}{plain_time:>10}{median:>8.2}  ({low:.2} to {high:.2})"
-    );
-    if let Some((count, unit)) = rate {
-        let millions = |time: f64| f64::from(count) / time / 1e6;
-        let (x, y) = (millions(*proved), millions(*plain));
-        let _ = write!(out, "{x:>10.2}{y:>10.2}  million {unit} a second");
+/// A run has rates beside its times.
+fn row(out: &mut String, name: &str, timing: &Timing, count: Option<u32>) {
+    let Timing { proved, plain, ratio: [low, median, high] } = *timing;
+    let spread = format!("({low:.2} to {high:.2})");
+    let mut cells = [duration(proved), duration(plain), String::new(), String::new()];
+    if let Some(count) = count {
+        cells[2] = rate(f64::from(count) / proved);
+        cells[3] = rate(f64::from(count) / plain);
     }
-    out.push('\n');
+    let [x, y, per_second, other] = cells;
+    let line =
+        format!("  {name:<20}{x:>9}{y:>9}{median:>7.2}  {spread:<16}{per_second:>11}{other:>11}");
+    let _ = writeln!(out, "{}", line.trim_end());
 }
 
 fn texts(work: &Work, out: &mut String) {
@@ -67,22 +68,25 @@ fn runs(work: &Work, table: &[u32], proved: Run, plain: Run, budget: u32) -> Tim
 }
 
 pub fn rows(work: &Work) -> String {
-    let (blocks, registers) = (work.blocks, work.registers);
+    let (blocks, registers, bytes) = (work.blocks, work.registers, work.text.len());
     let (states, wires) = (work.states(), work.wires());
     let mut out = format!(
-        "\n{blocks} blocks, {registers} registers ({states} states, {wires} wires, {} bytes of text)\n",
-        work.text.len()
+        "\nblocks {blocks}, registers {registers} (states {states}, wires {wires}, bytes of text {bytes})\n"
     );
-    let _ = writeln!(out, "  {:<22}{:>10}{:>10}{:>8}", "", "proved", "plain", "ratio");
+    let _ = writeln!(
+        out,
+        "  {:<20}{:>9}{:>9}{:>7}  {:<16}{:>11}{:>11}",
+        "", "proved", "plain", "ratio", "(quartiles)", "proved", "plain"
+    );
     texts(work, &mut out);
     synthesis(work, &mut out);
     for budget in [BLOCK_BUDGET, 1] {
         let run = runs(work, &work.graph, operations::run_graph, plain::run_graph, budget);
-        row(&mut out, &format!("run graph, {budget}"), &run, Some((budget, "blocks")));
+        row(&mut out, &format!("run graph, {budget}"), &run, Some(budget));
     }
     for budget in [CYCLE_BUDGET, 1] {
         let run = runs(work, &work.machine, operations::run_machine, plain::run_machine, budget);
-        row(&mut out, &format!("run machine, {budget}"), &run, Some((budget, "cycles")));
+        row(&mut out, &format!("run machine, {budget}"), &run, Some(budget));
     }
     out
 }

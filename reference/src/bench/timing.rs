@@ -3,7 +3,7 @@
 use std::hint::black_box;
 use std::time::{Duration, Instant};
 
-pub const ROUNDS: usize = 25;
+pub const ROUNDS: usize = 15;
 /// A sample takes at least this long.
 pub const SAMPLE: Duration = Duration::from_millis(5);
 
@@ -79,11 +79,11 @@ pub fn compare<T>(mut proved: impl FnMut() -> T, mut plain: impl FnMut() -> T) -
     }
 }
 
-/// The least of three short samples: for many different inputs, each timed by itself.
+/// The least of five short samples: for many different inputs, each timed by itself.
 pub fn quick<T>(mut call: impl FnMut() -> T) -> f64 {
     let least = Duration::from_micros(150);
     let batch = batch(&mut call, least);
-    (0..3).map(|_| sample(&mut call, batch, least)).fold(f64::INFINITY, f64::min)
+    (0..5).map(|_| sample(&mut call, batch, least)).fold(f64::INFINITY, f64::min)
 }
 
 /// The exponent of y as a power of x: the slope of least squares on logarithms.
@@ -100,15 +100,24 @@ pub fn slope(points: &[(f64, f64)]) -> f64 {
     covariance / points.iter().map(|point| (point.0 - x).powi(2)).sum::<f64>()
 }
 
-/// Three digits and a unit.
+/// Three digits.
+fn digits(value: f64) -> String {
+    let places = if value < 9.995 { 2 } else { usize::from(value < 99.95) };
+    format!("{value:.places$}")
+}
+
 pub fn duration(seconds: f64) -> String {
-    let (value, unit) = match seconds {
-        s if s < 1e-6 => (s * 1e9, "ns"),
-        s if s < 1e-3 => (s * 1e6, "us"),
-        s => (s * 1e3, "ms"),
+    let (factor, unit) = match seconds {
+        s if s < 1e-6 => (1e9, "ns"),
+        s if s < 1e-3 => (1e6, "us"),
+        _ => (1e3, "ms"),
     };
-    let places = if value < 10.0 { 2 } else { usize::from(value < 100.0) };
-    format!("{value:.places$} {unit}")
+    format!("{} {unit}", digits(seconds * factor))
+}
+
+pub fn rate(per_second: f64) -> String {
+    let (factor, unit) = if per_second < 1e6 { (1e-3, "k/s") } else { (1e-6, "M/s") };
+    format!("{} {unit}", digits(per_second * factor))
 }
 
 #[cfg(test)]
@@ -136,5 +145,7 @@ mod tests {
         assert_eq!(duration(1.234e-7), "123 ns");
         assert_eq!(duration(1.234e-5), "12.3 us");
         assert_eq!(duration(1.234e-3), "1.23 ms");
+        assert_eq!(rate(1.234e5), "123 k/s");
+        assert_eq!(rate(9.996e6), "10.0 M/s");
     }
 }

@@ -5,6 +5,7 @@ use super::tables::{Branch, Edge, Tables};
 use std::fmt::Write;
 
 const GREY: &str = "#909090";
+const BLACK: &str = "#404040";
 
 /// Hue, saturation and brightness; the hues of neighbouring states lie far apart.
 fn colour(state: usize, saturation: f64, brightness: f64) -> String {
@@ -43,11 +44,11 @@ fn row(content: &str) -> String {
 /// A block's number, its instructions and what it ends in, one below the other.
 fn label(tables: &Tables, n: usize) -> String {
     let what = match tables.state(n) {
-        None => ", unreachable",
-        Some(_) if n == 0 => ", entry",
+        None => " (unreachable)",
+        Some(_) if n == 0 => " (entry)",
         Some(_) => "",
     };
-    let mut rows = row(&format!("<font face=\"sans-serif\"><b>block {n}</b>{what}</font>"));
+    let mut rows = row(&format!("<font face=\"sans-serif\"><b>block {n}{what}</b></font>"));
     for words in tables.instructions(n) {
         rows += &row(&escaped(&forms::instruction(words)));
     }
@@ -57,7 +58,9 @@ fn label(tables: &Tables, n: usize) -> String {
             rows += &row(&format!("if {condition}"));
         }
         [3, ..] => {
-            rows += "<tr><td bgcolor=\"#404040\"><font color=\"white\">halt</font></td></tr>";
+            let dark = if tables.state(n).is_some() { BLACK } else { GREY };
+            rows +=
+                &format!("<tr><td bgcolor=\"{dark}\"><font color=\"white\">halt</font></td></tr>");
         }
         _ => {}
     }
@@ -82,8 +85,9 @@ fn node(tables: &Tables, n: usize) -> String {
 fn cluster(out: &mut String, tables: &Tables, state: usize) {
     let (pale, dark, wires) = (pale(state), dark(state), tables.wires(state));
     let _ = writeln!(out, "    subgraph cluster_{state} {{");
-    let _ = writeln!(out, "        label=\"state {state}: {wires} wires\";");
-    let _ = writeln!(out, "        style=\"rounded,filled\";");
+    // Two short lines at the left, so that edges into the state seldom cross them.
+    let _ = writeln!(out, "        label=\"state {state}\\l{wires} wires\\l\";");
+    let _ = writeln!(out, "        style=\"rounded,filled\"; margin=12;");
     let _ = writeln!(out, "        fillcolor=\"{pale}\"; color=\"{dark}\"; fontcolor=\"{dark}\";");
     for n in (0..tables.blocks()).filter(|&n| tables.state(n) == Some(state)) {
         let _ = write!(out, "        {}", node(tables, n));
@@ -104,7 +108,7 @@ fn edge(tables: &Tables, edge: &Edge) -> String {
         (_, Some(state)) if tables.is_starter(target) => {
             format!("style=bold, color=\"{0}\", fontcolor=\"{0}\"", dark(state))
         }
-        _ => String::from("style=solid, color=\"#404040\""),
+        _ => format!("style=solid, color=\"{BLACK}\""),
     };
     format!("    b{source} -> b{target} [label=\"{label}\", {look}];\n")
 }
@@ -117,8 +121,8 @@ pub fn dot(tables: &Tables) -> String {
         tables.registers()
     );
     out += "digraph blocks {\n";
-    out += "    graph [fontname=\"sans-serif\", fontsize=12, labeljust=l, nodesep=0.4, ranksep=0.4];\n";
-    out += "    node [shape=box, style=\"rounded,filled\", fontname=\"monospace\", fontsize=11, margin=\"0.08,0.04\"];\n";
+    out += "    graph [fontname=\"sans-serif\", fontsize=11, labeljust=l, newrank=true, nodesep=0.4, ranksep=0.4];\n";
+    out += "    node [shape=box, style=\"rounded,filled\", fontname=\"monospace\", fontsize=11, margin=\"0.08,0.04\", width=1.4];\n";
     out += "    edge [fontname=\"sans-serif\", fontsize=10, arrowsize=0.8];\n";
     for state in 0..states {
         cluster(&mut out, tables, state);

@@ -66,8 +66,8 @@ fn the_picture_of_gcd() {
     let text = examples().into_iter().find(|(name, _)| name.ends_with("gcd.txt")).expect("gcd").1;
     let picture = String::from_utf8(draw(&text).expect("a picture")).expect("text");
     for part in [
-        "state 0: 2 wires",
-        "state 1: 18 wires",
+        "state 0\\l2 wires",
+        "state 1\\l18 wires",
         ">r1 := r1 - r0<",
         ">if r0 &lt;u r1<",
         ">if r0 != r1<",

@@ -38,9 +38,9 @@ loop-again c =
     let to = k .args .to in (
       omega arith,
       ⊎-elim
-      (λ w. rw (w .1) (inv .1 ∙ (ap (λ (z : Bool). clear && z) (zero-stop t i to below (k .pre .1) (w .0 .taken)) ∙ and-no clear)))
-      (λ w. rw (w .1) (inv .1 ∙ ap (λ (z : Bool). clear && z) (zero-go t i to below (k .pre .1) (w .0 .left))))
-      (c .if1 .came),
+          (λ w. rw (w .1) (inv .1 ∙ (ap (λ (z : Bool). clear && z) (zero-stop t i to below (k .pre .1) (w .0 .taken)) ∙ and-no clear)))
+          (λ w. rw (w .1) (inv .1 ∙ ap (λ (z : Bool). clear && z) (zero-go t i to below (k .pre .1) (w .0 .left))))
+          (c .if1 .came),
     )
 
 returns : tie.Need-returns Inv-loop μ-loop

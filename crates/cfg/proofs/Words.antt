@@ -10,7 +10,7 @@ use lib.ListN.{length, getD, take, drop, replicate, length-drop, length-append, 
 use lib.Seq.{drop-cons, take-add, drop-drop, length-take-le}
 use borrow.Author.Tests.{eq-eqb, ne-eqb, lt-leb, le-leb}
 use Rattle.word.specs.declared.Comparison.the-variants.{Eq, Ne, Lt, Ge, Ltu, Geu}
-use Rattle.word.specs.Word.{arity, codeOf as comparisonCode}
+use Rattle.word.specs.Word.{codeOf as comparisonCode}
 use Rattle.runs.specs.Lists.{upFrom, same, every, padded, concatMap}
 use Rattle.runs.proofs.ListLaws.{eqb-sym, same-front, same-append, same-zeros, every-and, every-map, padded-append, take-map-upFrom, drop-map-upFrom}
 use Rattle.cfg.specs.declared.Instruction.{Instruction}
@@ -324,35 +324,8 @@ module _ (t : List ℕ) where
       by-head
       ∙ rw (le-leb 1 b h₁, le-leb b 64 h₂, le-leb 1 r h₃, le-leb r 16 h₄, table-words t l h₂, every-map (blockAt t) (validBlock b r) (upFrom 0 b), ← and-assoc (every valid (upFrom 0 b)) (every (own t) (upFrom 0 b)) (zeros t (2 + 40 * b) (2560 - 40 * b)), every-and valid (own t) (upFrom 0 b), all-fit b r t (upFrom 0 b))
 
--- ---- codes
+-- ---- the comparisons' codes are 12 to 17
 
-pub arity-two : (k : ℕ) → 3 ≤ k → k ≤ 10 → eqb (arity k) 2 ≡ true
-unfolding arity
-arity-two zero h l = absurd (omega arith)
-arity-two (suc zero) h l = absurd (omega arith)
-arity-two (suc (suc zero)) h l = absurd (omega arith)
-arity-two (suc (suc (suc zero))) h l = refl
-arity-two (suc (suc (suc (suc zero)))) h l = refl
-arity-two (suc (suc (suc (suc (suc zero))))) h l = refl
-arity-two (suc (suc (suc (suc (suc (suc zero)))))) h l = refl
-arity-two (suc (suc (suc (suc (suc (suc (suc zero))))))) h l = refl
-arity-two (suc (suc (suc (suc (suc (suc (suc (suc zero)))))))) h l = refl
-arity-two (suc (suc (suc (suc (suc (suc (suc (suc (suc zero))))))))) h l = refl
-arity-two (suc (suc (suc (suc (suc (suc (suc (suc (suc (suc zero)))))))))) h l = refl
-arity-two (suc (suc (suc (suc (suc (suc (suc (suc (suc (suc (suc k))))))))))) h l = absurd (omega arith)
-
-pub arity-low : (k : ℕ) → k < 3 → eqb (arity k) 2 ≡ false
-unfolding arity
-arity-low zero h = refl
-arity-low (suc zero) h = refl
-arity-low (suc (suc zero)) h = refl
-arity-low (suc (suc (suc k))) h = absurd (omega arith)
-
-pub arity-last : (k : ℕ) → k ≡ 11 → eqb (arity k) 2 ≡ false
-unfolding arity
-arity-last k h = rw h
-
--- the comparisons' codes are 12 to 17
 module _ (c : ℕ) where
   pub no-code-low : c < 12 → eqb (comparisonCode (comparisonAt c)) c ≡ false
   no-code-low h = let e : c - 12 ≡ 0 = omega arith in rw e (ne-eqb 12 c (λ e. omega arith))

@@ -36,16 +36,13 @@ fn all_zero(table: &[u32], from: usize, to: usize) -> bool
 
 // The second operand: a register where the code reads one, else 0.
 fn second_valid(i: Instruction, registers: u32) -> bool
-    requires { ⌜ i .code ≤ 11 ⌝ }
     ensures { λ r. ⌜ r ≡ choose (eqb (arity (i .code)) 2) (ltb (i .b) registers) (eqb (i .b) 0) ⌝ }
 {
-    if i.code < 3 {
-        return i.b == 0;
+    if word::arity(i.code) == 2 {
+        i.b < registers
+    } else {
+        i.b == 0
     }
-    if 10 < i.code {
-        return i.b == 0;
-    }
-    i.b < registers
 }
 
 fn instruction_valid(i: Instruction, registers: u32) -> bool

@@ -1,14 +1,14 @@
 -- What each step of reading does is what the definition does. Assumes nothing.
-use mathlib.Core.Path.{_≡_, _∙_, refl, sym, ap, subst}
+use mathlib.Core.Path.{_≡_, _∙_, refl, sym, ap}
 use mathlib.Core.List.{List, [], _∷_, _++_}
-use mathlib.Core.Bool.{Bool, true, false, not, _&&_, _||_, and-true, or-true}
-use Prim.Native.Nat.{ℕ, zero, suc, _+_, _-_, _*_, _≤_, _<_}
+use mathlib.Core.Bool.{Bool, true, false, and-true}
+use Prim.Native.Nat.{ℕ, _+_, _*_, _≤_, _<_}
 use native.Mathlib.Omega.{arith}
-use lib.ListN.{length, set, getD, length-append}
+use lib.ListN.{length, length-append}
 use lib.Seq.{sets}
-use lib.Dec.{eqb, ltb, leb}
-use borrow.Author.Tests.{eqb-true, eq-eqb, ne-eqb, lt-ltb, le-ltb, not-true}
-use Rattle.word.specs.Word.{choose, arity, arities}
+use lib.Dec.{eqb, ltb}
+use borrow.Author.Tests.{eq-eqb, ne-eqb, lt-ltb, le-ltb}
+use Rattle.word.specs.Word.{choose, arity}
 use Rattle.runs.specs.Lists.{every, padded}
 use Rattle.cfg.specs.Layout.{maxInstructions, blockOffset, codeOffset, instructionWords}
 use Rattle.cfg.specs.Graph.{CFG, noInstruction, targets}
@@ -16,47 +16,18 @@ use Rattle.cfg.specs.Table.{instructionWordsOf, endingWordsOf, tableOf}
 use Rattle.cfg.specs.declared.Instruction.{Instruction}
 use Rattle.cfg.specs.declared.Ending.{Ending}
 use Rattle.cfg.specs.declared.Block.{Block}
-use Rattle.cfg_line.specs.declared.Line.{Line}
-use Rattle.cfg_line.specs.declared.Line.the-variants as line
 use Rattle.cfg_line.proofs.Split.{both}
-use Rattle.cfg_text.specs.declared.Due.{Due}
 use Rattle.cfg_text.specs.declared.Due.the-variants as due
 use Rattle.cfg_text.specs.declared.Place.{Place}
 use Rattle.cfg_text.specs.declared.Moved.{Moved}
 use Rattle.cfg_text.specs.declared.Moved.the-variants.{Go, Stop}
-use Rattle.cfg_text.specs.declared.ReadAnswer.{ReadAnswer}
 use Rattle.cfg_text.specs.declared.ReadAnswer.the-variants.{Refused, Read}
-use Rattle.cfg_text.specs.Walk.{Progress, start, between, inside, Next, go, refuse, Reading, refused, read, allBelow, instructionRegisters, endingRegisters, opened, joined, closed, blockWith, finish}
-use Rattle.cfg_text.specs.Place.{placeOf, filled, sized, Stands, Agrees, Answers, endedAt, afterBlock}
+use Rattle.cfg_text.specs.Walk.{Progress, start, between, inside, Reading, refused, read, allBelow, instructionRegisters, endingRegisters, opened, joined, closed, blockWith, finish}
+use Rattle.cfg_text.specs.Place.{placeOf, sized, Stands, Agrees, Answers, endedAt, afterBlock}
 use Rattle.cfg_text.proofs.Padding.{padded-length}
 use Rattle.cfg_text.proofs.Stores.{opened-words, joined-words, closed-words, table-words}
 
--- ---- which registers an instruction names, over all codes
-
-known : ℕ → ℕ → Bool
-known k n = eqb k 1 || eqb k 2 || eqb k 11 || not (eqb n 1)
-
-allKnown : ℕ → List ℕ → Bool
-allKnown k [] = true
-allKnown k (n ∷ ns) = known k n && allKnown (suc k) ns
-
-known-at : (k j : ℕ) (ns : List ℕ) → allKnown k ns ≡ true → known (k + j) (getD ns j 0) ≡ true
-unfolding known allKnown
-known-at k j [] h = or-true (eqb (k + j) 1 || eqb (k + j) 2 || eqb (k + j) 11)
-known-at k zero (n ∷ ns) h =
-    let z : k + 0 ≡ k = omega arith in
-    rw z (both (known k n) (allKnown (suc k) ns) h .0)
-known-at k (suc j) (n ∷ ns) h =
-    let z : k + suc j ≡ suc k + j = omega arith in
-    rw z (known-at (suc k) j ns (both (known k n) (allKnown (suc k) ns) h .1))
-
--- a code of one operand is 1, 2 or 11
-pub not-unary : (k : ℕ) → (k ≡ 1 → ⊥) → (k ≡ 2 → ⊥) → (k ≡ 11 → ⊥) → eqb (arity k) 1 ≡ false
-unfolding known allKnown arity
-not-unary k a b c =
-    let z : 0 + k ≡ k = omega arith in
-    let h : known k (getD arities k 0) ≡ true = rw z at (known-at 0 k arities refl) in
-    not-true (eqb (getD arities k 0) 1) (rw (ne-eqb k 1 a, ne-eqb k 2 b, ne-eqb k 11 c) at h)
+-- ---- which registers an instruction names
 
 module _ (r : ℕ) (i : Instruction) where
   pub below-written : r ≤ i .d → allBelow r (instructionRegisters i) ≡ false
@@ -72,11 +43,11 @@ module _ (r : ℕ) (i : Instruction) where
       by true = rw (le-ltb (i .a) r l)
       by false = rw (le-ltb (i .a) r l)
 
-  pub below-unary : i .d < r → (i .code ≡ 1 → ⊥) → i .a < r → eqb (arity (i .code)) 1 ≡ true → allBelow r (instructionRegisters i) ≡ true
-  below-unary h e l u = rw (lt-ltb (i .d) r h, ne-eqb (i .code) 1 e, u, lt-ltb (i .a) r l)
+  pub below-unary : i .d < r → (i .code ≡ 1 → ⊥) → i .a < r → arity (i .code) ≡ 1 → allBelow r (instructionRegisters i) ≡ true
+  below-unary h e l u = rw (lt-ltb (i .d) r h, ne-eqb (i .code) 1 e, eq-eqb (arity (i .code)) 1 u, lt-ltb (i .a) r l)
 
-  pub below-binary : i .d < r → (i .code ≡ 1 → ⊥) → i .a < r → eqb (arity (i .code)) 1 ≡ false → allBelow r (instructionRegisters i) ≡ ltb (i .b) r
-  below-binary h e l u = rw (lt-ltb (i .d) r h, ne-eqb (i .code) 1 e, u, lt-ltb (i .a) r l) (and-true (ltb (i .b) r))
+  pub below-binary : i .d < r → (i .code ≡ 1 → ⊥) → i .a < r → (arity (i .code) ≡ 1 → ⊥) → allBelow r (instructionRegisters i) ≡ ltb (i .b) r
+  below-binary h e l u = rw (lt-ltb (i .d) r h, ne-eqb (i .code) 1 e, ne-eqb (arity (i .code)) 1 u, lt-ltb (i .a) r l) (and-true (ltb (i .b) r))
 
 -- ---- the code's place is of one kind only
 

@@ -81,10 +81,7 @@ fn registers_below(i: Instruction, registers: u32) -> bool
     if registers <= i.a {
         return false;
     }
-    if i.code == 2 {
-        return true;
-    }
-    if i.code == 11 {
+    if word::arity(i.code) == 1 {
         return true;
     }
     i.b < registers

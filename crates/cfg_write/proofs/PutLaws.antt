@@ -1,12 +1,9 @@
 -- Bytes stored one after another. Assumes nothing.
-use Prim.Native.Nat.{ℕ, zero, suc, _+_, _-_, _≤_, _<_, _^_}
+use Prim.Native.Nat.{ℕ, suc, _+_, _-_, _≤_, _<_, _^_}
 use native.Mathlib.Omega.{arith}
 use native.Mathlib.Nat.{add-zero}
 use mathlib.Core.Path.{_≡_, refl, sym, ap, _∙_}
 use mathlib.Core.List.{List, [], _∷_, _++_, append-assoc, append-nil}
-use mathlib.Core.Bool.{true, false}
-use mathlib.Core.Logic.{_⊎_, inl, inr}
-use lib.Dec.{eqb}
 use lib.ListN.{length, set, length-append}
 use borrow.Author.Tests.{eq-eqb, ne-eqb, lt-ltb, le-ltb}
 use Rattle.word.specs.Word.{arity}
@@ -129,50 +126,17 @@ module _ (w : ℕ) where
   unfolding literalText
   literal-high h n e = rw (le-ltb w (2 ^ 31) h, e)
 
--- only set, copy and sx read one operand
-not-one : (k : ℕ) → (k ≡ 1 → ⊥) → (k ≡ 2 → ⊥) → (k ≡ 11 → ⊥) → eqb (arity k) 1 ≡ false
-unfolding arity
-not-one zero a b c = refl
-not-one (suc zero) a b c = absurd (a refl)
-not-one (suc (suc zero)) a b c = absurd (b refl)
-not-one (suc (suc (suc zero))) a b c = refl
-not-one (suc (suc (suc (suc zero)))) a b c = refl
-not-one (suc (suc (suc (suc (suc zero))))) a b c = refl
-not-one (suc (suc (suc (suc (suc (suc zero)))))) a b c = refl
-not-one (suc (suc (suc (suc (suc (suc (suc zero))))))) a b c = refl
-not-one (suc (suc (suc (suc (suc (suc (suc (suc zero)))))))) a b c = refl
-not-one (suc (suc (suc (suc (suc (suc (suc (suc (suc zero))))))))) a b c = refl
-not-one (suc (suc (suc (suc (suc (suc (suc (suc (suc (suc zero)))))))))) a b c = refl
-not-one (suc (suc (suc (suc (suc (suc (suc (suc (suc (suc (suc zero))))))))))) a b c = absurd (c refl)
-not-one (suc (suc (suc (suc (suc (suc (suc (suc (suc (suc (suc (suc zero)))))))))))) a b c = refl
-not-one (suc (suc (suc (suc (suc (suc (suc (suc (suc (suc (suc (suc (suc zero))))))))))))) a b c = refl
-not-one (suc (suc (suc (suc (suc (suc (suc (suc (suc (suc (suc (suc (suc (suc zero)))))))))))))) a b c = refl
-not-one (suc (suc (suc (suc (suc (suc (suc (suc (suc (suc (suc (suc (suc (suc (suc zero))))))))))))))) a b c = refl
-not-one (suc (suc (suc (suc (suc (suc (suc (suc (suc (suc (suc (suc (suc (suc (suc (suc zero)))))))))))))))) a b c = refl
-not-one (suc (suc (suc (suc (suc (suc (suc (suc (suc (suc (suc (suc (suc (suc (suc (suc (suc zero))))))))))))))))) a b c = refl
-not-one (suc (suc (suc (suc (suc (suc (suc (suc (suc (suc (suc (suc (suc (suc (suc (suc (suc (suc zero)))))))))))))))))) a b c = refl
-not-one (suc (suc (suc (suc (suc (suc (suc (suc (suc (suc (suc (suc (suc (suc (suc (suc (suc (suc (suc zero))))))))))))))))))) a b c = refl
-not-one (suc (suc (suc (suc (suc (suc (suc (suc (suc (suc (suc (suc (suc (suc (suc (suc (suc (suc (suc (suc k)))))))))))))))))))) a b c = refl
-
-is-one : (k : ℕ) → (k ≡ 2) ⊎ (k ≡ 11) → eqb (arity k) 1 ≡ true
-unfolding arity
-is-one k (inl e) = rw e
-is-one k (inr e) = rw e
-
-not-set : (k : ℕ) → (k ≡ 2) ⊎ (k ≡ 11) → eqb k 1 ≡ false
-not-set k (inl e) = rw e
-not-set k (inr e) = rw e
-
 module _ (i : Instruction) where
   pub set-text : i .code ≡ 1 → 44 ∷ literalText (i .a) ≡ commas (operandsOf i)
   set-text e = rw (operands-set i (eq-eqb (i .code) 1 e), commas-one (literalText (i .a)))
 
-  pub one-text : (i .code ≡ 2) ⊎ (i .code ≡ 11) → 44 ∷ decimalOf (i .a) ≡ commas (operandsOf i)
-  one-text e = rw (operands-one i (not-set (i .code) e) (is-one (i .code) e), commas-one (decimalOf (i .a)))
+  pub one-text : (i .code ≡ 1 → ⊥) → arity (i .code) ≡ 1 → 44 ∷ decimalOf (i .a) ≡ commas (operandsOf i)
+  one-text a b =
+      rw (operands-one i (ne-eqb (i .code) 1 a) (eq-eqb (arity (i .code)) 1 b), commas-one (decimalOf (i .a)))
 
-  pub two-text : (i .code ≡ 1 → ⊥) → (i .code ≡ 2 → ⊥) → (i .code ≡ 11 → ⊥) → 44 ∷ (decimalOf (i .a) ++ (44 ∷ decimalOf (i .b))) ≡ commas (operandsOf i)
-  two-text a b c =
-      rw (operands-two i (ne-eqb (i .code) 1 a) (not-one (i .code) a b c), commas-two (decimalOf (i .a)) (decimalOf (i .b)))
+  pub two-text : (i .code ≡ 1 → ⊥) → (arity (i .code) ≡ 1 → ⊥) → 44 ∷ (decimalOf (i .a) ++ (44 ∷ decimalOf (i .b))) ≡ commas (operandsOf i)
+  two-text a b =
+      rw (operands-two i (ne-eqb (i .code) 1 a) (ne-eqb (arity (i .code)) 1 b), commas-two (decimalOf (i .a)) (decimalOf (i .b)))
 
 -- ---- each form of line
 

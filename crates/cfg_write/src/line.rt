@@ -102,10 +102,7 @@ fn put_operands(out: &mut [u8], at: usize, i: Instruction) -> usize
         return put_literal(out, at, i.a);
     }
     let next = put_number(out, at, i.a);
-    if i.code == 2 {
-        return next;
-    }
-    if i.code == 11 {
+    if word::arity(i.code) == 1 {
         return next;
     }
     put_number(out, next, i.b)

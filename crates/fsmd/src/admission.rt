@@ -5,7 +5,6 @@ ghost use lib.Dec.{eqb, ltb};
 ghost use mathlib.Core.List.{map};
 ghost use Prim.Native.Nat.{ℕ, _+_, _<_, _≤_};
 ghost use lib.ListN.{length, getD, take, drop};
-ghost use Rattle.word.specs.Word.{arity as arityOf};
 ghost use Rattle.runs.specs.Lists.{upFrom, every};
 ghost use Rattle.fsmd.specs.Layout.{machineWords, maxStates, maxRegisters, maxWires};
 ghost use Rattle.fsmd.specs.Table.{wireAt, stateAt, firstWireAt, wireCountAt, validReference, validWire, validWires, validState, within as withinOf, apart as apartOf, admitted as admittedOf};
@@ -16,14 +15,6 @@ use super::table::record;
 use super::table::wide;
 use super::table::wire;
 use super::table::wire_count;
-
-// How many operands a code reads; a code that is none reads none.
-pub fn arity(code: u32) -> u32
-    ensures { λ r. ⌜ r ≡ arityOf code ⌝ }
-{
-    let i = wide(code);
-    if i < Wire::CODES { Wire::ARITIES[i] } else { 0 }
-}
 
 // A reference is one of the registers, or one of the first n wires of the state.
 fn valid_reference(registers: usize, n: usize, x: u32) -> bool
@@ -72,7 +63,7 @@ fn valid_wire(registers: usize, n: usize, w: Wire) -> bool
     if Wire::LAST < code {
         return false;
     }
-    let reads = arity(code);
+    let reads = word::arity(code);
     if !valid_first(registers, n, code, w.a) {
         return false;
     }

@@ -51,29 +51,4 @@ impl Wire {
     pub const SET: u32 = 1;
 
     pub const LAST: u32 = 19;
-    // How many of a, b and c each code reads, from code 0.
-    pub const CODES: usize = 20;
-
-    pub const ARITIES: [u32; Wire::CODES] = [
-        0,
-        1,
-        1,
-        2,
-        2,
-        2,
-        2,
-        2,
-        2,
-        2,
-        2,
-        1,
-        2,
-        2,
-        2,
-        2,
-        2,
-        2,
-        2,
-        3,
-    ];
 }

@@ -16,23 +16,13 @@ ghost use mathlib.Core.List.{List, [], _∷_, _++_};
 ghost use Prim.Native.Nat.{_+_, _-_, _*_, _≤_, _<_};
 ghost use lib.ListN.{length, getD, set};
 ghost use lib.Dec.{eqb, ltb};
-ghost use Rattle.word.specs.Word.{choose, arity as arityOf, codeOf as comparisonCode};
+ghost use Rattle.word.specs.Word.{choose, arity, codeOf as comparisonCode};
 ghost use Rattle.fsmd.specs.Layout.{maxRegisters, maxBlocks, maxWires};
 ghost use Rattle.cfg.specs.Layout.{blockOffset, graphWords, maxInstructions};
 ghost use Rattle.cfg.specs.Graph.{codeOf};
 ghost use Rattle.cfg.specs.Table.{blockAt};
 ghost use Rattle.state.specs.Wires.{wire, «and-wire», «and-not-wire», instructionWire, assign as assigned, assigns, close as closed, after};
 ghost use Rattle.state.specs.Making.{appended, Room, pointIn, Held, edgeTo, pending, Edged, buildIn, Built, Aims, Placeable, putBlock};
-
-// How many operands each code reads, from code 0.
-const ARITIES: [u32; 20] = [0, 1, 1, 2, 2, 2, 2, 2, 2, 2, 2, 1, 2, 2, 2, 2, 2, 2, 2, 3];
-
-fn arity(code: u32) -> u32
-    ensures { λ r. ⌜ r ≡ arityOf code ⌝ }
-{
-    let i = code as usize;
-    if i < 20 { ARITIES[i] } else { 0 }
-}
 
 // The reference of a register's value; 0 of none.
 fn value_of(values: &[u32], register: u32) -> u32
@@ -62,9 +52,9 @@ fn first_operand(values: &[u32], i: Instruction) -> u32
 }
 
 fn second_operand(values: &[u32], i: Instruction) -> u32
-    ensures { λ r. ⌜ r ≡ choose (ltb (arityOf (i .code)) 2) 0 (getD (now (values .entry)) (i .b) 0) ⌝ }
+    ensures { λ r. ⌜ r ≡ choose (ltb (arity (i .code)) 2) 0 (getD (now (values .entry)) (i .b) 0) ⌝ }
 {
-    if arity(i.code) < 2 {
+    if word::arity(i.code) < 2 {
         return 0;
     }
     value_of(values, i.b)

@@ -1,5 +1,5 @@
 -- `cfg::admission::instruction_valid` meets its contract. Assumes nothing.
-use native.Mathlib.Omega.{arith}
+use borrow.Author.Needs.{needs}
 use borrow.Author.Tests.{lt-leb, le-leb, lt-ltb, le-ltb, eq-eqb, ne-eqb}
 use Rattle.cfg.specs.Graph.{validInstruction}
 use Rattle.cfg.proofs.admission.instruction_valid.Statement.{statement}
@@ -23,9 +23,6 @@ returns-3 c =
     let k = c .before .before .before .before .before .before .args in
     rw (le-leb 1 (k .i .code) (c .before .before .before .before .if1 .left), le-leb (k .i .code) 11 (c .before .before .if2 .left), le-ltb (k .i .d) (k .registers) (c .if3 .taken))
 
-second-valid-requires : tie.Need-second-valid-requires
-second-valid-requires c κs = omega arith
-
 returns-4 : tie.Need-returns-4
 unfolding validInstruction
 returns-4 c =
@@ -37,9 +34,6 @@ unfolding validInstruction
 returns-5 c =
     let k = c .before .before .before .before .before .before .before .before .before .before .args in
     rw (le-leb 1 (k .i .code) (c .before .before .before .before .before .before .before .before .if1 .left), le-leb (k .i .code) 11 (c .before .before .before .before .before .before .if2 .left), lt-ltb (k .i .d) (k .registers) (c .before .before .before .before .if3 .left), ne-eqb (k .i .code) 1 (c .before .before .if4 .left), le-ltb (k .i .a) (k .registers) (c .if5 .taken))
-
-second-valid-requires-2 : tie.Need-second-valid-requires-2
-second-valid-requires-2 c κs = omega arith
 
 returns-6 : tie.Need-returns-6
 unfolding validInstruction
@@ -54,8 +48,8 @@ instruction-valid-spec =
     returns
     returns-2
     returns-3
-    second-valid-requires
+    (λ c κs. search needs)
     returns-4
     returns-5
-    second-valid-requires-2
+    (λ c κs. search needs)
     returns-6)

@@ -1,4 +1,5 @@
-use mathlib.Core.Logic.{inl, inr}
+-- `cfg_write::line::put_operands` meets its contract. Assumes nothing.
+use mathlib.Core.Path.{sym, _∙_}
 use native.Mathlib.Omega.{arith}
 use Rattle.cfg_write.specs.Put.{commas}
 use Rattle.cfg_write.specs.Write.{operandsOf}
@@ -15,18 +16,14 @@ returns c =
 returns-2 : tie.Need-returns-2
 returns-2 c =
     let i = c .before .before .before .before .before .before .before .before .before .args .i in
-    put-as 22 (commas (operandsOf i)) (omega arith) (one-text i (inl (c .if2 .taken))) (c .before .before .before .before .put-number .ensures)
+    let e = sym (c .before .arity .ensures) ∙ c .if2 .taken in
+    put-as 22 (commas (operandsOf i)) (omega arith) (one-text i (c .before .before .before .before .before .before .if1 .left) e) (c .before .before .before .before .put-number .ensures)
 
 returns-3 : tie.Need-returns-3
 returns-3 c =
-    let i = c .before .before .before .before .before .before .before .before .before .before .before .args .i in
-    put-as 22 (commas (operandsOf i)) (omega arith) (one-text i (inr (c .if3 .taken))) (c .before .before .before .before .before .before .put-number .ensures)
-
-returns-4 : tie.Need-returns-4
-returns-4 c =
-    let i = c .before .before .before .before .before .before .before .before .before .before .before .before .before .before .before .args .i in
-    put-as 22 (commas (operandsOf i)) (omega arith) (two-text i (c .before .before .before .before .before .before .before .before .before .before .before .before .if1 .left) (c .before .before .before .before .before .before .if2 .left) (c .before .before .before .before .if3 .left))
-    (put-then (c .before .before .before .before .before .before .before .before .before .before .put-number .ensures) (c .before .before .put-number2 .ensures))
+    let i = c .before .before .before .before .before .before .before .before .before .before .before .before .before .args .i in
+    put-as 22 (commas (operandsOf i)) (omega arith) (two-text i (c .before .before .before .before .before .before .before .before .before .before .if1 .left) (λ e. c .before .before .before .before .if2 .left (c .before .before .before .before .before .arity .ensures ∙ e)))
+    (put-then (c .before .before .before .before .before .before .before .before .put-number .ensures) (c .before .before .put-number2 .ensures))
 
 pub put-operands-spec : {M : Type 1} → statement M
 put-operands-spec =
@@ -36,10 +33,9 @@ put-operands-spec =
     (λ c. search needs)
     returns
     (λ c κs. search needs)
-    (λ c. search needs)
-    returns-2
-    (λ c. search needs)
-    returns-3
     (λ c κs. search needs)
     (λ c. search needs)
-    returns-4)
+    returns-2
+    (λ c κs. search needs)
+    (λ c. search needs)
+    returns-3)

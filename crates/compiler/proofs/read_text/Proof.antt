@@ -1,9 +1,6 @@
 -- `read_text` passes on what reading promises, and that writing gives the text back follows from the words it leaves. Assumes nothing.
-use Prim.Native.Nat.{ℕ}
-use mathlib.Core.Path.{_≡_, sym, _∙_, subst}
-use mathlib.Core.List.{List}
+use mathlib.Core.Path.{sym, _∙_}
 use borrow.Author.Needs.{needs}
-use Rattle.cfg_write.specs.RoundTrip.{WrittenAgain}
 use Rattle.cfg_write.proofs.RoundTrip.{read-then-write}
 use Rattle.compiler.proofs.read_text.Statement.{statement}
 use Rattle.compiler.proofs.read_text.Tie as tie
@@ -18,14 +15,7 @@ returns : tie.Need-returns
 returns c =
     let a = c .before .before .before .before .before .before .args in
     let u = c .before .before .read-text in
-    let text = a .text .now in (
-      u .ensures .0,
-      (
-        u .ensures .1,
-        λ e out room.
-            subst (λ (t : List ℕ). WrittenAgain text t out) (sym (u .ensures .1)) (read-then-write text (a .table .now) out (sym (u .ensures .0) ∙ e) room),
-      ),
-    )
+    (u .ensures .0, (u .ensures .1, λ e out room. rw (u .ensures .1) (read-then-write (a .text .now) (a .table .now) out (sym (u .ensures .0) ∙ e) room)))
 
 pub read-text-spec : {M : Type 1} → statement M
 read-text-spec = tie.close (tie.spec read-text-requires same-length returns)

@@ -1,11 +1,7 @@
 -- `write_text` passes on what writing promises, and that reading gives the table back follows from the bytes it leaves. Assumes nothing.
-use Prim.Native.Nat.{ℕ, _<_, _^_}
 use native.Mathlib.Omega.{arith}
-use mathlib.Core.Path.{_≡_, sym, _∙_, subst}
-use mathlib.Core.List.{List}
-use lib.ListN.{getD, take}
+use mathlib.Core.Path.{sym, _∙_}
 use borrow.Author.Needs.{needs}
-use Rattle.cfg_write.specs.RoundTrip.{ReadAgain}
 use Rattle.cfg_write.proofs.Whole.{all-words}
 use Rattle.cfg_write.proofs.RoundTrip.{write-then-read}
 use Rattle.compiler.proofs.write_text.Statement.{statement}
@@ -22,15 +18,8 @@ returns c =
     let a = c .before .before .before .before .before .before .args in
     let u = c .before .before .write-text in
     let table = a .table .now in
-    let words : (i : ℕ) → getD table i 0 < 2 ^ 32 = λ i. omega (arith, c .before .before .before .before .before .shared-slice-known .given i) in (
-      u .ensures .0,
-      (
-        u .ensures .1,
-        λ n e again long.
-            subst (λ (b : List ℕ). ReadAgain table again (take n b)) (sym (u .ensures .1))
-            (write-then-read table (a .out .now) again n (all-words table words) long (sym (u .ensures .0) ∙ e)),
-      ),
-    )
+    let words = all-words table (λ i. omega (arith, c .before .before .before .before .before .shared-slice-known .given i)) in
+    (u .ensures .0, (u .ensures .1, λ n e again long. rw (u .ensures .1) (write-then-read table (a .out .now) again n words long (sym (u .ensures .0) ∙ e))))
 
 pub write-text-spec : {M : Type 1} → statement M
 write-text-spec = tie.close (tie.spec write-text-requires same-length returns)

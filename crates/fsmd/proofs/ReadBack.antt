@@ -13,12 +13,12 @@ use Rattle.runs.proofs.Tests.{or-right}
 use Rattle.runs.specs.Lists.{upFrom}
 use Rattle.runs.specs.Runs.{Configuration, startAt, answer, registersAfter}
 use Rattle.fsmd.specs.Layout.{maxStates, maxRegisters, maxWires, machineWords}
-use Rattle.fsmd.specs.Machine.{State, FSMD, emptyState, stateOf, clock, cycle}
+use Rattle.fsmd.specs.Machine.{State, wireCount, FSMD, emptyState, stateOf, clock, cycle}
 use Rattle.fsmd.specs.Run.{refusal, runAnswer, runRegisters}
 use Rattle.fsmd.specs.Table.{tableOf, firstWireAt, wireCountAt, stateAt, machineOf, validState, admitted}
 use Rattle.fsmd.proofs.Machines.{facts-admitted}
 use Rattle.fsmd.proofs.Steps.{refuse-registers, refuse-none, run-answer, run-registers}
-use Rattle.fsmd.proofs.WrittenTable.{wireCount, before-room, before-less, count-is, registers-are, back-first, back-count, back-state, table-length}
+use Rattle.fsmd.proofs.WrittenTable.{before-room, before-less, count-is, registers-are, back-first, back-count, back-state, table-length}
 
 -- a machine that its table has room for
 pub record Fits (m : FSMD) : Type 0 where

@@ -9,18 +9,13 @@ use lib.Seq.{drop-append-add, drop-drop, take-at, getD-drop}
 use Rattle.runs.proofs.ListLaws.{padded-append, length-padded}
 use Rattle.runs.specs.Lists.{upFrom, padded, concatMap}
 use Rattle.fsmd.specs.Layout.{maxStates, maxBlocks, maxRegisters, maxWires, wireWords, recordWords, recordOffset, wireOffset, machineWords, none}
-use Rattle.fsmd.specs.Machine.{State, FSMD, emptyState, stateOf}
-use Rattle.fsmd.specs.Table.{wireWordsOf, recordsOf, tableOf, wireAt, firstWireAt, wireCountAt, stateAt}
+use Rattle.fsmd.specs.Machine.{State, wireCount, FSMD, emptyState, stateOf}
+use Rattle.fsmd.specs.Table.{wireWordsOf, recordOf, recordsOf, wiresOf, tableOf, wireAt, firstWireAt, wireCountAt, stateAt}
 use Rattle.fsmd.specs.declared.Wire.{Wire}
 
 -- ---- counting wires
 
--- the wires of some states
-unfoldable pub wireCount : List State → ℕ
-wireCount [] = 0
-wireCount (q ∷ qs) = length (q .wires) + wireCount qs
-
--- those before state k
+-- the wires before state k
 unfoldable pub wiresBefore : List State → ℕ → ℕ
 wiresBefore [] k = 0
 wiresBefore (q ∷ qs) zero = 0
@@ -62,7 +57,7 @@ drop-from t l p i e = sym (drop-drop i p t) ∙ ap (drop i) e
 abbrev wordsOf : List Wire → List ℕ
 wordsOf ws = concatMap wireWordsOf ws
 
-length-wordsOf : (ws : List Wire) → length (wordsOf ws) ≡ wireWords * length ws
+pub length-wordsOf : (ws : List Wire) → length (wordsOf ws) ≡ wireWords * length ws
 unfolding concatMap
 length-wordsOf [] = refl
 length-wordsOf (w ∷ ws) = let e = length-wordsOf ws in omega arith
@@ -81,41 +76,38 @@ wires-read t (w ∷ ws) f r e =
     ap₂ {C = List Wire} (λ (x : Wire) (xs : List Wire). x ∷ xs) w′
     (wires-read t ws (suc f) r (ap (λ (i : ℕ). drop i t) n ∙ drop-from t l p 4 e))
 
-allWords : List State → List ℕ
-allWords qs = concatMap (λ (q : State). concatMap wireWordsOf (q .wires)) qs
-
-length-allWords : (qs : List State) → length (allWords qs) ≡ wireWords * wireCount qs
-unfolding allWords concatMap wireCount
-length-allWords [] = refl
-length-allWords (q ∷ qs) = omega (arith, length-append (wordsOf (q .wires)) (allWords qs), length-wordsOf (q .wires), length-allWords qs)
+pub length-wiresOf : (qs : List State) → length (wiresOf qs) ≡ wireWords * wireCount qs
+unfolding wiresOf concatMap wireCount
+length-wiresOf [] = refl
+length-wiresOf (q ∷ qs) = omega (arith, length-append (wordsOf (q .wires)) (wiresOf qs), length-wordsOf (q .wires), length-wiresOf qs)
 
 -- the wires of state k, after those of the states before it
 wires-drop : (qs : List State) (k : ℕ) (l : List ℕ) → k < length qs
-    → (r : List ℕ) × (drop (wireWords * wiresBefore qs k) (allWords qs ++ l) ≡ wordsOf (at qs k .wires) ++ r)
-unfolding allWords concatMap wiresBefore
+    → (r : List ℕ) × (drop (wireWords * wiresBefore qs k) (wiresOf qs ++ l) ≡ wordsOf (at qs k .wires) ++ r)
+unfolding wiresOf concatMap wiresBefore
 wires-drop [] k l h = absurd (omega arith)
-wires-drop (q ∷ qs) zero l h = (allWords qs ++ l, append-assoc (wordsOf (q .wires)) (allWords qs) l)
+wires-drop (q ∷ qs) zero l h = (wiresOf qs ++ l, append-assoc (wordsOf (q .wires)) (wiresOf qs) l)
 wires-drop (q ∷ qs) (suc k) l h =
     let r = wires-drop qs k l (omega arith) in
     let e : wireWords * (length (q .wires) + wiresBefore qs k) ≡ wireWords * length (q .wires) + wireWords * wiresBefore qs k = omega arith in (
       r .0,
-      ap (λ (i : ℕ). drop i (allWords (q ∷ qs) ++ l)) e
-          ∙ ap (drop (wireWords * length (q .wires) + wireWords * wiresBefore qs k)) (append-assoc (wordsOf (q .wires)) (allWords qs) l)
-          ∙ drop-past (wordsOf (q .wires)) (allWords qs ++ l) (wireWords * length (q .wires)) (wireWords * wiresBefore qs k) (length-wordsOf (q .wires))
+      ap (λ (i : ℕ). drop i (wiresOf (q ∷ qs) ++ l)) e
+          ∙ ap (drop (wireWords * length (q .wires) + wireWords * wiresBefore qs k)) (append-assoc (wordsOf (q .wires)) (wiresOf qs) l)
+          ∙ drop-past (wordsOf (q .wires)) (wiresOf qs ++ l) (wireWords * length (q .wires)) (wireWords * wiresBefore qs k) (length-wordsOf (q .wires))
           ∙ r .1,
     )
 
 -- ---- records
 
-length-recordsOf : (n : ℕ) (qs : List State) → length (recordsOf n qs) ≡ recordWords * length qs
+pub length-recordOf : (n : ℕ) (q : State) → length (recordOf n q) ≡ recordWords
+length-recordOf n q = let e = length-padded maxRegisters 0 (q .nextRegisters) in omega arith
+
+pub length-recordsOf : (n : ℕ) (qs : List State) → length (recordsOf n qs) ≡ recordWords * length qs
 unfolding recordsOf
 length-recordsOf n [] = refl
 length-recordsOf n (q ∷ qs) =
-    omega (arith, length-append (padded maxRegisters 0 (q .nextRegisters)) (recordsOf (n + length (q .wires)) qs), length-padded maxRegisters 0 (q .nextRegisters), length-recordsOf (n + length (q .wires)) qs)
-
--- the words of state k's record
-abbrev recordOf : ℕ → State → List ℕ
-recordOf n q = n ∷ length (q .wires) ∷ q .next ∷ padded maxRegisters 0 (q .nextRegisters)
+    let m = n + length (q .wires) in
+    omega (arith, length-append (recordOf n q) (recordsOf m qs), length-recordOf n q, length-recordsOf m qs)
 
 records-drop : (qs : List State) (n k : ℕ) (l : List ℕ) → k < length qs
     → (r : List ℕ) × (drop (recordWords * k) (recordsOf n qs ++ l) ≡ recordOf (n + wiresBefore qs k) (at qs k) ++ r)
@@ -133,7 +125,7 @@ records-drop (q ∷ qs) n (suc k) l h =
       r .0,
       ap (λ (i : ℕ). drop i (recordsOf n (q ∷ qs) ++ l)) e
           ∙ ap (drop (recordWords + recordWords * k)) (append-assoc (recordOf n q) (recordsOf (n + length (q .wires)) qs) l)
-          ∙ drop-past (recordOf n q) (recordsOf (n + length (q .wires)) qs ++ l) recordWords (recordWords * k) (omega (arith, length-padded maxRegisters 0 (q .nextRegisters)))
+          ∙ drop-past (recordOf n q) (recordsOf (n + length (q .wires)) qs ++ l) recordWords (recordWords * k) (length-recordOf n q)
           ∙ r .1 ∙ ap (λ (i : ℕ). recordOf i (at qs k) ++ r .0) f,
     )
 
@@ -153,7 +145,7 @@ module _ (m : FSMD) (rest : List ℕ) where
   recordSpace = padded (maxStates * recordWords) 0 (recordsOf 0 (m .states))
 
   abbrev wireSpace : List ℕ
-  wireSpace = padded (maxWires * wireWords) 0 (allWords (m .states))
+  wireSpace = padded (maxWires * wireWords) 0 (wiresOf (m .states))
 
   pub count-is : getD table 0 0 ≡ length (m .states)
   unfolding tableOf
@@ -164,7 +156,7 @@ module _ (m : FSMD) (rest : List ℕ) where
   registers-are = refl
 
   from-records : (i : ℕ) → drop (130 + i) table ≡ drop i (recordSpace ++ (wireSpace ++ rest))
-  unfolding tableOf allWords
+  unfolding tableOf wiresOf
   from-records i =
       let e : 130 + i ≡ suc (suc (64 + (64 + i))) = omega arith in
       let b = blockWords ++ (recordSpace ++ wireSpace) in
@@ -200,9 +192,9 @@ module _ (m : FSMD) (rest : List ℕ) where
     -- the words from its first wire on
     at-wires : (r : List ℕ) × (drop (wireOffset (wiresBefore (m .states) k)) table ≡ wordsOf (at (m .states) k .wires) ++ r)
     at-wires =
-        let all = allWords (m .states) in
+        let all = wiresOf (m .states) in
         let pad = replicate {A = ℕ} (12288 - length all) 0 in
-        let p : wireSpace ≡ all ++ pad = padded-append 12288 0 all (omega (arith, length-allWords (m .states))) in
+        let p : wireSpace ≡ all ++ pad = padded-append 12288 0 all (omega (arith, length-wiresOf (m .states))) in
         let i = wireWords * wiresBefore (m .states) k in
         let d = wires-drop (m .states) k (pad ++ rest) h in (
           d .0,
@@ -249,6 +241,6 @@ table-length m =
     let s = padded maxStates 0 (m .starters) in
     let b = padded maxBlocks none (m .blockStates) in
     let r = padded 1216 0 (recordsOf 0 (m .states)) in
-    let ws = concatMap (λ (q : State). concatMap wireWordsOf (q .wires)) (m .states) in
+    let ws = wiresOf (m .states) in
     let w = padded 12288 0 ws in
     omega (arith, length-append s (b ++ (r ++ w)), length-append b (r ++ w), length-append r w, length-padded maxStates 0 (m .starters), length-padded maxBlocks none (m .blockStates), length-padded 1216 0 (recordsOf 0 (m .states)), length-padded 12288 0 ws)

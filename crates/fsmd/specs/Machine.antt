@@ -15,6 +15,11 @@ pub record State : Type 0 where
   pub next : ℕ
   pub nextRegisters : List ℕ
 
+-- how many wires some states have
+unfoldable pub wireCount : List State → ℕ
+wireCount [] = 0
+wireCount (q ∷ qs) = length (q .wires) + wireCount qs
+
 -- a machine: R, each state's starter, each block's state, and the states
 pub record FSMD : Type 0 where
   pub registers : ℕ

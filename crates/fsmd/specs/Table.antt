@@ -15,21 +15,29 @@ use Rattle.fsmd.specs.Machine.{State, FSMD}
 abbrev pub wireWordsOf : Wire → List ℕ
 wireWordsOf w = w .code ∷ w .a ∷ w .b ∷ w .c ∷ []
 
--- the records of states whose first wire is number n of the whole machine
+-- the record of a state whose first wire is number n of the whole machine
+abbrev pub recordOf : ℕ → State → List ℕ
+recordOf n q = n ∷ length (q .wires) ∷ q .next ∷ padded maxRegisters 0 (q .nextRegisters)
+
+-- the records of states of which the first one's first wire is number n
 unfoldable pub recordsOf : ℕ → List State → List ℕ
 recordsOf n [] = []
-recordsOf n (q ∷ qs) =
-    n ∷ length (q .wires) ∷ q .next ∷ (padded maxRegisters 0 (q .nextRegisters) ++ recordsOf (n + length (q .wires)) qs)
+recordsOf n (q ∷ qs) = recordOf n q ++ recordsOf (n + length (q .wires)) qs
+
+-- the words of some states' wires, in state order
+unfoldable pub wiresOf : List State → List ℕ
+unfolding concatMap
+wiresOf qs = concatMap (λ q. concatMap wireWordsOf (q .wires)) qs
 
 -- counts, starters, block states, records, wires in state order; unused words are 0, but an absent block's state is 255
 unfoldable pub tableOf : FSMD → List ℕ
-unfolding recordsOf concatMap
+unfolding recordsOf wiresOf
 tableOf m =
     length (m .states) ∷ m .registers
     ∷ (padded maxStates 0 (m .starters)
     ++ (padded maxBlocks none (m .blockStates)
     ++ (padded (maxStates * recordWords) 0 (recordsOf 0 (m .states))
-    ++ padded (maxWires * wireWords) 0 (concatMap (λ q. concatMap wireWordsOf (q .wires)) (m .states)))))
+    ++ padded (maxWires * wireWords) 0 (wiresOf (m .states)))))
 
 -- ---- the machine of a table
 

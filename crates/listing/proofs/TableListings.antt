@@ -1,7 +1,7 @@
 -- The listing by a machine table's words is that of the machine whose table it is. Assumes nothing.
 use Prim.Native.Nat.{ℕ, zero, suc, _+_, _-_, _*_, _≤_, _<_}
 use native.Mathlib.Omega.{arith}
-use mathlib.Core.Path.{_≡_, refl, sym, ap, ap₂, _∙_}
+use mathlib.Core.Path.{_≡_, refl, ap, ap₂, _∙_}
 use mathlib.Core.Bool.{Bool, true, false}
 use mathlib.Core.List.{List, [], _∷_, _++_, append-assoc, append-nil}
 use lib.ListN.{length, getD, take, drop, replicate, length-append, List·getD-append}
@@ -11,9 +11,9 @@ use borrow.Author.Tests.{ne-eqb}
 use Rattle.runs.specs.Lists.{upFrom, keep, only, padded, concatMap}
 use Rattle.runs.proofs.ListLaws.{padded-append, length-padded, getD-padded}
 use Rattle.fsmd.specs.Layout.{maxStates, maxBlocks, maxWires, recordWords, wireWords, startersOffset, blockStatesOffset, none}
-use Rattle.fsmd.specs.Machine.{State, FSMD, stateOf, emptyState}
-use Rattle.fsmd.specs.Table.{wireWordsOf, recordsOf, tableOf, wireCountAt}
-use Rattle.fsmd.proofs.WrittenTable.{wireCount, wiresBefore, count-is, back-first, back-count, table-length}
+use Rattle.fsmd.specs.Machine.{State, wireCount, FSMD, stateOf, emptyState}
+use Rattle.fsmd.specs.Table.{recordsOf, wiresOf, tableOf, wireCountAt}
+use Rattle.fsmd.proofs.WrittenTable.{wiresBefore, count-is, back-first, back-count, table-length}
 use Rattle.synthesis.proofs.SynthesisedMachine.{MachineFits}
 use Rattle.listing.specs.Listing.{blocksIn, wiresIn, headLine, stateLine, machineListing}
 use Rattle.listing.specs.Words.{occurrences, starterAt, blocksAt, wiresAt, headLineAt, stateLineAt, stateLinesAt, tableListing, Listable}
@@ -41,12 +41,7 @@ padded-blocks k l h few =
     ap (occurrences k) (padded-append maxBlocks none l few)
     ∙ (ap length (only-append (eqb k) l (replicate n none)) ∙ rw (pad, append-nil) refl)
 
--- the wires of all states, and those of all but the last
-wires-all : (qs : List State) → length (concatMap (λ (q : State). q .wires) qs) ≡ wireCount qs
-unfolding concatMap wireCount
-wires-all [] = refl
-wires-all (q ∷ qs) = length-append (q .wires) (concatMap (λ (q : State). q .wires) qs) ∙ rw (wires-all qs) refl
-
+-- the wires of all states are those before the last and its own
 wires-last : (qs : List State) (k : ℕ) → length qs ≡ suc k → wiresBefore qs k + length (getD qs k emptyState .wires) ≡ wireCount qs
 unfolding wireCount wiresBefore
 wires-last [] k e = absurd (omega arith)
@@ -76,7 +71,7 @@ module _ (m : FSMD) (rest : List ℕ) (f : MachineFits m) where
   abbrev behind : List ℕ
   behind =
       (padded (maxStates * recordWords) 0 (recordsOf 0 (m .states))
-      ++ padded (maxWires * wireWords) 0 (concatMap (λ (q : State). concatMap wireWordsOf (q .wires)) (m .states)))
+      ++ padded (maxWires * wireWords) 0 (wiresOf (m .states)))
       ++ rest
 
   parts : table ≡ length (m .states) ∷ m .registers ∷ (starterWords ++ (blockWords ++ behind))
@@ -111,7 +106,7 @@ module _ (m : FSMD) (rest : List ℕ) (f : MachineFits m) where
       let h : last < length (m .states) = omega arith in
       let n = count-is m rest in
       rw n (rw (back-first m rest (f .fewStates) (f .room) last h, back-count m rest (f .fewStates) (f .room) last h)
-      (wires-last (m .states) last (omega arith) ∙ sym (wires-all (m .states))))
+      (wires-last (m .states) last (omega arith)))
 
   state-line : (k : ℕ) → k < length (m .states) → stateLineAt table k ≡ stateLine m k
   unfolding stateLineAt stateLine
@@ -135,5 +130,5 @@ module _ (m : FSMD) (rest : List ℕ) (f : MachineFits m) where
         long = omega (arith, length-append (tableOf m) rest, table-length m);
         someState = rw n (f .someState);
         fewStates = rw n (f .fewStates);
-        fewWires = rw (all-wires, wires-all (m .states)) (f .room);
+        fewWires = rw all-wires (f .room);
       }

@@ -1,6 +1,5 @@
 -- "Listing" of paper 01: its bytes, the answer and the final output, on all inputs. Assumes nothing.
 use Prim.Native.Nat.{ℕ}
-use mathlib.Core.Bool.{Bool, true, false}
 use mathlib.Core.List.{List, [], _∷_, _++_}
 use lib.ListN.{length, getD, drop}
 use lib.Dec.{eqb, ltb}
@@ -11,7 +10,7 @@ use Rattle.cfg_line.specs.Name.{bytes}
 use Rattle.cfg_text.specs.Walk.{Reading, refused, read}
 use Rattle.cfg_text.specs.Read.{maxText, readText}
 use Rattle.cfg_write.specs.Write.{parted}
-use Rattle.fsmd.specs.Machine.{State, FSMD, stateOf}
+use Rattle.fsmd.specs.Machine.{FSMD, stateOf, wireCount}
 use Rattle.synthesis.specs.Synthesis.{machine}
 use Rattle.listing.specs.declared.ListAnswer.{ListAnswer}
 use Rattle.listing.specs.declared.ListAnswer.the-variants.{Listed, Short}
@@ -26,11 +25,11 @@ blocksIn m k = length (only (eqb k) (m .blockStates))
 
 -- how many wires there are in all
 abbrev pub wiresIn : FSMD → ℕ
-wiresIn m = length (concatMap (λ (q : State). q .wires) (m .states))
+wiresIn m = wireCount (m .states)
 
 -- the word, states, wires in all
 unfoldable pub headLine : FSMD → List ℕ
-unfolding parted decimalOf concatMap
+unfolding parted decimalOf wireCount
 headLine m = lineOf (bytes "states" ∷ decimalOf (length (m .states)) ∷ decimalOf (wiresIn m) ∷ [])
 
 -- state, starter, blocks, wires

@@ -1,26 +1,19 @@
 -- Wires at the front of some words: storing, reading back, appending. Assumes nothing.
-use Prim.Native.Nat.{ℕ, zero, suc, _+_, _-_, _*_, _≤_, _<_}
-use native.Mathlib.Nat.{add-zero}
-use native.Mathlib.Numerals.{add-one, towards-suc}
+use Prim.Native.Nat.{ℕ, zero, suc, _+_, _-_, _*_, _≤_}
 use native.Mathlib.Omega.{arith}
 use mathlib.Core.Path.{_≡_, refl, sym, ap, _∙_}
 use mathlib.Core.List.{List, [], _∷_, _++_, append-assoc, append-nil}
-use lib.ListN.{length, getD, take, drop, set, length-append, take-append-drop, length-drop}
-use lib.Seq.{sets, sets-eq, drop-append-add, drop-drop, take-at, append-snoc}
+use lib.ListN.{length, take, drop, length-append, length-drop}
+use lib.Seq.{sets, sets-eq, drop-append-add, drop-drop, take-at}
 use Rattle.runs.specs.Lists.{concatMap}
 use Rattle.fsmd.specs.declared.Wire.{Wire}
 use Rattle.fsmd.specs.Layout.{wireWords}
 use Rattle.fsmd.specs.Table.{wireWordsOf}
-use Rattle.state.specs.Wires.{wire}
-use Rattle.state.specs.Making.{wiresIn, stored, appended, Room}
+use Rattle.fsmd.proofs.WrittenTable.{length-wordsOf}
+use Rattle.state.specs.Making.{wiresIn, stored, appended}
 
 abbrev words : List Wire → List ℕ
 words = concatMap wireWordsOf
-
-pub length-words : (ws : List Wire) → length (words ws) ≡ wireWords * length ws
-unfolding concatMap
-length-words [] = refl
-length-words (w ∷ ws) = omega (arith, length-words ws)
 
 pub words-append : (ws vs : List Wire) → words (ws ++ vs) ≡ words ws ++ words vs
 unfolding concatMap
@@ -56,14 +49,14 @@ words-wiresIn (suc n) (a ∷ b ∷ c ∷ d ∷ t) h =
 
 pub length-stored : (ws : List Wire) (t : List ℕ) → wireWords * length ws ≤ length t → length (stored ws t) ≡ length t
 unfolding stored
-length-stored ws t h = omega (arith, length-append (words ws) (drop (wireWords * length ws) t), length-words ws, length-drop (wireWords * length ws) t)
+length-stored ws t h = omega (arith, length-append (words ws) (drop (wireWords * length ws) t), length-wordsOf ws, length-drop (wireWords * length ws) t)
 
 -- storing anew, and no fewer
 pub stored-again : (ws vs : List Wire) (t : List ℕ) → length ws ≤ length vs → stored vs (stored ws t) ≡ stored vs t
 unfolding stored
 stored-again ws vs t h =
     let k = wireWords * (length vs - length ws) in
-    let e : wireWords * length vs ≡ length (words ws) + k = omega (arith, length-words ws) in
+    let e : wireWords * length vs ≡ length (words ws) + k = omega (arith, length-wordsOf ws) in
     let f : wireWords * length ws + k ≡ wireWords * length vs = omega arith in
     ap (λ (r : List ℕ). words vs ++ r)
     (ap (λ (n : ℕ). drop n (words ws ++ drop (wireWords * length ws) t)) e
@@ -97,7 +90,7 @@ emitted n w t h =
     let e : wireWords * length (wiresIn n t ++ (w ∷ [])) ≡ wireWords * n + 4 = omega (arith, length-append (wiresIn n t) (w ∷ []), length-wiresIn n t) in
     let front : take (wireWords * n) t ≡ words (wiresIn n t) =
     sym (ap (take (wireWords * n)) (words-wiresIn n t (omega arith)))
-    ∙ take-at (words (wiresIn n t)) (drop (wireWords * n) t) (wireWords * n) (length-words (wiresIn n t) ∙ ap (λ (k : ℕ). wireWords * k) (length-wiresIn n t)) in
+    ∙ take-at (words (wiresIn n t)) (drop (wireWords * n) t) (wireWords * n) (length-wordsOf (wiresIn n t) ∙ ap (λ (k : ℕ). wireWords * k) (length-wiresIn n t)) in
     sets-eq (wireWordsOf w) t (wireWords * n) (omega arith)
     ∙ rw (front, e, words-append (wiresIn n t) (w ∷ []))
 

@@ -1,30 +1,25 @@
 -- The table that is filled state by state is the table of the graph's machine. Assumes nothing.
-use Prim.Native.Nat.{ℕ, zero, suc, _+_, _-_, _*_, _≤_, _<_}
+use Prim.Native.Nat.{ℕ, zero, suc, _+_, _-_, _≤_, _<_}
 use native.Mathlib.Numerals.{add-one}
 use native.Mathlib.Omega.{arith}
 use mathlib.Core.Bool.{true}
 use mathlib.Core.Path.{_≡_, refl, sym, _∙_, ap}
 use mathlib.Core.List.{List, [], _∷_, _++_, map, append-assoc}
-use lib.ListN.{length, getD, take, drop, replicate, length-append, length-map}
+use lib.ListN.{length, take, replicate, length-map}
 use lib.Seq.{take-at, length-take-le}
-use Rattle.runs.specs.Lists.{upFrom, mem, padded, concatMap}
-use Rattle.runs.proofs.ListLaws.{padded-append, length-padded, length-upFrom}
-use Rattle.runs.proofs.Sets.{getD-in, getD-any}
-use Rattle.cfg.specs.Graph.{CFG}
+use Rattle.runs.specs.Lists.{upFrom, padded}
+use Rattle.runs.proofs.ListLaws.{padded-append, length-upFrom}
 use Rattle.cfg.specs.Table.{graphOf, admitted}
 use Rattle.cfg.proofs.Admitted.{ValidGraph, valid-graph, admitted-halves}
 use Rattle.fsmd.specs.Layout.{none}
-use Rattle.fsmd.specs.Machine.{State, FSMD}
-use Rattle.fsmd.specs.Table.{wireWordsOf, recordsOf, tableOf}
-use Rattle.fsmd.proofs.WrittenTable.{wireCount as wireCountOf}
-use Rattle.grouping.specs.Grouping.{Groups, groups}
+use Rattle.fsmd.specs.Machine.{State, wireCount}
+use Rattle.fsmd.specs.Table.{recordsOf, wiresOf, tableOf}
+use Rattle.grouping.specs.Grouping.{groups}
 use Rattle.grouping.specs.Answer.{groupingOf}
-use Rattle.grouping.proofs.Reach.{Closed, admitted-closed, reached-below}
-use Rattle.grouping.proofs.GroupingLaws.{grouped}
 use Rattle.state.specs.Wires.{stateOf}
 use Rattle.synthesis.specs.Synthesis.{machineFor, machine}
-use Rattle.synthesis.specs.StateWords.{wiresOf, wireCount, withStates, firstStates, Filled}
-use Rattle.synthesis.proofs.SynthesisedMachine.{machine-is, machine-fits}
+use Rattle.synthesis.specs.StateWords.{withStates, firstStates, Filled}
+use Rattle.synthesis.proofs.SynthesisedMachine.{machine-fits}
 use Rattle.synthesis.proofs.TableWords.{count-more}
 
 -- ---- the first states
@@ -64,11 +59,6 @@ module _ (t : List ℕ) where
       let f = first-count (k + d) in
       rw e (omega arith)
 
-same-count : (qs : List State) → wireCount qs ≡ wireCountOf qs
-unfolding wireCount wireCountOf
-same-count [] = refl
-same-count (q ∷ qs) = ap (λ (n : ℕ). length (q .wires) + n) (same-count qs)
-
 module _ (t : List ℕ) (a : admitted t ≡ true) where
   valid : ValidGraph (graphOf t)
   valid = valid-graph (graphOf t) (admitted-halves t a .0)
@@ -85,7 +75,7 @@ module _ (t : List ℕ) (a : admitted t ≡ true) where
       let g = count-grows t (k + 1) (n - (k + 1)) in
       let f = first-count t k in
       let r = machine-fits (graphOf t) valid .room in
-      let s : wireCount (firstStates t n) ≡ wireCountOf (machine (graphOf t) .states) = ap wireCount all-first ∙ same-count (machine (graphOf t) .states) in
+      let s : wireCount (firstStates t n) ≡ wireCount (machine (graphOf t) .states) = ap wireCount all-first in
       let c : wireCount (firstStates t (k + 1 + (n - (k + 1)))) ≡ wireCount (firstStates t n) = ap (λ (m : ℕ). wireCount (firstStates t m)) e in
       omega arith
 

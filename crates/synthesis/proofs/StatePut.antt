@@ -3,39 +3,35 @@ use Prim.Native.Nat.{ℕ, zero, suc, _+_, _-_, _*_, _≤_, _<_}
 use native.Mathlib.Omega.{arith}
 use mathlib.Core.Bool.{true}
 use mathlib.Core.Path.{_≡_, refl, sym, _∙_, ap, subst}
-use mathlib.Core.List.{List, [], _∷_, _++_, append-nil}
-use lib.ListN.{length, getD, take, drop, replicate, length-append, length-take, length-drop, drop-of-length-le}
-use lib.Seq.{take-all, take-at, length-take-le, drop-drop}
-use Rattle.runs.specs.Lists.{upFrom, padded, concatMap}
+use mathlib.Core.List.{List, _∷_, _++_, append-nil}
+use lib.ListN.{length, getD, take, drop, replicate, length-drop, drop-of-length-le}
+use lib.Seq.{take-all, length-take-le, drop-drop}
+use Rattle.runs.specs.Lists.{padded, concatMap}
 use Rattle.runs.proofs.ListLaws.{padded-append}
 use Rattle.cfg.specs.Table.{graphOf, admitted}
-use Rattle.cfg.proofs.Admitted.{Admitted, admitted-facts, ValidGraph, valid-graph, admitted-halves, registers-are, blocks-length}
+use Rattle.cfg.proofs.Admitted.{admitted-facts, valid-graph, admitted-halves, registers-are}
 use Rattle.fsmd.specs.declared.Wire.{Wire}
-use Rattle.fsmd.specs.Machine.{State}
-use Rattle.fsmd.specs.Table.{wireWordsOf}
-use Rattle.grouping.specs.Grouping.{Groups, groups}
-use Rattle.grouping.proofs.Reach.{Closed, admitted-closed}
+use Rattle.fsmd.specs.Machine.{State, wireCount}
+use Rattle.fsmd.specs.Table.{wireWordsOf, recordOf}
+use Rattle.fsmd.proofs.WrittenTable.{length-wordsOf}
+use Rattle.grouping.specs.Grouping.{groups}
+use Rattle.grouping.proofs.Reach.{admitted-closed}
 use Rattle.grouping.proofs.GroupingLaws.{grouped}
-use Rattle.state.specs.Wires.{Point, stateOf}
-use Rattle.state.specs.Making.{wiresIn, stored, pointIn, Room, Held, groupsIn, Grouped}
-use Rattle.synthesis.specs.StateWords.{written, wireCount, recordOf, withStates, firstStates, Filled, Prepared}
-use Rattle.synthesis.proofs.StateValidity.{StateValid}
+use Rattle.state.specs.Wires.{Point}
+use Rattle.state.specs.Making.{wiresIn, stored, Room, Held, Grouped}
+use Rattle.state.proofs.StoredWires.{length-wiresIn}
+use Rattle.synthesis.specs.StateWords.{written, withStates, firstStates, Filled, Prepared}
 use Rattle.synthesis.proofs.SynthesisedMachine.{made-valid}
 use Rattle.synthesis.proofs.StateBlocks.{pointOf}
-use Rattle.synthesis.proofs.TableWords.{words-length, state-written}
+use Rattle.synthesis.proofs.TableWords.{state-written}
 use Rattle.synthesis.proofs.MachineTable.{nth, first-more, first-length, first-count, first-room}
-
-wiresIn-length : (n : ℕ) (t : List ℕ) → length (wiresIn n t) ≡ n
-unfolding wiresIn
-wiresIn-length zero t = refl
-wiresIn-length (suc n) t = ap suc (wiresIn-length n (drop 4 t))
 
 module _ (q : State) (old new : List ℕ) (next : ℕ) (values : List ℕ) (n : ℕ) (h : Held (pointOf q) old next values n new) where
   its-wires : wiresIn n new ≡ q .wires
   its-wires = ap (λ (p : Point). p .wires) (h .point)
 
   pub its-count : n ≡ length (q .wires)
-  its-count = sym (wiresIn-length n new) ∙ ap length its-wires
+  its-count = sym (length-wiresIn n new) ∙ ap length its-wires
 
   pub its-next : next ≡ q .next
   its-next = ap (λ (p : Point). p .arrival) (h .point)
@@ -48,7 +44,7 @@ module _ (q : State) (old new : List ℕ) (next : ℕ) (values : List ℕ) (n : 
   unfolding stored
   its-words table at e =
       let w : new ≡ concatMap wireWordsOf (q .wires) ++ drop (4 * length (q .wires)) old = h .rest ∙ ap (λ (ws : List Wire). stored ws old) its-wires in
-      let m : 4 * length (q .wires) ≡ length (concatMap wireWordsOf (q .wires)) = sym (words-length (q .wires)) in
+      let m : 4 * length (q .wires) ≡ length (concatMap wireWordsOf (q .wires)) = sym (length-wordsOf (q .wires)) in
       ap (λ (l : List ℕ). take at table ++ l) (w ∙ ap (λ (l : List ℕ). concatMap wireWordsOf (q .wires) ++ l) (ap (λ (l : List ℕ). drop (4 * length (q .wires)) l) e ∙ drop-drop (4 * length (q .wires)) at table ∙ ap (λ (i : ℕ). drop (at + i) table) m))
 
 -- registers behind which the rest of the 16 is 0

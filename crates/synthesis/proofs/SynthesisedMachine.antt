@@ -10,9 +10,8 @@ use Rattle.runs.proofs.Sets.{In→mem, getD-in}
 use Rattle.cfg.specs.Graph.{CFG}
 use Rattle.cfg.proofs.Admitted.{ValidGraph}
 use Rattle.fsmd.specs.Layout.{none}
-use Rattle.fsmd.specs.Machine.{FSMD, emptyState, stateOf as stateAt}
+use Rattle.fsmd.specs.Machine.{FSMD, emptyState, stateOf as stateAt, wireCount}
 use Rattle.fsmd.specs.Table.{validState}
-use Rattle.fsmd.proofs.WrittenTable.{wireCount}
 use Rattle.grouping.specs.Grouping.{Groups, groups}
 use Rattle.grouping.proofs.Reach.{Closed, valid-closed}
 use Rattle.grouping.proofs.GroupingLaws.{grouped}

@@ -1,19 +1,16 @@
 -- How the words of a machine table grow by a state. Assumes nothing.
-use Prim.Native.Nat.{ℕ, zero, suc, _+_, _-_, _*_, _≤_, _<_}
-use native.Mathlib.Nat.{add-zero, add-assoc}
-use native.Mathlib.Numerals.{add-one}
+use Prim.Native.Nat.{ℕ, _+_, _-_, _*_, _≤_, _<_}
 use native.Mathlib.Omega.{arith}
 use mathlib.Core.Path.{_≡_, refl, sym, _∙_, ap}
-use mathlib.Core.List.{List, [], _∷_, _++_, map, append-assoc, append-nil}
-use lib.ListN.{length, take, drop, replicate, set, length-append, length-replicate, replicate-append-replicate, length-map}
-use lib.Seq.{take-at, drop-at, take-length, take-append-le, drop-append-le, take-append-add, drop-append-add, drop-drop}
-use Rattle.runs.specs.Lists.{upFrom, padded, concatMap}
-use Rattle.runs.proofs.ListLaws.{padded-append, length-padded, length-upFrom}
-use Rattle.fsmd.specs.declared.Wire.{Wire}
-use Rattle.fsmd.specs.Layout.{maxStates, maxRegisters, maxWires, wireWords, recordWords}
-use Rattle.fsmd.specs.Machine.{State}
-use Rattle.fsmd.specs.Table.{wireWordsOf, recordsOf, tableOf}
-use Rattle.synthesis.specs.StateWords.{written, wiresOf, wireCount, recordOf, withStates}
+use mathlib.Core.List.{List, [], _∷_, _++_, append-assoc, append-nil}
+use lib.ListN.{length, take, drop, replicate, length-append, length-replicate, replicate-append-replicate}
+use lib.Seq.{take-at, drop-at, take-append-le, drop-append-le, take-append-add, drop-append-add, drop-drop}
+use Rattle.runs.specs.Lists.{padded, concatMap}
+use Rattle.runs.proofs.ListLaws.{padded-append, length-padded}
+use Rattle.fsmd.specs.Machine.{State, wireCount}
+use Rattle.fsmd.specs.Table.{wireWordsOf, recordOf, recordsOf, wiresOf}
+use Rattle.fsmd.proofs.WrittenTable.{length-wordsOf, length-wiresOf, length-recordOf, length-recordsOf}
+use Rattle.synthesis.specs.StateWords.{written, withStates}
 
 -- ---- words put over others
 
@@ -68,16 +65,6 @@ wires-more : (qs : List State) (q : State) → wiresOf (qs ++ (q ∷ [])) ≡ wi
 unfolding wiresOf
 wires-more qs q = concatMap-more (λ (q : State). concatMap wireWordsOf (q .wires)) qs q
 
-pub words-length : (ws : List Wire) → length (concatMap wireWordsOf ws) ≡ 4 * length ws
-unfolding concatMap
-words-length [] = refl
-words-length (w ∷ ws) = let e = words-length ws in omega arith
-
-wires-length : (qs : List State) → length (wiresOf qs) ≡ 4 * wireCount qs
-unfolding wiresOf concatMap wireCount
-wires-length [] = refl
-wires-length (q ∷ qs) = omega (arith, length-append (concatMap wireWordsOf (q .wires)) (wiresOf qs), words-length (q .wires), wires-length qs)
-
 pub count-more : (qs : List State) (q : State) → wireCount (qs ++ (q ∷ [])) ≡ wireCount qs + length (q .wires)
 unfolding wireCount
 count-more [] q = omega arith
@@ -85,22 +72,12 @@ count-more (p ∷ qs) q = let e = count-more qs q in omega arith
 
 records-more : (n : ℕ) (qs : List State) (q : State) → recordsOf n (qs ++ (q ∷ [])) ≡ recordsOf n qs ++ recordOf (n + wireCount qs) q
 unfolding recordsOf wireCount
-records-more n [] q = let e : n + 0 ≡ n = omega arith in rw (e, append-nil (padded 16 0 (q .nextRegisters))) refl
+records-more n [] q = let e : n + 0 ≡ n = omega arith in rw e (append-nil (recordOf n q))
 records-more n (p ∷ qs) q =
-    let e : n + length (p .wires) + wireCount qs ≡ n + (length (p .wires) + wireCount qs) = omega arith in
-    ap (λ (l : List ℕ). n ∷ length (p .wires) ∷ p .next ∷ (padded 16 0 (p .nextRegisters) ++ l))
-    (records-more (n + length (p .wires)) qs q ∙ ap (λ (i : ℕ). recordsOf (n + length (p .wires)) qs ++ recordOf i q) e)
-    ∙ ap (λ (l : List ℕ). n ∷ length (p .wires) ∷ p .next ∷ l)
-    (sym (append-assoc (padded 16 0 (p .nextRegisters)) (recordsOf (n + length (p .wires)) qs) (recordOf (n + (length (p .wires) + wireCount qs)) q)))
-
-record-length : (n : ℕ) (q : State) → length (recordOf n q) ≡ 19
-record-length n q = let e = length-padded 16 0 (q .nextRegisters) in omega arith
-
-records-length : (n : ℕ) (qs : List State) → length (recordsOf n qs) ≡ 19 * length qs
-unfolding recordsOf
-records-length n [] = refl
-records-length n (q ∷ qs) =
-    omega (arith, length-append (padded 16 0 (q .nextRegisters)) (recordsOf (n + length (q .wires)) qs), length-padded 16 0 (q .nextRegisters), records-length (n + length (q .wires)) qs)
+    let m = n + length (p .wires) in
+    let e : m + wireCount qs ≡ n + (length (p .wires) + wireCount qs) = omega arith in
+    ap (λ (l : List ℕ). recordOf n p ++ l) (records-more m qs q ∙ ap (λ (i : ℕ). recordsOf m qs ++ recordOf i q) e)
+    ∙ sym (append-assoc (recordOf n p) (recordsOf m qs) (recordOf (n + (length (p .wires) + wireCount qs)) q))
 
 -- with any room for records and wires
 parts : ℕ → ℕ → List ℕ → List ℕ → List ℕ → List ℕ
@@ -148,10 +125,10 @@ module _ (head : List ℕ) (qs : List State) (q : State) (head-130 : length head
   unfolding withStates parts
   state-written t e =
       let w = concatMap wireWordsOf (q .wires) in
-      let a = wires-length qs in
-      let b = words-length (q .wires) in
-      let c = records-length 0 qs in
-      let r = record-length (wireCount qs) q in
+      let a = length-wiresOf qs in
+      let b = length-wordsOf (q .wires) in
+      let c = length-recordsOf 0 qs in
+      let r = length-recordOf (wireCount qs) q in
       ap (λ (l : List ℕ). written (130 + 19 * length qs) (recordOf (wireCount qs) q) (written (1346 + 4 * wireCount qs) w l)) e
       ∙ ap (λ (l : List ℕ). written (130 + 19 * length qs) (recordOf (wireCount qs) q) l)
       (parts-wires 1216 12288 head (recordsOf 0 qs) (wiresOf qs) head-130 w (omega arith) (1346 + 4 * wireCount qs) (omega arith))

@@ -16,8 +16,8 @@ use Rattle.cfg.specs.declared.Ending.{Ending}
 use Rattle.cfg.specs.declared.Ending.the-variants.{Goto, Ite, Halt}
 use Rattle.cfg.specs.Graph.{CFG, blockOf, codeOf}
 use Rattle.fsmd.specs.declared.Wire.{Wire}
+use Rattle.fsmd.specs.Machine.{wireCount}
 use Rattle.fsmd.specs.Layout.{none}
-use Rattle.fsmd.proofs.WrittenTable.{wireCount}
 use Rattle.grouping.specs.Grouping.{Groups}
 use Rattle.placement.specs.Placement.{members, order}
 use Rattle.synthesis.specs.Synthesis.{machineFor}

@@ -2,14 +2,14 @@
 use Prim.Native.Nat.{ℕ, _+_, _*_}
 use mathlib.Core.Path.{_≡_}
 use mathlib.Core.Bool.{true}
-use mathlib.Core.List.{List, [], _∷_, _++_, map}
+use mathlib.Core.List.{List, _++_, map}
 use lib.ListN.{length, take, drop}
-use Rattle.runs.specs.Lists.{upFrom, mem, padded, concatMap}
+use Rattle.runs.specs.Lists.{upFrom, mem, padded}
 use Rattle.cfg.specs.Graph.{successors}
 use Rattle.cfg.specs.Table.{graphOf, admitted}
-use Rattle.fsmd.specs.Layout.{maxStates, maxRegisters, maxWires, wireWords, recordWords, recordsOffset, machineWords}
-use Rattle.fsmd.specs.Machine.{State}
-use Rattle.fsmd.specs.Table.{wireWordsOf, recordsOf}
+use Rattle.fsmd.specs.Layout.{maxStates, maxWires, wireWords, recordWords, recordsOffset, machineWords}
+use Rattle.fsmd.specs.Machine.{State, wireCount}
+use Rattle.fsmd.specs.Table.{recordsOf, wiresOf}
 use Rattle.grouping.specs.Grouping.{groups}
 use Rattle.grouping.specs.Bytes.{edgesIn}
 use Rattle.placement.specs.PlacementBytes.{marked}
@@ -18,19 +18,6 @@ use Rattle.state.specs.Wires.{stateOf}
 -- words t with the words s from number `at` on
 abbrev pub written : ℕ → List ℕ → List ℕ → List ℕ
 written at s t = take at t ++ (s ++ drop (at + length s) t)
-
--- the words of some states' wires, and how many wires they are
-unfoldable pub wiresOf : List State → List ℕ
-unfolding concatMap
-wiresOf qs = concatMap (λ q. concatMap wireWordsOf (q .wires)) qs
-
-unfoldable pub wireCount : List State → ℕ
-wireCount [] = 0
-wireCount (q ∷ qs) = length (q .wires) + wireCount qs
-
--- the words of a state's record, whose first wire is number n
-abbrev pub recordOf : ℕ → State → List ℕ
-recordOf n q = n ∷ length (q .wires) ∷ q .next ∷ padded maxRegisters 0 (q .nextRegisters)
 
 -- a table whose words before the records are `head`, with the records and wires of the states qs and no others
 unfoldable pub withStates : List ℕ → List State → List ℕ

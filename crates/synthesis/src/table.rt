@@ -14,11 +14,12 @@ ghost use lib.ListN.{length, getD, take, replicate};
 ghost use Rattle.runs.specs.Lists.{mem};
 ghost use Rattle.cfg.specs.Table.{graphOf, admitted};
 ghost use Rattle.fsmd.specs.Layout.{maxBlocks, maxRegisters, maxWires, recordWords, recordsOffset, machineWords};
+ghost use Rattle.fsmd.specs.Machine.{wireCount};
 ghost use Rattle.fsmd.specs.Table.{tableOf};
 ghost use Rattle.placement.specs.PlacementBytes.{marked};
 ghost use Rattle.state.specs.Making.{Edged};
 ghost use Rattle.synthesis.specs.Synthesis.{machine, synthesisAnswer, synthesisWords};
-ghost use Rattle.synthesis.specs.StateWords.{written, withStates, firstStates, wireCount, Prepared, Filled};
+ghost use Rattle.synthesis.specs.StateWords.{written, withStates, firstStates, Prepared, Filled};
 
 fn word(x: u8) -> u32
     ensures { λ r. ⌜ r ≡ x ⌝ }

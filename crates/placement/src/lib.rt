@@ -45,14 +45,15 @@ fn awaits(edges: &[u8], states: &[u8], placed: &[u8], k: u8, x: u8, u: usize) ->
     requires { ⌜ (u < maxBlocks) × (x < maxBlocks) ⌝ }
     ensures { λ r. ⌜ r ≡ ofState (now (states .entry)) k u && not (passes (now (edges .entry)) (marked (now (placed .entry))) x u) ⌝ }
 {
-    if edges::at(states, u) == k {
-        if mark(placed, u) {
-            false
-        } else {
-            leads(edges, u, x)
-        }
-    } else {
+    // Most blocks are placed when this is asked.
+    if mark(placed, u) {
         false
+    } else {
+        if edges::at(states, u) == k {
+            leads(edges, u, x)
+        } else {
+            false
+        }
     }
 }
 
@@ -77,18 +78,18 @@ fn due(edges: &[u8], states: &[u8], starts: &[u8], placed: &[u8], k: u8, x: u8) 
     ensures { λ r. ⌜ r ≡ ofState (now (states .entry)) k x && nextIn (now (edges .entry)) (now (starts .entry)) (membersIn (now (states .entry)) k) (marked (now (placed .entry))) x ⌝ }
 {
     let n = edges::wide(x);
-    if edges::at(states, n) == k {
-        if mark(placed, n) {
-            false
-        } else {
+    if mark(placed, n) {
+        false
+    } else {
+        if edges::at(states, n) == k {
             if mark(starts, n) {
                 true
             } else {
                 entered(edges, states, placed, k, x)
             }
+        } else {
+            false
         }
-    } else {
-        false
     }
 }
 

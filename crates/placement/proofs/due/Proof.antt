@@ -29,18 +29,18 @@ all-placed edges states placed k x = every (passes edges (marked placed) x) (mem
 
 returns : tie.Need-returns
 returns c =
-    let a = c .before .before .before .before .before .before .before .before .before .args in
-    let e = c .before .before .before .before .wide .ensures .0 in
+    let a = c .before .before .before .before .before .before .before .args in
+    let e = c .before .before .wide .ensures .0 in
     due-placed (ofState (now (a .states)) (a .k) (a .x)) (marked (now (a .placed)) (a .x)) (marked (now (a .starts)) (a .x)) (all-placed (now (a .edges)) (now (a .states)) (now (a .placed)) (a .k) (a .x))
-    (at-x (marked (now (a .placed))) (c .before .before .before .before .wide .result) (a .x) (c .before .mark .result) true e (c .before .mark .ensures) (c .if2 .taken))
+    (at-x (marked (now (a .placed))) (c .before .before .wide .result) (a .x) (c .before .mark .result) true e (c .before .mark .ensures) (c .if1 .taken))
 
 returns-2 : tie.Need-returns-2
 returns-2 c =
     let a = c .before .before .before .before .before .before .before .before .before .before .before .args in
     let e = c .before .before .before .before .before .before .wide .ensures .0 in
     due-starter (ofState (now (a .states)) (a .k) (a .x)) (marked (now (a .placed)) (a .x)) (marked (now (a .starts)) (a .x)) (all-placed (now (a .edges)) (now (a .states)) (now (a .placed)) (a .k) (a .x))
-    (of-state (now (a .states)) (a .k) (c .before .before .before .before .before .before .wide .result) (a .x) (c .before .before .before .before .before .at .result) e (c .before .before .before .before .before .at .ensures) (c .before .before .before .before .if1 .taken))
-    (at-x (marked (now (a .placed))) (c .before .before .before .before .before .before .wide .result) (a .x) (c .before .before .before .mark .result) false e (c .before .before .before .mark .ensures) (c .before .before .if2 .left))
+    (of-state (now (a .states)) (a .k) (c .before .before .before .before .before .before .wide .result) (a .x) (c .before .before .before .at .result) e (c .before .before .before .at .ensures) (c .before .before .if2 .taken))
+    (at-x (marked (now (a .placed))) (c .before .before .before .before .before .before .wide .result) (a .x) (c .before .before .before .before .before .mark .result) false e (c .before .before .before .before .before .mark .ensures) (c .before .before .before .before .if1 .left))
     (at-x (marked (now (a .starts))) (c .before .before .before .before .before .before .wide .result) (a .x) (c .before .mark2 .result) true e (c .before .mark2 .ensures) (c .if3 .taken))
 
 returns-3 : tie.Need-returns-3
@@ -48,16 +48,16 @@ returns-3 c =
     let a = c .before .before .before .before .before .before .before .before .before .before .before .before .args in
     let e = c .before .before .before .before .before .before .before .wide .ensures .0 in
     due-entered (ofState (now (a .states)) (a .k) (a .x)) (marked (now (a .placed)) (a .x)) (marked (now (a .starts)) (a .x)) (all-placed (now (a .edges)) (now (a .states)) (now (a .placed)) (a .k) (a .x))
-    (of-state (now (a .states)) (a .k) (c .before .before .before .before .before .before .before .wide .result) (a .x) (c .before .before .before .before .before .before .at .result) e (c .before .before .before .before .before .before .at .ensures) (c .before .before .before .before .before .if1 .taken))
-    (at-x (marked (now (a .placed))) (c .before .before .before .before .before .before .before .wide .result) (a .x) (c .before .before .before .before .mark .result) false e (c .before .before .before .before .mark .ensures) (c .before .before .before .if2 .left))
+    (of-state (now (a .states)) (a .k) (c .before .before .before .before .before .before .before .wide .result) (a .x) (c .before .before .before .before .at .result) e (c .before .before .before .before .at .ensures) (c .before .before .before .if2 .taken))
+    (at-x (marked (now (a .placed))) (c .before .before .before .before .before .before .before .wide .result) (a .x) (c .before .before .before .before .before .before .mark .result) false e (c .before .before .before .before .before .before .mark .ensures) (c .before .before .before .before .before .if1 .left))
     (at-x (marked (now (a .starts))) (c .before .before .before .before .before .before .before .wide .result) (a .x) (c .before .before .mark2 .result) false e (c .before .before .mark2 .ensures) (c .before .if3 .left))
     (c .entered .result) (c .entered .ensures)
 
 returns-4 : tie.Need-returns-4
 returns-4 c =
-    let a = c .before .before .before .before .before .before .before .args in
+    let a = c .before .before .before .before .before .before .before .before .before .args in
     and-none (ofState (now (a .states)) (a .k) (a .x)) (nextIn (now (a .edges)) (now (a .starts)) (membersIn (now (a .states)) (a .k)) (marked (now (a .placed))) (a .x))
-    (of-other (now (a .states)) (a .k) (c .before .before .wide .result) (a .x) (c .before .at .result) (c .before .before .wide .ensures .0) (c .before .at .ensures) (c .if1 .left))
+    (of-other (now (a .states)) (a .k) (c .before .before .before .before .wide .result) (a .x) (c .before .at .result) (c .before .before .before .before .wide .ensures .0) (c .before .at .ensures) (c .if2 .left))
 
 pub due-spec : {M : Type 1} → statement M
 due-spec =

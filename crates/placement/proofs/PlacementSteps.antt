@@ -105,10 +105,17 @@ module _ (a m p : Bool) where
       go true false = refl
       go false m = refl
 
-  pub waits-not : a ≡ true → p ≡ false → (r : Bool) → r ≡ m → r ≡ a && not (not m || p)
-  waits-not e f r g = rw (e, f, g) (go m)
+  pub waits-leading : m ≡ true → p ≡ false → a ≡ a && not (not m || p)
+  waits-leading e f = rw (e, f) (go a)
     where
-      go : (m : Bool) → m ≡ not (not m || false)
+      go : (a : Bool) → a ≡ a && true
+      go true = refl
+      go false = refl
+
+  pub waits-elsewhere : m ≡ false → false ≡ a && not (not m || p)
+  waits-elsewhere e = rw e (go a)
+    where
+      go : (a : Bool) → false ≡ a && false
       go true = refl
       go false = refl
 

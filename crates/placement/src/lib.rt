@@ -45,12 +45,12 @@ fn awaits(edges: &[u8], states: &[u8], placed: &[u8], k: u8, x: u8, u: usize) ->
     requires { ⌜ (u < maxBlocks) × (x < maxBlocks) ⌝ }
     ensures { λ r. ⌜ r ≡ ofState (now (states .entry)) k u && not (passes (now (edges .entry)) (marked (now (placed .entry))) x u) ⌝ }
 {
-    // Most blocks are placed when this is asked.
+    // The test that fails most often goes first.
     if mark(placed, u) {
         false
     } else {
-        if edges::at(states, u) == k {
-            leads(edges, u, x)
+        if leads(edges, u, x) {
+            edges::at(states, u) == k
         } else {
             false
         }

@@ -1,14 +1,13 @@
 -- `placement::awaits` meets its contract. Assumes nothing.
-use mathlib.Core.Path.{_≡_, refl, sym, ap, _∙_}
-use mathlib.Core.Bool.{not}
+use Prim.Native.Nat.{ℕ}
+use mathlib.Core.Path.{sym, ap, _∙_}
 use denote.Ref.{now}
-use lib.ListN.{getD}
+use lib.Dec.{eqb}
 use borrow.Author.Needs.{needs}
-use borrow.Author.Tests.{eq-eqb, ne-eqb}
 use Rattle.runs.specs.Lists.{mem}
 use Rattle.grouping.specs.Bytes.{edgesIn}
-use Rattle.placement.specs.PlacementBytes.{marked, ofState, passes}
-use Rattle.placement.proofs.PlacementSteps.{waits-placed, waits-not, and-none}
+use Rattle.placement.specs.PlacementBytes.{marked, ofState}
+use Rattle.placement.proofs.PlacementSteps.{waits-placed, waits-leading, waits-elsewhere}
 use Rattle.placement.proofs.awaits.Statement.{statement}
 use Rattle.placement.proofs.awaits.Tie as tie
 
@@ -20,15 +19,15 @@ returns c =
 returns-2 : tie.Need-returns-2
 returns-2 c =
     let a = c .before .before .before .before .before .before .before .before .args in
-    waits-not (ofState (now (a .states)) (a .k) (a .u)) (mem (a .x) (edgesIn (now (a .edges)) (a .u))) (marked (now (a .placed)) (a .u))
-    (eq-eqb (getD (now (a .states)) (a .u) 255) (a .k) (sym (c .before .before .at .ensures) ∙ c .before .if2 .taken))
-    (sym (c .before .before .before .before .mark .ensures) ∙ c .before .before .before .if1 .left) (c .leads .result) (c .leads .ensures)
+    ap (λ (z : ℕ). eqb z (a .k)) (c .at .ensures)
+    ∙ waits-leading (ofState (now (a .states)) (a .k) (a .u)) (mem (a .x) (edgesIn (now (a .edges)) (a .u))) (marked (now (a .placed)) (a .u))
+    (sym (c .before .before .leads .ensures) ∙ c .before .if2 .taken) (sym (c .before .before .before .before .mark .ensures) ∙ c .before .before .before .if1 .left)
 
 returns-3 : tie.Need-returns-3
 returns-3 c =
     let a = c .before .before .before .before .before .before .before .args in
-    and-none (ofState (now (a .states)) (a .k) (a .u)) (not (passes (now (a .edges)) (marked (now (a .placed))) (a .x) (a .u)))
-    (ne-eqb (getD (now (a .states)) (a .u) 255) (a .k) (λ (p : getD (now (a .states)) (a .u) 255 ≡ a .k). c .if2 .left (c .before .at .ensures ∙ p)))
+    waits-elsewhere (ofState (now (a .states)) (a .k) (a .u)) (mem (a .x) (edgesIn (now (a .edges)) (a .u))) (marked (now (a .placed)) (a .u))
+    (sym (c .before .leads .ensures) ∙ c .if2 .left)
 
 pub awaits-spec : {M : Type 1} → statement M
 awaits-spec =

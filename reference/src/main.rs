@@ -1,6 +1,8 @@
-//! The commands: cases, answers, list, stats.
+//! The commands: cases, answers, list, stats, compare, bench, draw.
 
+mod bench;
 mod compare;
+mod draw;
 
 use reference::answer::answer;
 use reference::case::{read_cases, Case};
@@ -15,6 +17,8 @@ const USAGE: &str = "usage: reference cases SEED COUNT > cases
        reference list < text
        reference stats < cases
        reference compare SEED COUNT
+       reference bench
+       reference draw < text
 ";
 
 fn input() -> Result<Vec<u8>, String> {
@@ -47,6 +51,8 @@ fn command(arguments: &[&str]) -> Result<Vec<u8>, String> {
         ["list"] => Ok(listing(&input()?).into_bytes()),
         ["stats"] => Ok(Stats::of(&input_cases()?).print().into_bytes()),
         ["compare", seed, count] => compare::command(seed, count),
+        ["bench"] => bench::bench(),
+        ["draw"] => draw::draw(&input()?),
         _ => Err(String::from(USAGE)),
     }
 }

@@ -22,14 +22,16 @@ fn all_zero(table: &[u32], from: usize, to: usize) -> bool
     requires { ⌜ (from ≤ to) × (to ≤ length (now table)) ⌝ }
     ensures { λ r. ⌜ r ≡ zeros (now (table .entry)) from (to - from) ⌝ }
 {
+    let mut clear = true;
     let mut i = from;
+    // Without a way out, the loop compares many words at once.
     while i < to {
         if table[i] != 0 {
-            return false;
+            clear = false;
         }
         i += 1;
     }
-    true
+    clear
 }
 
 // The second operand: a register where the code reads one, else 0.

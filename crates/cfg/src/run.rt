@@ -9,13 +9,14 @@ use runs::RunAnswer;
 use word::Registers;
 ghost use mathlib.Core.Bool.{true};
 ghost use mathlib.Core.Path.{_≡_};
-ghost use Prim.Native.Nat.{_<_};
+ghost use Prim.Native.Nat.{_≤_, _<_};
 ghost use lib.Dec.{eqb};
-ghost use lib.ListN.{getD};
+ghost use lib.ListN.{length, getD};
 ghost use Rattle.word.specs.Word.{choose, evalOf};
 ghost use Rattle.runs.specs.Runs.{startAt, answer, registersAfter};
 ghost use Rattle.cfg.specs.Graph.{codeOf, executeAll, leave, step};
-ghost use Rattle.cfg.specs.Table.{graphOf, admitted};
+ghost use Rattle.cfg.specs.Layout.{maxBlocks, graphWords};
+ghost use Rattle.cfg.specs.Table.{blockAt, graphOf, admitted};
 ghost use Rattle.cfg.specs.Steps.{EndingWithin, BlockWithin, placeOf};
 ghost use Rattle.cfg.specs.Run.{runAnswer, runRegisters};
 
@@ -41,16 +42,18 @@ fn value_of(i: Instruction, x: u32, y: u32) -> u32
     word::eval(i.code, x, y, 0)
 }
 
-// The block's instructions in order, each seeing the one before.
-fn execute_all(block: Block, file: Registers) -> Registers
-    requires { ⌜ BlockWithin block ⌝ }
-    ensures { λ r. ⌜ r .words ≡ executeAll (codeOf block) (file .words) ⌝ }
+// The instructions of block n in order, each seeing the one before. They are read where they stand: a block's record would be a copy
+// of all eight.
+fn execute_all(table: &[u32], n: usize, file: Registers) -> Registers
+    requires { ⌜ (n < maxBlocks) × (graphWords ≤ length (now table)) × BlockWithin (blockAt (now table) n) ⌝ }
+    ensures { λ r. ⌜ r .words ≡ executeAll (codeOf (blockAt (now (table .entry)) n)) (file .words) ⌝ }
 {
-    let count = block.count as usize;
+    let start = Graph::HEAD + Block::WORDS * n;
+    let count = table[start] as usize;
     let mut current = file;
     let mut i = 0;
     while i < count {
-        let next = block.instructions[i];
+        let next = decode::instruction_at(table, start, i);
         // A set's literal names no register: whatever is read there is not used.
         let a = next.a as usize % Registers::COUNT;
         let b = next.b as usize % Registers::COUNT;
@@ -91,8 +94,9 @@ fn run_blocks(table: &[u32], start: u32, budget: u32, file: Registers) -> Ran
     let mut current = file;
     let mut count = 0;
     while count < budget {
-        let block = decode::block_at(table, at as usize);
-        let after = execute_all(block, current);
+        let n = at as usize;
+        let block = decode::block_at(table, n);
+        let after = execute_all(table, n, current);
         current = after;
         count += 1;
         let ending = block.ending;

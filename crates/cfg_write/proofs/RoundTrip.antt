@@ -13,6 +13,7 @@ use Rattle.cfg_text.specs.Walk.{read}
 use Rattle.cfg_text.specs.Read.{maxText, readText, readAnswer, readWords, Readable}
 use Rattle.cfg_text.specs.declared.ReadAnswer.the-variants.{Read}
 use Rattle.cfg_write.specs.Write.{textOf, writeAnswer, writeBytes}
+use Rattle.cfg_write.specs.RoundTrip.{ReadAgain, WrittenAgain}
 use Rattle.cfg_write.specs.declared.WriteAnswer.the-variants as write
 use Rattle.cfg_write.proofs.Whole.{allWords, Whole}
 use Rattle.cfg_write.proofs.AcceptedLaws.{accepted}
@@ -75,10 +76,6 @@ admitted-iff t h = (admitted-readable t h, readable-admitted t)
 -- ---- the operations undo each other
 
 -- a table that was written and is read again is the same table
-pub record ReadAgain (table again bytes : List ℕ) : Type 0 where
-  pub accepted : readAnswer bytes again ≡ Read
-  pub words : readWords bytes again ≡ take graphWords table ++ drop graphWords again
-
 pub write-then-read :
     (table out again : List ℕ) (n : ℕ) → allWords table ≡ true → graphWords ≤ length again → writeAnswer table out ≡ write.Written n
     → ReadAgain table again (take n (writeBytes table out))
@@ -95,10 +92,6 @@ write-then-read table out again n h long e =
     }
 
 -- a text that was read and is written again is the same text
-pub record WrittenAgain (text table out : List ℕ) : Type 0 where
-  pub accepted : writeAnswer table out ≡ write.Written (length text)
-  pub bytes : writeBytes table out ≡ text ++ drop (length text) out
-
 pub read-then-write :
     (text table out : List ℕ) → readAnswer text table ≡ Read → length text ≤ length out → WrittenAgain text (readWords text table) out
 read-then-write text table out h room =

@@ -4,11 +4,9 @@ use native.Mathlib.Omega.{arith}
 use mathlib.Core.Path.{_≡_, refl, sym, ap, _∙_}
 use mathlib.Core.Bool.{true, false}
 use mathlib.Core.List.{List, _++_}
-use lib.Dec.{ltb}
 use lib.ListN.{length, getD, take, drop}
 use lib.Seq.{sets, sets-eq, take-at}
 use borrow.Author.Tests.{lt-ltb, le-ltb}
-use Rattle.runs.proofs.ListLaws.{every-all}
 use Rattle.cfg.specs.Layout.{graphWords}
 use Rattle.cfg.specs.Table.{graphOf, admitted}
 use Rattle.cfg.proofs.Admitted.{admitted-facts}
@@ -16,7 +14,7 @@ use Rattle.cfg_text.specs.Read.{maxText}
 use Rattle.cfg_write.specs.declared.WriteAnswer.{WriteAnswer}
 use Rattle.cfg_write.specs.declared.WriteAnswer.the-variants.{Refused, Written}
 use Rattle.cfg_write.specs.Write.{textOf, bytesAfter, writeAnswer, writeBytes}
-use Rattle.cfg_write.proofs.Whole.{allWords}
+use Rattle.cfg_write.proofs.Whole.{all-words}
 use Rattle.cfg_write.proofs.GraphLaws.{graph-short}
 use Rattle.cfg_write.proofs.AnswerLaws.{admitted-whole, answer-is, bytes-are}
 
@@ -64,6 +62,4 @@ module _ (table out : List ℕ) where
 -- ---- the text of an admitted table of words fits
 
 pub text-fits : (t : List ℕ) → ((i : ℕ) → getD t i 0 < 2 ^ 32) → admitted t ≡ true → length (textOf (graphOf t)) ≤ maxText
-text-fits t w h =
-    let words : allWords t ≡ true = every-all (λ (x : ℕ). ltb x (2 ^ 32)) t 0 (λ i l. lt-ltb (getD t i 0) (2 ^ 32) (w i)) in
-    graph-short (graphOf t) (admitted-whole t words h)
+text-fits t w h = graph-short (graphOf t) (admitted-whole t (all-words t w) h)

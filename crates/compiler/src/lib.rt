@@ -3,8 +3,15 @@
 pub mod fields; // fields.rt: the numbers and values of an answer
 
 ghost use mathlib.Core.Path.{_≡_};
+ghost use mathlib.Core.List.{List};
+ghost use Prim.Native.Nat.{ℕ, _≤_};
+ghost use lib.ListN.{length, take};
+ghost use Rattle.cfg.specs.Layout.{graphWords};
 ghost use Rattle.cfg_text.specs.Read.{readAnswer, readWords};
+ghost use Rattle.cfg_text.specs.declared.ReadAnswer.«the-variants».{Read};
 ghost use Rattle.cfg_write.specs.Write.{writeAnswer, writeBytes};
+ghost use Rattle.cfg_write.specs.declared.WriteAnswer.«the-variants».{Written};
+ghost use Rattle.cfg_write.specs.RoundTrip.{WrittenAgain, ReadAgain};
 ghost use Rattle.synthesis.specs.Synthesis.{synthesisAnswer, synthesisWords};
 ghost use Rattle.synthesis.specs.declared.SynthesisAnswer.«the-variants».{Made};
 ghost use Rattle.agreement.specs.Agreement.{Agreement};
@@ -15,18 +22,20 @@ use cfg_write::WriteAnswer;
 use runs::RunAnswer;
 use synthesis::SynthesisAnswer;
 
-// "Read text into graph table".
+// "Read text into graph table". Where it succeeds, writing the table gives back the text: demand 2.
 pub fn read_text(text: &[u8], table: &mut [u32]) -> ReadAnswer
     ensures { λ r. ⌜ r ≡ readAnswer (now (text .entry)) (now (table .entry)) ⌝ }
     ensures { λ _. ⌜ now (table .exit) ≡ readWords (now (text .entry)) (now (table .entry)) ⌝ }
+    ensures { λ r. ⌜ (r ≡ Read → (out : List ℕ) → length (now (text .entry)) ≤ length out → WrittenAgain (now (text .entry)) (now (table .exit)) out) ⌝ }
 {
     cfg_text::read_text(text, table)
 }
 
-// "Write graph table as text".
+// "Write graph table as text". Where it succeeds, reading the text gives back the table: demand 2.
 pub fn write_text(table: &[u32], out: &mut [u8]) -> WriteAnswer
     ensures { λ r. ⌜ r ≡ writeAnswer (now (table .entry)) (now (out .entry)) ⌝ }
     ensures { λ _. ⌜ now (out .exit) ≡ writeBytes (now (table .entry)) (now (out .entry)) ⌝ }
+    ensures { λ r. ⌜ ((n : ℕ) → r ≡ Written n → (again : List ℕ) → graphWords ≤ length again → ReadAgain (now (table .entry)) again (take n (now (out .exit)))) ⌝ }
 {
     cfg_write::write_text(table, out)
 }

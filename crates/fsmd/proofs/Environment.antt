@@ -1,28 +1,79 @@
 -- What references read in a cycle, word by word as the code works it out, and the cycle of a table's state. Assumes nothing.
-use Prim.Native.Nat.{ℕ, suc, _+_, _<_, _≤_}
+use Prim.Native.Nat.{ℕ, suc, _+_, _%_, _<_, _≤_}
 use native.Mathlib.Omega.{arith}
 use mathlib.Core.List.{List, [], _∷_, _++_, map}
-use mathlib.Core.Path.{_≡_, sym, ap, ap₂, _∙_}
-use lib.Dec.{eqb}
+use mathlib.Core.Bool.{Bool, true, false, _&&_, _||_}
+use mathlib.Core.Path.{_≡_, refl, sym, ap, ap₂, _∙_}
+use lib.Dec.{eqb, leb, ltb}
 use lib.ListN.{length, getD, take, drop, set}
-use lib.Seq.{take-suc-set}
-use Rattle.word.specs.Word.{choose, evalOf}
+use lib.Seq.{take-suc-set, getD-take}
+use borrow.Author.Tests.{eq-eqb, ne-eqb, ltb-true}
+use Rattle.word.specs.Word.{choose, evalOf, arity}
+use Rattle.word.proofs.WireLaws.{eval-uses}
+use Rattle.runs.proofs.ListLaws.{and-left, and-right}
 use Rattle.runs.specs.Runs.{Place, Configuration}
 use Rattle.fsmd.specs.Layout.{recordOffset}
 use Rattle.fsmd.specs.Machine.{wireValue, worked, toState, clock}
-use Rattle.fsmd.specs.Table.{wireAt, stateAt, machineOf, firstWireAt, wireCountAt}
+use Rattle.fsmd.specs.Table.{wireAt, stateAt, machineOf, firstWireAt, wireCountAt, validReference, validWire}
 use Rattle.fsmd.specs.declared.Wire.{Wire}
 use Rattle.fsmd.proofs.Machines.{states-length}
 use Rattle.fsmd.proofs.Windows.{wiresFrom, wires-next, wires-end}
 
 -- ---- a wire
 
-pub value-is : (at : ℕ → ℕ) (w : Wire) (v x y z : ℕ) → v ≡ evalOf (w .code) x y z
-    → x ≡ choose (eqb (w .code) 1) (w .a) (at (w .a)) → y ≡ at (w .b) → z ≡ at (w .c) → v ≡ wireValue at w
-unfolding wireValue
-value-is at w v x y z e ex ey ez =
-    e ∙ ap (λ (u : ℕ). evalOf (w .code) u y z) ex
-    ∙ ap₂ (λ (u s : ℕ). evalOf (w .code) (choose (eqb (w .code) 1) (w .a) (at (w .a))) u s) ey ez
+module _ (at : ℕ → ℕ) (w : Wire) where
+  pub value-set : w .code ≡ 1 → w .a ≡ wireValue at w
+  unfolding wireValue evalOf
+  value-set h =
+      let first : choose (eqb (w .code) 1) (w .a) (at (w .a)) ≡ w .a = rw (eq-eqb (w .code) 1 h) in
+      sym (ap (λ (z : ℕ). evalOf (w .code) z (at (w .b)) (at (w .c))) first ∙ rw h)
+
+  pub value-other : (w .code ≡ 1 → ⊥) → evalOf (w .code) (at (w .a)) (at (w .b)) (at (w .c)) ≡ wireValue at w
+  unfolding wireValue
+  value-other h =
+      let first : choose (eqb (w .code) 1) (w .a) (at (w .a)) ≡ at (w .a) = rw (ne-eqb (w .code) 1 h) in
+      sym (ap (λ (z : ℕ). evalOf (w .code) z (at (w .b)) (at (w .c))) first)
+
+-- a valid reference is one of the words so far
+reference-below : (r n x : ℕ) → r ≤ 16 → validReference r n x ≡ true → x < 16 + n
+reference-below r n x h e = go (ltb x r) refl e
+  where
+    go : (b : Bool) → ltb x r ≡ b → (b || (leb 16 x && ltb x (16 + n))) ≡ true → x < 16 + n
+    go true q p = let l = ltb-true x r q in omega arith
+    go false q p = ltb-true x (16 + n) (and-right (leb 16 x) (ltb x (16 + n)) p)
+
+-- what a valid wire reads is among the words so far, and the rest of the room does not matter
+module _ (l : List ℕ) (r n : ℕ) (w : Wire) (few : r ≤ 16) (fits : 16 + n ≤ 4096) (valid : validWire r n w ≡ true) where
+  reads-same : (x : ℕ) → validReference r n x ≡ true → getD l (x % 4096) 0 ≡ getD (take (16 + n) l) x 0
+  reads-same x e =
+      let h = reference-below r n x few e in
+      let m : x % 4096 ≡ x = omega arith in
+      ap (λ (i : ℕ). getD l i 0) m ∙ sym (getD-take (16 + n) l x 0 h)
+
+  operand-same : (b : Bool) (x : ℕ) → (b || validReference r n x) ≡ true → (b ≡ true → ⊥) → getD l (x % 4096) 0 ≡ getD (take (16 + n) l) x 0
+  operand-same true x e h = absurd (h refl)
+  operand-same false x e h = reads-same x e
+
+  first-same : (b : Bool) → (b || validReference r n (w .a)) ≡ true → choose b (w .a) (getD l (w .a % 4096) 0) ≡ choose b (w .a) (getD (take (16 + n) l) (w .a) 0)
+  first-same true e = refl
+  first-same false e = reads-same (w .a) e
+
+  pub value-within : wireValue (λ x. getD l (x % 4096) 0) w ≡ wireValue (λ x. getD (take (16 + n) l) x 0) w
+  unfolding wireValue validWire
+  value-within =
+      let k = w .code in
+      let p = leb 1 k && leb k 19 in
+      let a = eqb k 1 || validReference r n (w .a) in
+      let b = ltb (arity k) 2 || validReference r n (w .b) in
+      let c = ltb (arity k) 3 || validReference r n (w .c) in
+      let e3 = and-left (p && a && b) c valid in
+      let e2 = and-left (p && a) b e3 in
+      let f : ℕ → ℕ = λ x. getD l (x % 4096) 0 in
+      let g : ℕ → ℕ = λ x. getD (take (16 + n) l) x 0 in
+      eval-uses (choose (eqb k 1) (w .a) (f (w .a))) (f (w .b)) (f (w .c)) (choose (eqb k 1) (w .a) (g (w .a))) (g (w .b)) (g (w .c)) k
+      (λ h. first-same (eqb k 1) (and-right p a e2))
+      (λ h. operand-same (ltb (arity k) 2) (w .b) (and-right (p && a) b e3) (λ q. let z = ltb-true (arity k) 2 q in omega arith))
+      (λ h. operand-same (ltb (arity k) 3) (w .c) (and-right (p && a && b) c valid) (λ q. let z = ltb-true (arity k) 3 q in omega arith))
 
 -- wire n of those from `first` on is worked out, after the words before it
 pub work-next : (t : List ℕ) (first count n : ℕ) (l : List ℕ) (v : ℕ) → n < count → 16 + n < length l

@@ -2,9 +2,9 @@
 use Prim.Native.Nat.{ℕ, suc, _+_, _<_, _≤_}
 use native.Mathlib.Numerals.{add-one}
 use native.Mathlib.Omega.{arith}
-use mathlib.Core.Bool.{true, false}
+use mathlib.Core.Bool.{Bool, true, false}
 use mathlib.Core.List.{List, [], _∷_, map}
-use mathlib.Core.Path.{_≡_, ap, _∙_}
+use mathlib.Core.Path.{_≡_, refl, sym, ap, _∙_}
 use lib.ListN.{length, getD, take, drop, length-drop, length-map, drop-of-length-le, List·getD-map}
 use lib.Seq.{drop-cons, length-take-le, getD-take, getD-drop}
 use Rattle.runs.proofs.ListLaws.{length-upFrom, getD-upFrom}
@@ -48,6 +48,14 @@ module _ (t : List ℕ) (first count : ℕ) where
     pub wires-pass : n < count → validWire r n (wireAt t (first + n)) ≡ true → validWires r n (drop n wiresFrom) ≡ validWires r (n + 1) (drop (n + 1) wiresFrom)
     unfolding validWires
     wires-pass h e = ap (validWires r n) (wires-next n h) ∙ rw (e, add-one n)
+
+    -- so where the rest is valid, wire n is
+    pub wire-valid : n < count → validWires r n (drop n wiresFrom) ≡ true → validWire r n (wireAt t (first + n)) ≡ true
+    wire-valid h e = go (validWire r n (wireAt t (first + n))) refl
+      where
+        go : (b : Bool) → validWire r n (wireAt t (first + n)) ≡ b → b ≡ true
+        go true q = refl
+        go false q = sym (wires-fail h q) ∙ e
 
     pub wires-pass-all : count ≤ n → validWires r n (drop n wiresFrom) ≡ true
     unfolding validWires

@@ -51,6 +51,10 @@ nextRegistersOffset = 3
 abbrev pub wireOffset : ℕ → ℕ
 wireOffset i = wiresOffset + wireWords * i
 
+-- the words that a cycle keeps for what references read: a power of two, not below 16 + 3,072
+abbrev pub roomWords : ℕ
+roomWords = 4096
+
 -- no block or no state
 abbrev pub none : ℕ
 none = 255

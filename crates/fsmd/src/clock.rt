@@ -1,14 +1,13 @@
 // One cycle of a machine: the state's wires in order, then the next state and all next registers at once.
 ghost use mathlib.Core.Path.{_≡_};
+ghost use mathlib.Core.Bool.{true};
 ghost use mathlib.Core.List.{map, _++_};
-ghost use Prim.Native.Nat.{ℕ, _+_, _<_, _≤_};
+ghost use Prim.Native.Nat.{ℕ, _+_, _%_, _<_, _≤_};
 ghost use lib.ListN.{length, getD, take, drop};
-ghost use Rattle.word.specs.Word.{choose};
 ghost use Rattle.runs.specs.Lists.{upFrom};
-ghost use lib.Dec.{eqb};
-ghost use Rattle.fsmd.specs.Layout.{machineWords, maxStates, maxRegisters, maxWires};
+ghost use Rattle.fsmd.specs.Layout.{machineWords, maxStates, maxRegisters, maxWires, roomWords};
 ghost use Rattle.fsmd.specs.Machine.{wireValue, worked, clock};
-ghost use Rattle.fsmd.specs.Table.{wireAt, stateAt, firstWireAt, wireCountAt, machineOf};
+ghost use Rattle.fsmd.specs.Table.{wireAt, stateAt, firstWireAt, wireCountAt, machineOf, validWires};
 ghost use Rattle.fsmd.specs.Clock.{Ready, after};
 use super::Machine;
 use super::Wire;
@@ -34,42 +33,34 @@ fn read(words: &[u32], n: usize, x: u32) -> u32
     if i < n { words[i] } else { 0 }
 }
 
-// The first operand of a wire: a set's is its literal.
-fn operand(words: &[u32], n: usize, w: Wire) -> u32
-    requires { ⌜ n ≤ length (now words) ⌝ }
-    ensures { λ v. ⌜ v ≡ choose (eqb (w .code) 1) (w .a) (getD (take n (now (words .entry))) (w .a) 0) ⌝ }
+// The word of a wire. A reference is taken modulo the room, which costs no branch: those that the code of an admitted machine's wire
+// reads lie in it, and the others do not matter.
+fn value(words: &[u32], w: Wire) -> u32
+    requires { ⌜ length (now words) ≡ roomWords ⌝ }
+    ensures { λ v. ⌜ v ≡ wireValue (λ x. getD (now (words .entry)) (x % roomWords) 0) w ⌝ }
 {
     if w.code == Wire::SET {
-        w.a
-    } else {
-        read(words, n, w.a)
+        return w.a;
     }
-}
-
-// The word of a wire before which n words stand.
-fn value(words: &[u32], n: usize, w: Wire) -> u32
-    requires { ⌜ n ≤ length (now words) ⌝ }
-    ensures { λ v. ⌜ v ≡ wireValue (λ x. getD (take n (now (words .entry))) x 0) w ⌝ }
-{
-    word::eval(
-        w.code,
-        operand(words, n, w),
-        read(words, n, w.b),
-        read(words, n, w.c),
-    )
+    let a = wide(w.a) % Machine::REFERENCES;
+    let b = wide(w.b) % Machine::REFERENCES;
+    let c = wide(w.c) % Machine::REFERENCES;
+    word::eval(w.code, words[a], words[b], words[c])
 }
 
 // The wires in order, after the sixteen registers.
 fn work(words: &mut [u32], table: &[u32], first: usize, count: usize)
     requires { ⌜ machineWords ≤ length (now table) ⌝ }
     requires { ⌜ first + count ≤ maxWires ⌝ }
-    requires { ⌜ length (now words) ≡ maxRegisters + maxWires ⌝ }
+    requires { ⌜ getD (now table) 1 0 ≤ maxRegisters ⌝ }
+    requires { ⌜ validWires (getD (now table) 1 0) 0 (map (wireAt (now table)) (upFrom first count)) ≡ true ⌝ }
+    requires { ⌜ length (now words) ≡ roomWords ⌝ }
     ensures { λ _. ⌜ take (maxRegisters + count) (now (words .exit)) ≡ worked (take maxRegisters (now (words .entry))) (map (wireAt (now (table .entry))) (upFrom first count)) ⌝ }
 {
     let mut n = 0;
     while n < count {
         let at = Machine::REGISTERS + n;
-        let v = value(words, at, wire(table, first + n));
+        let v = value(words, wire(table, first + n));
         words[at] = v;
         n += 1;
     }
@@ -101,7 +92,7 @@ fn taken(
 // One cycle of state k. `words` is room for what references read.
 pub fn cycle(table: &[u32], k: usize, registers: Registers, words: &mut [u32]) -> Next
     requires { ⌜ Ready (now table) k ⌝ }
-    requires { ⌜ length (now words) ≡ maxRegisters + maxWires ⌝ }
+    requires { ⌜ length (now words) ≡ roomWords ⌝ }
     ensures { λ r. ⌜ after (now (table .entry)) r ≡ clock (machineOf (now (table .entry))) (stateAt (now (table .entry)) k) (registers .words) ⌝ }
 {
     let at = record(k);

@@ -33,8 +33,8 @@ impl Machine {
     pub const NEXT_STATE: usize = 2;
 
     pub const NEXT_REGISTERS: usize = 3;
-    // What references of a cycle read: the registers, then the wires.
-    pub const REFERENCES: usize = 3088;
+    // Room for what references of a cycle read, the registers, then the wires: a power of two.
+    pub const REFERENCES: usize = 4096;
 }
 
 // A wire: what it does, and its operands. A reference below 16 is a register, and 16 + i is wire i of the state.

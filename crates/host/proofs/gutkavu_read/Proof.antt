@@ -8,7 +8,7 @@ use Rattle.host.proofs.gutkavu_read.Tie as tie
 returns : tie.Need-returns
 returns c =
     let done = c .before .before .before .before .read-text .ensures in
-    (c .read-number .ensures ∙ ap numberOf (done .0), (c .before .read-line .ensures ∙ ap lineOf (done .0), done .1))
+    (c .read-number .ensures ∙ ap numberOf (done .0), (c .before .read-line .ensures ∙ ap lineOf (done .0), done .1 .0))
 
 pub gutkavu-read-spec : {M : Type 1} → statement M
 gutkavu-read-spec =

@@ -8,7 +8,7 @@ use Rattle.host.proofs.gutkavu_write.Tie as tie
 returns : tie.Need-returns
 returns c =
     let done = c .before .before .before .before .write-text .ensures in
-    (c .write-number .ensures ∙ ap numberOf (done .0), (c .before .write-length .ensures ∙ ap lengthOf (done .0), done .1))
+    (c .write-number .ensures ∙ ap numberOf (done .0), (c .before .write-length .ensures ∙ ap lengthOf (done .0), done .1 .0))
 
 pub gutkavu-write-spec : {M : Type 1} → statement M
 gutkavu-write-spec =

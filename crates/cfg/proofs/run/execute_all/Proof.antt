@@ -1,39 +1,75 @@
 -- `cfg::run::execute_all` meets its contract. Assumes nothing.
-use Prim.Native.Nat.{_+_, _-_, _≤_}
+use Prim.Native.Nat.{ℕ, _+_, _-_, _≤_, _<_}
 use native.Mathlib.Omega.{arith}
-use mathlib.Core.Path.{_≡_, refl, sym, ap, _∙_}
+use mathlib.Core.Path.{_≡_, refl, sym, ap, subst, _∙_}
+use denote.Ref.{now}
 use lib.ListN.{getD, set, drop}
 use borrow.Author.Needs.{needs}
 use Rattle.word.specs.declared.Registers.{Registers}
-use Rattle.cfg.specs.Graph.{noInstruction, codeOf, executeAll}
+use Rattle.cfg.specs.declared.Instruction.{Instruction}
+use Rattle.cfg.specs.Graph.{noInstruction, codeOf, execute, executeAll}
+use Rattle.cfg.specs.Steps.{Within}
+use Rattle.cfg.specs.Table.{blockAt}
+use Rattle.cfg.proofs.Blocks.{count-at, instruction-of}
 use Rattle.cfg.proofs.Running.{execute-is, code-next, code-done}
 use Rattle.cfg.proofs.run.execute_all.Statement.{statement}
 use Rattle.cfg.proofs.run.execute_all.Tie as tie
 
 abbrev Inv-loop : tie.InvT-loop
-Inv-loop block count current₀ i₀ current i = (i ≤ block .count) × (executeAll (codeOf block) (current₀ .words) ≡ executeAll (drop i (codeOf block)) (current .words))
+Inv-loop table n start count current₀ i₀ current i =
+    (i ≤ blockAt table n .count) × (executeAll (codeOf (blockAt table n)) (current₀ .words) ≡ executeAll (drop i (codeOf (blockAt table n))) (current .words))
 
 abbrev μ-loop : tie.MeasureT-loop
-μ-loop block count current₀ i₀ current i = block .count - i
+μ-loop table n start count current₀ i₀ current i = blockAt table n .count - i
+
+cast-count : tie.Need-cast-count Inv-loop μ-loop
+cast-count c =
+    let k = c .before .before in
+    let e = count-at (now (k .args .table)) (k .args .n) in
+    let f = k .pre .2 .few in
+    omega arith
 
 loop-holds : tie.Need-loop-holds Inv-loop μ-loop
 loop-holds c = (omega arith, refl)
 
+instruction-at-requires : tie.Need-instruction-at-requires Inv-loop μ-loop
+instruction-at-requires c κs =
+    let k = c .before .before .before .before in
+    let e = count-at (now (k .args .table)) (k .args .n) in
+    let f = k .pre .2 .few in
+    omega arith
+
+loop-less : tie.Need-loop-less Inv-loop μ-loop
+loop-less c =
+    let k = c .before .before .before .before .before .before .before .before .before .before .before .before in
+    let e = count-at (now (k .args .table)) (k .args .n) in
+    omega (arith, c .before .before .before .before .before .before .before .before .loop-test .taken)
+
 loop-again : tie.Need-loop-again Inv-loop μ-loop
 loop-again c =
-    let k = c .before .before .before .before .before .before .before .before .before .before in
+    let k = c .before .before .before .before .before .before .before .before .before .before .before .before in
+    let t = now (k .args .table) in
+    let n = k .args .n in
+    let b = blockAt t n in
     let l = c .before .before .before .before .before .before .before .before .before .loop in
-    let below = c .before .before .before .before .before .before .before .before .loop-test .taken in
-    let i = getD (k .args .t1 .instructions) (l .i) noInstruction in
     let rs = l .current .words in
+    let few = k .pre .2 .few in
+    let below : l .i < b .count = (let e = count-at t n in omega (arith, c .before .before .before .before .before .before .before .before .loop-test .taken)) in
+    let at = c .before .before .before .before .before .before .before .instruction-at in
+    let i = at .result in
+    let same : i ≡ getD (b .instructions) (l .i) noInstruction = at .ensures ∙ sym (instruction-of t n (l .i) (omega arith)) in
     let written = ap (λ (f : Registers). f .words) (c .put .ensures) ∙ ap (set rs (i .d)) (c .before .before .value-of .ensures) in
-    (omega (arith, c .before .before .before .before .before .before .before .before), l .inv .1 ∙ code-next (k .args .t1) (k .pre .fits) (l .i) rs below ∙ ap (executeAll (drop (l .i + 1) (codeOf (k .args .t1)))) (execute-is i rs (k .pre .each (l .i) below) ∙ sym written))
+    let run = ap (λ (x : Instruction). execute x rs) (sym same) ∙ execute-is i rs (subst Within (sym same) (k .pre .2 .each (l .i) below)) ∙ sym written in
+    (omega arith, l .inv .1 ∙ code-next b (k .pre .2 .fits) (l .i) rs below ∙ ap (executeAll (drop (l .i + 1) (codeOf b))) run)
 
 returns : tie.Need-returns Inv-loop μ-loop
 returns c =
-    let k = c .before .before in
+    let k = c .before .before .before .before in
+    let t = now (k .args .table) in
+    let n = k .args .n in
     let l = c .before .loop in
-    sym (l .inv .1 ∙ code-done (k .args .t1) (k .pre .fits) (l .i) (l .current .words) (c .loop-test .left))
+    let e = count-at t n in
+    sym (l .inv .1 ∙ code-done (blockAt t n) (k .pre .2 .fits) (l .i) (l .current .words) (omega (arith, c .loop-test .left)))
 
 pub execute-all-spec : {M : Type 1} → statement M
 execute-all-spec =
@@ -42,9 +78,12 @@ execute-all-spec =
     Inv-loop
     μ-loop
     (λ c. search needs)
+    (λ c. search needs)
+    (λ c. search needs)
+    (λ c. search needs)
+    cast-count
     loop-holds
-    (λ c. search needs)
-    (λ c. search needs)
+    instruction-at-requires
     (λ c. search needs)
     (λ c. search needs)
     (λ c. search needs)
@@ -55,6 +94,6 @@ execute-all-spec =
     (λ c. search needs)
     (λ c κs. search needs)
     (λ c. search needs)
-    (λ c. search needs)
+    loop-less
     loop-again
     returns)

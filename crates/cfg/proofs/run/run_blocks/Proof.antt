@@ -23,8 +23,8 @@ abbrev μ-loop : tie.MeasureT-loop
 loop-holds : tie.Need-loop-holds Inv-loop μ-loop
 loop-holds c = (c .before .pre .1, reached-start (step (graphOf (c .before .args .table .now))) (c .before .args .budget) (startAt (c .before .args .start) (c .before .args .file .words)))
 
-cast-block-at : tie.Need-cast-block-at Inv-loop μ-loop
-cast-block-at c =
+cast-n : tie.Need-cast-n Inv-loop μ-loop
+cast-n c =
     let k = c .before .before .before in
     let t = k .args .table .now in
     let a = admitted-facts t (k .pre .0) in
@@ -43,7 +43,7 @@ execute-all-requires c κs =
     let t = k .args .table .now in
     let a = admitted-facts t (k .pre .0) in
     let l = c .before .before .loop in
-    rw (c .block-at .ensures) (block-within t a (l .at) (l .inv .0))
+    (omega arith, omega arith, block-within t a (l .at) (l .inv .0))
 
 add-count : tie.Need-add-count Inv-loop μ-loop
 add-count c = omega arith
@@ -67,7 +67,7 @@ loop-again c =
     let blk = c .before .before .before .before .before .block-at in
     let ex = c .before .before .before .before .execute-all in
     let nx = c .before .before .before .next-of in
-    let e = rw (blk .ensures) at (ex .ensures) in
+    let e = ex .ensures in
     let p = rw (blk .ensures) at (nx .ensures) in
     let x = c .before .t .given .0 .0 in
     let q : standing x ≡ leave (blockAt t (l .at) .ending) (ex .result .words) = sym (ap placeOf (c .before .t .given .1)) ∙ p in
@@ -82,7 +82,7 @@ returns c =
     let blk = c .before .before .before .before .block-at in
     let ex = c .before .before .before .execute-all in
     let nx = c .before .before .next-of in
-    let e = rw (blk .ensures) at (ex .ensures) in
+    let e = ex .ensures in
     let p = rw (blk .ensures) at (nx .ensures) in
     let g = graphOf t in
     let c₀ = startAt (k .args .start) (k .args .file .words) in
@@ -107,7 +107,7 @@ run-blocks-spec =
     Inv-loop
     μ-loop
     loop-holds
-    cast-block-at
+    cast-n
     block-at-requires
     execute-all-requires
     add-count

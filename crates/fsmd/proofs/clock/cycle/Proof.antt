@@ -2,16 +2,37 @@
 use Prim.Native.Nat.{ℕ, _+_}
 use native.Mathlib.Omega.{arith}
 use mathlib.Core.List.{List}
-use mathlib.Core.Path.{_≡_, ap, _∙_}
-use lib.ListN.{length, take, drop, length-append, length-drop}
+use mathlib.Core.Bool.{_&&_}
+use mathlib.Core.Path.{_≡_, refl, sym, ap, _∙_}
+use lib.ListN.{length, getD, take, drop, length-append, length-drop}
 use lib.Seq.{take-at}
 use denote.Ref.{now}
 use borrow.Author.Needs.{needs}
+use Rattle.runs.specs.Lists.{every}
+use Rattle.runs.proofs.ListLaws.{and-left}
 use Rattle.fsmd.specs.Machine.{worked}
+use Rattle.fsmd.specs.Table.{validReference, validWires}
 use Rattle.fsmd.proofs.Environment.{clocked}
+use Rattle.fsmd.proofs.Machines.{valid-state-is}
 use Rattle.fsmd.proofs.Windows.{wiresFrom}
 use Rattle.fsmd.proofs.clock.cycle.Statement.{statement}
 use Rattle.fsmd.proofs.clock.cycle.Tie as tie
+
+-- the state is valid, so its wires are
+work-requires : tie.Need-work-requires
+work-requires c κs =
+    let k = c .before .before .before .before .before .before .before .before .before .before in
+    let t = now (k .args .table) in
+    let r = getD t 1 0 in
+    let f = c .first-wire in
+    let n = c .before .before .before .before .before .before .wire-count in
+    let p = c .before .before .before .before .before .before .before .«record» in
+    let h = k .pre .0 in
+    let v = validWires r 0 (wiresFrom t (f .result) (n .result)) in
+    let q = validReference r (n .result) (getD t (p .result + 2) 0) in
+    let e = every (validReference r (n .result)) (take r (drop (p .result + 3) t)) in
+    let whole = sym (valid-state-is t r (k .args .k) (f .result) (n .result) (p .result) (f .ensures .0) (n .ensures .0) (p .ensures) refl) ∙ h .valid in
+    (h .whole, (omega (arith, f .ensures .0, n .ensures .0, h .wires), (h .registers, (and-left v q (and-left (v && q) e whole), c .before .before .before .before .store .kept .0 ∙ k .pre .1))))
 
 returns : tie.Need-returns
 returns c =
@@ -42,7 +63,7 @@ cycle-spec =
     (λ c. search needs)
     (λ c κs. search needs)
     (λ c κs. search needs)
-    (λ c κs. search needs)
+    work-requires
     (λ c. search needs)
     (λ c. search needs)
     (λ c. search needs)

@@ -1,13 +1,15 @@
 -- `fsmd::clock::work` meets its contract: the words so far, then the wires from n on, give what all wires give. Assumes nothing.
-use Prim.Native.Nat.{ℕ, _+_, _-_, _≤_}
+use Prim.Native.Nat.{ℕ, _+_, _-_, _%_, _≤_}
 use native.Mathlib.Omega.{arith}
+use mathlib.Core.Bool.{true}
 use mathlib.Core.Path.{_≡_, refl, sym, ap, _∙_}
 use lib.ListN.{length, take, drop, length-set, getD}
 use denote.Ref.{now}
 use borrow.Author.Needs.{needs}
 use Rattle.fsmd.specs.Machine.{worked, wireValue}
-use Rattle.fsmd.proofs.Environment.{work-next, work-done}
-use Rattle.fsmd.proofs.Windows.{wiresFrom}
+use Rattle.fsmd.specs.Table.{wireAt, validWires}
+use Rattle.fsmd.proofs.Environment.{value-within, work-next, work-done}
+use Rattle.fsmd.proofs.Windows.{wiresFrom, wire-valid, wires-pass}
 use Rattle.fsmd.proofs.clock.work.Statement.{statement}
 use Rattle.fsmd.proofs.clock.work.Tie as tie
 
@@ -15,13 +17,14 @@ abbrev Inv-loop : tie.InvT-loop
 Inv-loop words₀ table first count n₀ words n =
     (n ≤ count)
     × (length words ≡ length words₀)
+    × (validWires (getD table 1 0) n (drop n (wiresFrom table first count)) ≡ true)
     × (worked (take (16 + n) words) (drop n (wiresFrom table first count)) ≡ worked (take 16 words₀) (wiresFrom table first count))
 
 abbrev μ-loop : tie.MeasureT-loop
 μ-loop words₀ table first count n₀ words n = count - n
 
 loop-holds : tie.Need-loop-holds Inv-loop μ-loop
-loop-holds c = (omega arith, refl, refl)
+loop-holds c = (omega arith, refl, c .before .before .pre .1 .1 .1 .0, refl)
 
 loop-less : tie.Need-loop-less Inv-loop μ-loop
 loop-less c = omega arith
@@ -29,12 +32,21 @@ loop-less c = omega arith
 loop-again : tie.Need-loop-again Inv-loop μ-loop
 loop-again c =
     let b = c .before .before .before .before in
-    let a = b .before .before .before .args in (
+    let s = b .before .before .before in
+    let a = s .args in
+    let t = now (a .table) in
+    let n = b .loop .n in
+    let r = getD t 1 0 in
+    let w = wireAt t (a .first + n) in
+    let below = c .before .before .before .loop-test .taken in
+    let v = wire-valid t (a .first) (a .count) r n below (b .loop .inv .2) in
+    let f : ℕ → ℕ = λ x. getD (b .loop .words) (x % 4096) 0 in (
       omega arith,
-      length-set (b .loop .words) (16 + b .loop .n) (c .value .result) ∙ b .loop .inv .1,
-      sym (work-next (now (a .table)) (a .first) (a .count) (b .loop .n) (b .loop .words) (c .value .result) (c .before .before .before .loop-test .taken) (omega arith)
-          (c .value .ensures ∙ ap (wireValue (λ x. getD (take (16 + b .loop .n) (b .loop .words)) x 0)) (c .before .wire .ensures)))
-          ∙ b .loop .inv .2,
+      length-set (b .loop .words) (16 + n) (c .value .result) ∙ b .loop .inv .1,
+      sym (wires-pass t (a .first) (a .count) r n below v) ∙ b .loop .inv .2,
+      sym (work-next t (a .first) (a .count) n (b .loop .words) (c .value .result) below (omega arith)
+          (c .value .ensures ∙ ap (wireValue f) (c .before .wire .ensures) ∙ value-within (b .loop .words) r n w (omega arith) (omega arith) v))
+          ∙ b .loop .inv .3,
     )
 
 returns : tie.Need-returns Inv-loop μ-loop
@@ -43,7 +55,7 @@ returns c =
     let a = b .before .before .before .args in
     let e : b .loop .n ≡ a .count = omega arith in
     ap (λ (i : ℕ). take (16 + i) (b .loop .words)) (sym e)
-    ∙ sym (work-done (now (a .table)) (a .first) (a .count) (b .loop .n) (take (16 + b .loop .n) (b .loop .words)) (omega arith)) ∙ b .loop .inv .2
+    ∙ sym (work-done (now (a .table)) (a .first) (a .count) (b .loop .n) (take (16 + b .loop .n) (b .loop .words)) (omega arith)) ∙ b .loop .inv .3
 
 pub work-spec : {M : Type 1} → statement M
 work-spec =

@@ -18,7 +18,7 @@ use Rattle.fsmd.proofs.run.run.Tie as tie
 abbrev Inv-loop : tie.InvT-loop
 Inv-loop table start budget states words₀ file₀ state₀ count₀ words file state count =
     (state < getD table 0 0)
-    × (length words ≡ 3088)
+    × (length words ≡ 4096)
     × Reached (cycle (machineOf table)) budget (startAt start (file₀ .words)) count (startAt state (file .words))
 
 abbrev μ-loop : tie.MeasureT-loop
@@ -28,7 +28,7 @@ loop-holds : tie.Need-loop-holds Inv-loop μ-loop
 loop-holds c =
     let a = c .before .before .args in (
       c .before .before .pre .1 .1,
-      length-replicate {A = ℕ} 3088 0,
+      length-replicate {A = ℕ} 4096 0,
       reached-start (cycle (machineOf (now (a .table)))) (a .budget) (startAt (a .start) (a .registers .words)),
     )
 
@@ -44,6 +44,7 @@ cycle-requires c κs =
         state = omega arith;
         wires = m .in-space (w .result) h;
         registers = m .few-registers;
+        valid = m .valid (w .result) h;
       },
       b .loop .inv .1,
     )

@@ -1,0 +1,51 @@
+//! The plain program: the five operations as plain Rust on flat arrays, with the same checks and the
+//! same algorithms as the proved library. Nothing is allocated.
+
+pub mod graph_admission;
+pub mod grouping;
+pub mod line;
+pub mod machine_admission;
+pub mod placement;
+pub mod read;
+pub mod run_graph;
+pub mod run_machine;
+pub mod state;
+pub mod synthesise;
+pub mod value;
+pub mod write;
+
+pub use read::read;
+pub use run_graph::run_graph;
+pub use run_machine::run_machine;
+pub use synthesise::synthesise;
+pub use write::write;
+
+use gutkavu::operations::RunFields;
+
+pub const BLOCKS: usize = 64;
+pub const REGISTERS: usize = 16;
+pub const INSTRUCTIONS: usize = 8;
+pub const NONE: u8 = 255;
+
+/// Words of a graph table's head and of a block, and where in a block's words its ending begins.
+pub const HEAD: usize = 2;
+pub const BLOCK_WORDS: usize = 40;
+pub const ENDING: usize = 33;
+
+/// Where a machine table's parts begin, words of a record, and the most wires.
+pub const STARTERS: usize = 2;
+pub const BLOCK_STATES: usize = 66;
+pub const RECORDS: usize = 130;
+pub const RECORD_WORDS: usize = 19;
+pub const WIRE_WORDS: usize = 1_346;
+pub const WIRES: usize = 3_072;
+
+/// The words of block `n`.
+#[inline]
+fn block(table: &[u32], n: usize) -> &[u32] {
+    &table[HEAD + BLOCK_WORDS * n..][..BLOCK_WORDS]
+}
+
+fn refused(number: u32) -> RunFields {
+    RunFields { number, halted: 0, count: 0, next: 0 }
+}

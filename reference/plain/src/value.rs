@@ -1,0 +1,37 @@
+//! What an instruction or a wire gives.
+
+/// The value of a code over the words that its operands name; a set's operand is its literal.
+/// An operand that the code does not read is not looked at.
+#[inline(always)]
+pub fn value(words: &[u32], code: u32, a: u32, b: u32, c: u32) -> u32 {
+    let at = |reference: u32| words[reference as usize];
+    match code {
+        1 => a,
+        2 => at(a),
+        3 => at(a).wrapping_add(at(b)),
+        4 => at(a).wrapping_sub(at(b)),
+        5 => at(a) & at(b),
+        6 => at(a) | at(b),
+        7 => at(a) ^ at(b),
+        8 => at(a) << (at(b) % 32),
+        9 => at(a) >> (at(b) % 32),
+        10 => ((at(a) as i32) >> (at(b) % 32)) as u32,
+        11 => at(a) as i16 as u32,
+        12..=17 => u32::from(compare(code, at(a), at(b))),
+        18 => at(a) & !at(b),
+        19 => at(if at(a) != 0 { b } else { c }),
+        _ => 0,
+    }
+}
+
+#[inline(always)]
+pub fn compare(code: u32, x: u32, y: u32) -> bool {
+    match code {
+        12 => x == y,
+        13 => x != y,
+        14 => (x as i32) < y as i32,
+        15 => x as i32 >= y as i32,
+        16 => x < y,
+        _ => x >= y,
+    }
+}

@@ -1,0 +1,41 @@
+//! The command bench: the proved library beside the plain program, and how grouping grows.
+
+mod graphs;
+mod growth;
+mod table;
+mod timing;
+mod work;
+
+use reference::random::Random;
+use std::fmt::Write;
+use work::Work;
+
+/// What the machine has done in the last minute, for judging the figures.
+fn load() -> String {
+    let cores = std::thread::available_parallelism().map_or(0, usize::from);
+    let load = std::fs::read_to_string("/proc/loadavg").unwrap_or_default();
+    let minute = load.split(' ').next().filter(|word| !word.is_empty()).unwrap_or("unknown");
+    format!("{cores} cores, load average of the last minute {minute}")
+}
+
+/// Every operation on graphs of 1, 8 and 64 blocks with 1 and 16 registers.
+fn operations(out: &mut String) -> Result<(), String> {
+    out.push_str(&table::heading());
+    for registers in [1, 16] {
+        for blocks in [1, 8, 64] {
+            let work = Work::of(&mut Random::new(2_026), blocks, registers)?;
+            work.check()?;
+            out.push_str(&table::rows(&work));
+        }
+    }
+    Ok(())
+}
+
+pub fn bench() -> Result<Vec<u8>, String> {
+    let mut out = String::new();
+    let _ = writeln!(out, "At the start: {}.\n", load());
+    operations(&mut out)?;
+    out.push_str(&growth::report()?);
+    let _ = writeln!(out, "\nAt the end: {}.", load());
+    Ok(out.into_bytes())
+}

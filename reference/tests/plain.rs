@@ -1,0 +1,80 @@
+//! The plain program of the measurements against the second program, refusals included.
+
+use reference::answer::buffers_of;
+use reference::case::Case;
+use reference::generate;
+use reference::operations::{self, RunAnswer};
+use std::collections::BTreeSet;
+
+/// Operation and number of each answer seen.
+type Seen = BTreeSet<(&'static str, u32)>;
+
+fn words(length: u32) -> Vec<u32> {
+    (0..length).map(|index| index.wrapping_mul(77_777)).collect()
+}
+
+fn fields(answer: RunAnswer) -> (u32, u32, u32, u32) {
+    (answer.number, u32::from(answer.halted), answer.count, answer.next)
+}
+
+fn texts_agree(case: &Case, graph: &[u32], seen: &mut Seen) {
+    let (mut x, mut y) = (words(case.graph_length), words(case.graph_length));
+    let second = operations::read(&case.text, &mut x);
+    let plain = plain::read(&case.text, &mut y);
+    assert_eq!((second.number, second.line, x), (plain.number, plain.line, y));
+    seen.insert(("read", plain.number));
+    let (mut x, mut y) =
+        (vec![7; case.output_length as usize], vec![7; case.output_length as usize]);
+    let second = operations::write(graph, &mut x);
+    let plain = plain::write(graph, &mut y);
+    assert_eq!((second.number, second.length, x), (plain.number, plain.length, y));
+    seen.insert(("write", plain.number));
+}
+
+fn machines_agree(case: &Case, graph: &[u32], seen: &mut Seen) {
+    let (mut x, mut y) = (words(case.machine_length), words(case.machine_length));
+    let second = operations::synthesise(graph, &mut x);
+    let plain = plain::synthesise(graph, &mut y);
+    assert_eq!((second, x), (plain, y));
+    seen.insert(("synthesise", plain));
+}
+
+fn runs_agree(case: &Case, graph: &[u32], machine: &[u32], seen: &mut Seen) {
+    let (mut x, mut y) = (case.registers.clone(), case.registers.clone());
+    let (start, budget) = (case.start_block, case.block_budget);
+    let second = operations::run_graph(graph, &mut x, start, budget);
+    let plain = plain::run_graph(graph, &mut y, start, budget);
+    let of_plain = (plain.number, plain.halted, plain.count, plain.next);
+    assert_eq!((fields(second), x), (of_plain, y));
+    seen.insert(("run graph", plain.number));
+    let (mut x, mut y) = (case.registers.clone(), case.registers.clone());
+    let (start, budget) = (case.start_state, case.cycle_budget);
+    let second = operations::run_machine(machine, &mut x, start, budget);
+    let plain = plain::run_machine(machine, &mut y, start, budget);
+    let of_plain = (plain.number, plain.halted, plain.count, plain.next);
+    assert_eq!((fields(second), x), (of_plain, y));
+    seen.insert(("run machine", plain.number));
+}
+
+#[test]
+fn the_plain_program_gives_what_the_second_gives() {
+    let mut seen = Seen::new();
+    for case in generate::cases(31, 4_000) {
+        let (graph, machine) = buffers_of(&case);
+        texts_agree(&case, &graph, &mut seen);
+        machines_agree(&case, &graph, &mut seen);
+        runs_agree(&case, &graph, &machine, &mut seen);
+    }
+    let every = [
+        ("read", &[0, 1, 2, 3, 4, 5, 7][..]),
+        ("write", &[0, 6, 7, 8]),
+        ("synthesise", &[0, 6, 7]),
+        ("run graph", &[0, 6, 7, 9]),
+        ("run machine", &[0, 7, 9, 10]),
+    ];
+    for (name, numbers) in every {
+        for &number in numbers {
+            assert!(seen.contains(&(name, number)), "{name} never answered {number}");
+        }
+    }
+}

@@ -80,7 +80,8 @@ fn place_all(
     made
 }
 
-// The state whose blocks in order are `order`: its wires from the front of `wires`, and its next references.
+// The state whose blocks in order are `order`: its wires from the front of `wires`, and its next references. `targets` and `rows` are
+// room for its edges.
 pub fn make(
     graph: &[u32],
     order: &[u8],
@@ -88,25 +89,17 @@ pub fn make(
     states: &[u8],
     wires: &mut [u32],
     values: &mut [u32],
+    targets: &mut [u32],
+    rows: &mut [u32],
 ) -> Exit
     requires { ⌜ AllPlaceable (now graph) (now order) ⌝ }
     requires { ⌜ Grouped (now starters) (now states) ⌝ }
+    requires { ⌜ Edged (now targets) (now rows) 0 ⌝ }
     requires { ⌜ length (now values) ≤ maxRegisters ⌝ }
     requires { ⌜ Room (length (stateBlocks (length (now values)) (now graph) (now starters) (now states) (now order) .wires)) (now wires) ⌝ }
     ensures { λ r. ⌜ Held (stateBlocks (length (now (values .entry))) (now (graph .entry)) (now (starters .entry)) (now (states .entry)) (now (order .entry))) (now (wires .entry)) (r .next) (take (r .registers) (now (values .exit))) (r .wires) (now (wires .exit)) ⌝ }
     ensures { λ r. ⌜ r .registers ≤ length (now (values .entry)) ⌝ }
 {
-    let mut targets = [0u32; 128];
-    let mut rows = [0u32; 2176];
-    let made = place_all(
-        graph,
-        order,
-        starters,
-        states,
-        wires,
-        values,
-        &mut targets,
-        &mut rows,
-    );
-    exits::leave(wires, values, &targets, &rows, starters, states, made)
+    let made = place_all(graph, order, starters, states, wires, values, targets, rows);
+    exits::leave(wires, values, targets, rows, starters, states, made)
 }

@@ -5,6 +5,7 @@ use cfg::admission;
 use fsmd::Machine;
 use fsmd::Wire;
 use grouping::edges;
+use state::Progress;
 ghost use mathlib.Core.Path.{_≡_};
 ghost use mathlib.Core.Bool.{true};
 ghost use mathlib.Core.List.{[], _∷_, _++_};
@@ -16,6 +17,7 @@ ghost use Rattle.fsmd.specs.Layout.{maxBlocks, maxRegisters, maxWires, recordWo
 ghost use Rattle.fsmd.specs.Machine.{wireCount};
 ghost use Rattle.fsmd.specs.Table.{tableOf};
 ghost use Rattle.placement.specs.PlacementBytes.{marked};
+ghost use Rattle.state.specs.Making.{Edged};
 ghost use Rattle.synthesis.specs.Synthesis.{machine, synthesisAnswer, synthesisWords};
 ghost use Rattle.synthesis.specs.StateWords.{written, withStates, firstStates, Prepared, Filled};
 
@@ -112,9 +114,12 @@ fn one_state(
     k: usize,
     first: usize,
     table: &mut [u32],
+    targets: &mut [u32],
+    rows: &mut [u32],
 ) -> usize
     requires { ⌜ Prepared (now graph) (now edges) (now starts) (now starters) (now states) ⌝ }
     requires { ⌜ (k < length (now starters)) × Filled (now graph) (now table) k first ⌝ }
+    requires { ⌜ Edged (now targets) (now rows) 0 ⌝ }
     ensures { λ r. ⌜ (now (table .exit) ≡ withStates (take recordsOffset (now (table .entry))) (firstStates (now (graph .entry)) (k + 1))) × (r ≡ wireCount (firstStates (now (graph .entry)) (k + 1))) ⌝ }
 {
     let order = placement::place(edges, states, starts, k as u8);
@@ -130,6 +135,8 @@ fn one_state(
         states,
         &mut table[at..],
         &mut values[..registers],
+        targets,
+        rows,
     );
     write_record(
         table,
@@ -150,15 +157,29 @@ fn all_states(
     starters: &[u8],
     states: &[u8],
     table: &mut [u32],
+    targets: &mut [u32],
+    rows: &mut [u32],
 )
     requires { ⌜ Prepared (now graph) (now edges) (now starts) (now starters) (now states) ⌝ }
     requires { ⌜ Filled (now graph) (now table) 0 0 ⌝ }
+    requires { ⌜ Edged (now targets) (now rows) 0 ⌝ }
     ensures { λ r. ⌜ now (table .exit) ≡ withStates (take recordsOffset (now (table .entry))) (firstStates (now (graph .entry)) (length (now (starters .entry)))) ⌝ }
 {
     let mut k: usize = 0;
     let mut first: usize = 0;
     while k < starters.len() {
-        let next = one_state(graph, edges, starts, starters, states, k, first, table);
+        let next = one_state(
+            graph,
+            edges,
+            starts,
+            starters,
+            states,
+            k,
+            first,
+            table,
+            targets,
+            rows,
+        );
         first = next;
         k += 1;
     }
@@ -176,6 +197,9 @@ fn fill(graph: &[u32], table: &mut [u32])
     let blocks = graph[0] as usize;
     let edges = edges::edges_of(graph);
     let starts = starter_marks(&list[..count]);
+    // Room for the edges of one state after another: to clear it for each would cost more than most states.
+    let mut targets = [0u32; Progress::EDGES];
+    let mut rows = [0u32; Progress::ROW * Progress::EDGES];
     write_head(table, count as u32, graph[1], &list, &bytes);
     all_states(
         graph,
@@ -184,6 +208,8 @@ fn fill(graph: &[u32], table: &mut [u32])
         &list[..count],
         &bytes[..blocks],
         table,
+        &mut targets,
+        &mut rows,
     );
 }
 

@@ -41,57 +41,57 @@ module _ (p : ℕ → Bool) (x : ℕ) (l : List ℕ) where
   first-goes false e = refl
 
 module _ (states : List ℕ) (k u : ℕ) where
-  members-cons : u < 64 → membersFrom states k u (64 - u) ≡ keep (ofState states k u) u (membersFrom states k (u + 1) (64 - (u + 1)))
-  members-cons h = ap (only (ofState states k)) (upFrom-cons u 64 h)
+  members-cons : u < maxBlocks → membersFrom states k u (maxBlocks - u) ≡ keep (ofState states k u) u (membersFrom states k (u + 1) (maxBlocks - (u + 1)))
+  members-cons h = ap (only (ofState states k)) (upFrom-cons u maxBlocks h)
 
-  members-done : 64 ≤ u → membersFrom states k u (64 - u) ≡ []
-  members-done h = ap (only (ofState states k)) (upFrom-done u 64 h)
+  members-done : maxBlocks ≤ u → membersFrom states k u (maxBlocks - u) ≡ []
+  members-done h = ap (only (ofState states k)) (upFrom-done u maxBlocks h)
 
   module _ (p : ℕ → Bool) where
-    pub every-fails : u < 64 → ofState states k u && not (p u) ≡ true → every p (membersFrom states k u (64 - u)) ≡ false
-    every-fails h e = ap (every p) (members-cons h) ∙ every-stops p u (membersFrom states k (u + 1) (64 - (u + 1))) (ofState states k u) e
+    pub every-fails : u < maxBlocks → ofState states k u && not (p u) ≡ true → every p (membersFrom states k u (maxBlocks - u)) ≡ false
+    every-fails h e = ap (every p) (members-cons h) ∙ every-stops p u (membersFrom states k (u + 1) (maxBlocks - (u + 1))) (ofState states k u) e
 
-    pub every-on : u < 64 → ofState states k u && not (p u) ≡ false
-        → every p (membersFrom states k u (64 - u)) ≡ every p (membersFrom states k (u + 1) (64 - (u + 1)))
-    every-on h e = ap (every p) (members-cons h) ∙ every-goes p u (membersFrom states k (u + 1) (64 - (u + 1))) (ofState states k u) e
+    pub every-on : u < maxBlocks → ofState states k u && not (p u) ≡ false
+        → every p (membersFrom states k u (maxBlocks - u)) ≡ every p (membersFrom states k (u + 1) (maxBlocks - (u + 1)))
+    every-on h e = ap (every p) (members-cons h) ∙ every-goes p u (membersFrom states k (u + 1) (maxBlocks - (u + 1))) (ofState states k u) e
 
-    pub every-done : 64 ≤ u → every p (membersFrom states k u (64 - u)) ≡ true
+    pub every-done : maxBlocks ≤ u → every p (membersFrom states k u (maxBlocks - u)) ≡ true
     every-done h = ap (every p) (members-done h)
 
-    pub first-here : u < 64 → ofState states k u && p u ≡ true → first p (membersFrom states k u (64 - u)) ≡ Option.some u
-    first-here h e = ap (first p) (members-cons h) ∙ first-stops p u (membersFrom states k (u + 1) (64 - (u + 1))) (ofState states k u) e
+    pub first-here : u < maxBlocks → ofState states k u && p u ≡ true → first p (membersFrom states k u (maxBlocks - u)) ≡ Option.some u
+    first-here h e = ap (first p) (members-cons h) ∙ first-stops p u (membersFrom states k (u + 1) (maxBlocks - (u + 1))) (ofState states k u) e
 
-    pub first-on : u < 64 → ofState states k u && p u ≡ false
-        → first p (membersFrom states k u (64 - u)) ≡ first p (membersFrom states k (u + 1) (64 - (u + 1)))
-    first-on h e = ap (first p) (members-cons h) ∙ first-goes p u (membersFrom states k (u + 1) (64 - (u + 1))) (ofState states k u) e
+    pub first-on : u < maxBlocks → ofState states k u && p u ≡ false
+        → first p (membersFrom states k u (maxBlocks - u)) ≡ first p (membersFrom states k (u + 1) (maxBlocks - (u + 1)))
+    first-on h e = ap (first p) (members-cons h) ∙ first-goes p u (membersFrom states k (u + 1) (maxBlocks - (u + 1))) (ofState states k u) e
 
-    pub first-done : 64 ≤ u → first p (membersFrom states k u (64 - u)) ≡ Option.none
+    pub first-done : maxBlocks ≤ u → first p (membersFrom states k u (maxBlocks - u)) ≡ Option.none
     first-done h = ap (first p) (members-done h)
 
 -- ---- the edges of a block
 
-pub leads-at : (edges : List ℕ) (u x : ℕ) → x < 64
+pub leads-at : (edges : List ℕ) (u x : ℕ) → x < maxBlocks
     → mem x (edgesIn edges u) ≡ eqb (getD edges (2 * u) none) x || eqb (getD edges (2 * u + 1) none) x
 unfolding edgesFrom
 leads-at edges u x h = go (getD edges (2 * u) none) (getD edges (2 * u + 1) none)
   where
-    one : (a : ℕ) (l : List ℕ) → Compared a 64 → mem x (keep (ltb a 64) a l) ≡ eqb a x || mem x l
-    one a l c = two (true-or-false (ltb a 64))
+    one : (a : ℕ) (l : List ℕ) → Compared a maxBlocks → mem x (keep (ltb a maxBlocks) a l) ≡ eqb a x || mem x l
+    one a l c = two (true-or-false (ltb a maxBlocks))
       where
-        two : (ltb a 64 ≡ true) ⊎ (ltb a 64 ≡ false) → mem x (keep (ltb a 64) a l) ≡ eqb a x || mem x l
+        two : (ltb a maxBlocks ≡ true) ⊎ (ltb a maxBlocks ≡ false) → mem x (keep (ltb a maxBlocks) a l) ≡ eqb a x || mem x l
         two (inl e) = rw (e, eqb-sym a x) refl
         two (inr e) =
-            let n : eqb a x ≡ false = ne-eqb a x (λ (d : a ≡ x). false≢true (sym e ∙ lt-ltb a 64 (omega arith))) in
+            let n : eqb a x ≡ false = ne-eqb a x (λ (d : a ≡ x). false≢true (sym e ∙ lt-ltb a maxBlocks (omega arith))) in
             rw (e, n) refl
 
     last : (b : Bool) → b || false ≡ b
     last true = refl
     last false = refl
 
-    go : (a b : ℕ) → mem x (only (λ t. ltb t 64) (a ∷ b ∷ [])) ≡ eqb a x || eqb b x
+    go : (a b : ℕ) → mem x (only (λ t. ltb t maxBlocks) (a ∷ b ∷ [])) ≡ eqb a x || eqb b x
     go a b =
-        one a (keep (ltb b 64) b []) (compared a 64)
-        ∙ ap (λ (c : Bool). eqb a x || c) (one b [] (compared b 64) ∙ last (eqb b x))
+        one a (keep (ltb b maxBlocks) b []) (compared a maxBlocks)
+        ∙ ap (λ (c : Bool). eqb a x || c) (one b [] (compared b maxBlocks) ∙ last (eqb b x))
 
 -- ---- what holds a block back, and what is due
 
@@ -137,21 +137,21 @@ unfolding placeIn
 none-at-all edges starts blocks placed = refl
 
 pub record Placing (edges starts blocks placed list : List ℕ) (count : ℕ) : Type 0 where
-  pub marks-64 : length placed ≡ 64
-  pub list-64 : length list ≡ 64
-  pub few : count ≤ 64
+  pub marks-64 : length placed ≡ maxBlocks
+  pub list-64 : length list ≡ maxBlocks
+  pub few : count ≤ maxBlocks
   pub before : List ℕ
   pub marks : (x : ℕ) → marked placed x ≡ mem x before
-  pub rest : placeIn edges starts blocks 64 [] ≡ take count list ++ placeIn edges starts blocks (64 - count) before
+  pub rest : placeIn edges starts blocks maxBlocks [] ≡ take count list ++ placeIn edges starts blocks (maxBlocks - count) before
 
-pub no-marks : (x : ℕ) → marked (replicate 64 0) x ≡ false
-no-marks x = go (decLt x 64)
+pub no-marks : (x : ℕ) → marked (replicate maxBlocks 0) x ≡ false
+no-marks x = go (decLt x maxBlocks)
   where
-    go : Dec (x < 64) → marked (replicate 64 0) x ≡ false
-    go (yes h) = rw (getD-replicate {A = ℕ} 64 x 0 0 h) refl
-    go (no h) = rw (List·getD-eq-default {A = ℕ} (replicate 64 0) 0 {n = x} (omega arith)) refl
+    go : Dec (x < maxBlocks) → marked (replicate maxBlocks 0) x ≡ false
+    go (yes h) = rw (getD-replicate {A = ℕ} maxBlocks x 0 0 h) refl
+    go (no h) = rw (List·getD-eq-default {A = ℕ} (replicate maxBlocks 0) 0 {n = x} (omega arith)) refl
 
-pub placing-begins : (edges starts blocks : List ℕ) → Placing edges starts blocks (replicate 64 0) (replicate 64 0) 0
+pub placing-begins : (edges starts blocks : List ℕ) → Placing edges starts blocks (replicate maxBlocks 0) (replicate maxBlocks 0) 0
 placing-begins edges starts blocks = record {
   marks-64 = refl;
   list-64 = refl;
@@ -168,12 +168,12 @@ marked-set marks x y h = go (compared y x)
     go (same e p) = rw (e, p, getD-set-same marks x 1 0 h) refl
     go (other e p) = rw (e, getD-set-other marks x y 1 0 p) refl
 
-chosen : (o : Option ℕ) (x : ℕ) → x ≡ blockOr64 o → x < 64 → o ≡ Option.some x
+chosen : (o : Option ℕ) (x : ℕ) → x ≡ blockOr64 o → x < maxBlocks → o ≡ Option.some x
 chosen Option.none x e h = absurd (omega arith)
 chosen (Option.some y) x e h = ap Option.some (sym e)
 
 -- the blocks of a state are below 64
-exhausted : (o : Option ℕ) → ((x : ℕ) → o ≡ Option.some x → x < 64) → 64 ≤ blockOr64 o → o ≡ Option.none
+exhausted : (o : Option ℕ) → ((x : ℕ) → o ≡ Option.some x → x < maxBlocks) → maxBlocks ≤ blockOr64 o → o ≡ Option.none
 exhausted Option.none f h = refl
 exhausted (Option.some x) f h = absurd (let l = f x refl in omega arith)
 
@@ -182,48 +182,48 @@ module _ (edges starts states : List ℕ) (k : ℕ) (placed list : List ℕ) (co
       ≡ first (nextIn edges starts (membersIn states k) (λ x. mem x (p .before))) (membersIn states k)
   by-marks = ap (λ (f : ℕ → Bool). first (nextIn edges starts (membersIn states k) f) (membersIn states k)) (fun-ext (p .marks))
 
-  module _ (more : count < 64) (x : ℕ) (e : x ≡ blockOr64 (first (nextIn edges starts (membersIn states k) (marked placed)) (membersIn states k))) where
-    next-placed : x < 64 → placeIn edges starts (membersIn states k) (64 - count) (p .before) ≡ x ∷ placeIn edges starts (membersIn states k) (64 - (count + 1)) (x ∷ p .before)
+  module _ (more : count < maxBlocks) (x : ℕ) (e : x ≡ blockOr64 (first (nextIn edges starts (membersIn states k) (marked placed)) (membersIn states k))) where
+    next-placed : x < maxBlocks → placeIn edges starts (membersIn states k) (maxBlocks - count) (p .before) ≡ x ∷ placeIn edges starts (membersIn states k) (maxBlocks - (count + 1)) (x ∷ p .before)
     unfolding placeIn
     next-placed h =
-        let n : 64 - count ≡ suc (64 - (count + 1)) = omega arith in
+        let n : maxBlocks - count ≡ suc (maxBlocks - (count + 1)) = omega arith in
         rw n
-        (ap (λ (o : Option ℕ). placeNext o (λ x. placeIn edges starts (membersIn states k) (64 - (count + 1)) (x ∷ p .before)))
+        (ap (λ (o : Option ℕ). placeNext o (λ x. placeIn edges starts (membersIn states k) (maxBlocks - (count + 1)) (x ∷ p .before)))
         (sym by-marks ∙ chosen (first (nextIn edges starts (membersIn states k) (marked placed)) (membersIn states k)) x e h))
 
-    none-placed : 64 ≤ x → placeIn edges starts (membersIn states k) (64 - count) (p .before) ≡ []
+    none-placed : maxBlocks ≤ x → placeIn edges starts (membersIn states k) (maxBlocks - count) (p .before) ≡ []
     unfolding placeIn
     none-placed h =
-        let n : 64 - count ≡ suc (64 - (count + 1)) = omega arith in
+        let n : maxBlocks - count ≡ suc (maxBlocks - (count + 1)) = omega arith in
         rw n
-        (ap (λ (o : Option ℕ). placeNext o (λ x. placeIn edges starts (membersIn states k) (64 - (count + 1)) (x ∷ p .before)))
+        (ap (λ (o : Option ℕ). placeNext o (λ x. placeIn edges starts (membersIn states k) (maxBlocks - (count + 1)) (x ∷ p .before)))
         (sym by-marks ∙ exhausted (first (nextIn edges starts (membersIn states k) (marked placed)) (membersIn states k)) low (omega arith)))
       where
-        low : (y : ℕ) → first (nextIn edges starts (membersIn states k) (marked placed)) (membersIn states k) ≡ Option.some y → y < 64
+        low : (y : ℕ) → first (nextIn edges starts (membersIn states k) (marked placed)) (membersIn states k) ≡ Option.some y → y < maxBlocks
         low y f =
             let i = first-some (nextIn edges starts (membersIn states k) (marked placed)) (membersIn states k) y f .0 in
-            let l = in-upFrom 0 64 y (only-in (ofState states k) (upFrom 0 64) y i .0) in
+            let l = in-upFrom 0 maxBlocks y (only-in (ofState states k) (upFrom 0 maxBlocks) y i .0) in
             omega (arith, l .1)
 
-    pub placing-on : x < 64 → Placing edges starts (membersIn states k) (set placed x 1) (set list count x) (count + 1)
+    pub placing-on : x < maxBlocks → Placing edges starts (membersIn states k) (set placed x 1) (set list count x) (count + 1)
     placing-on h = record {
       marks-64 = length-set placed x 1 ∙ p .marks-64;
       list-64 = length-set list count x ∙ p .list-64;
       few = omega arith;
       before = x ∷ p .before;
       marks = λ y. marked-set placed x y (omega (arith, p .marks-64)) ∙ ap (λ (b : Bool). eqb y x || b) (p .marks y);
-      rest = p .rest ∙ ap (λ (l : List ℕ). take count list ++ l) (next-placed h) ∙ sym (append-snoc (take count list) x (placeIn edges starts (membersIn states k) (64 - (count + 1)) (x ∷ p .before)))
-          ∙ ap (λ (l : List ℕ). l ++ placeIn edges starts (membersIn states k) (64 - (count + 1)) (x ∷ p .before)) taken;
+      rest = p .rest ∙ ap (λ (l : List ℕ). take count list ++ l) (next-placed h) ∙ sym (append-snoc (take count list) x (placeIn edges starts (membersIn states k) (maxBlocks - (count + 1)) (x ∷ p .before)))
+          ∙ ap (λ (l : List ℕ). l ++ placeIn edges starts (membersIn states k) (maxBlocks - (count + 1)) (x ∷ p .before)) taken;
     }
       where
         taken : take count list ++ (x ∷ []) ≡ take (count + 1) (set list count x)
         taken = let l : count < length list = omega (arith, p .list-64) in sym (rw (add-one, take-suc-set list count x l) refl)
 
-    pub placing-stops : 64 ≤ x → take count list ≡ placeIn edges starts (membersIn states k) 64 []
+    pub placing-stops : maxBlocks ≤ x → take count list ≡ placeIn edges starts (membersIn states k) maxBlocks []
     placing-stops h = sym (p .rest ∙ ap (λ (l : List ℕ). take count list ++ l) (none-placed h) ∙ append-nil (take count list))
 
-  pub placing-full : 64 ≤ count → take count list ≡ placeIn edges starts (membersIn states k) 64 []
+  pub placing-full : maxBlocks ≤ count → take count list ≡ placeIn edges starts (membersIn states k) maxBlocks []
   placing-full h = sym (p .rest ∙ ap (λ (l : List ℕ). take count list ++ l) none-left ∙ append-nil (take count list))
     where
-      none-left : placeIn edges starts (membersIn states k) (64 - count) (p .before) ≡ []
-      none-left = let n : 64 - count ≡ 0 = omega arith in ap (λ (m : ℕ). placeIn edges starts (membersIn states k) m (p .before)) n ∙ none-at-all edges starts (membersIn states k) (p .before)
+      none-left : placeIn edges starts (membersIn states k) (maxBlocks - count) (p .before) ≡ []
+      none-left = let n : maxBlocks - count ≡ 0 = omega arith in ap (λ (m : ℕ). placeIn edges starts (membersIn states k) m (p .before)) n ∙ none-at-all edges starts (membersIn states k) (p .before)

@@ -1,5 +1,5 @@
 // The order in which the blocks of a state are placed.
-use fsmd::Machine;
+use cfg::Graph;
 use grouping::edges;
 ghost use mathlib.Core.Path.{_≡_};
 ghost use mathlib.Core.Bool.{not, _&&_};
@@ -14,7 +14,7 @@ ghost use Rattle.placement.specs.PlacementBytes.{marked, ofState, member
 // The first `count` are the blocks in order.
 pub struct Order {
     pub count: usize,
-    pub blocks: [u8; 64],
+    pub blocks: [u8; Graph::BLOCKS],
 }
 
 // Whether a mark stands at x; none does past the end.
@@ -62,7 +62,7 @@ fn entered(edges: &[u8], states: &[u8], placed: &[u8], k: u8, x: u8) -> bool
     ensures { λ r. ⌜ r ≡ every (passes (now (edges .entry)) (marked (now (placed .entry))) x) (membersIn (now (states .entry)) k) ⌝ }
 {
     let mut u: usize = 0;
-    while u < Machine::STATES {
+    while u < Graph::BLOCKS {
         if awaits(edges, states, placed, k, x, u) {
             return false;
         }
@@ -92,30 +92,33 @@ fn due(edges: &[u8], states: &[u8], starts: &[u8], placed: &[u8], k: u8, x: u8) 
     }
 }
 
-// The lowest-numbered block of state k that is to be placed next, or 64.
+// The byte past every block's.
+const PAST: u8 = Graph::BLOCKS as u8;
+
+// The lowest-numbered block of state k that is to be placed next, or the byte past every block's.
 fn next(edges: &[u8], states: &[u8], starts: &[u8], placed: &[u8], k: u8) -> u8
     ensures { λ r. ⌜ r ≡ blockOr64 (first (nextIn (now (edges .entry)) (now (starts .entry)) (membersIn (now (states .entry)) k) (marked (now (placed .entry)))) (membersIn (now (states .entry)) k)) ⌝ }
 {
     let mut x: u8 = 0;
-    while x < 64 {
+    while x < PAST {
         if due(edges, states, starts, placed, k, x) {
             return x;
         }
         x += 1;
     }
-    64
+    PAST
 }
 
 // The blocks of state k, always the lowest-numbered that is ready.
 pub fn place(edges: &[u8], states: &[u8], starts: &[u8], k: u8) -> Order
     ensures { λ r. ⌜ (r .count ≤ maxBlocks) × (length (r .blocks) ≡ maxBlocks) × (take (r .count) (r .blocks) ≡ placeIn (now (edges .entry)) (now (starts .entry)) (membersIn (now (states .entry)) k) maxBlocks []) ⌝ }
 {
-    let mut placed = [0u8; 64];
-    let mut blocks = [0u8; 64];
+    let mut placed = [0u8; Graph::BLOCKS];
+    let mut blocks = [0u8; Graph::BLOCKS];
     let mut count: usize = 0;
-    while count < Machine::STATES {
+    while count < Graph::BLOCKS {
         let x = next(edges, states, starts, &placed, k);
-        if 64 <= x {
+        if PAST <= x {
             break;
         }
         placed[edges::wide(x)] = 1;

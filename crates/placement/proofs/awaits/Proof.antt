@@ -5,6 +5,7 @@ use denote.Ref.{now}
 use lib.ListN.{getD}
 use borrow.Author.Needs.{needs}
 use borrow.Author.Tests.{eq-eqb, ne-eqb}
+use Rattle.fsmd.specs.Layout.{none}
 use Rattle.runs.specs.Lists.{mem}
 use Rattle.grouping.specs.Bytes.{edgesIn}
 use Rattle.placement.specs.PlacementBytes.{marked, ofState, passes}
@@ -21,14 +22,14 @@ returns-2 : tie.Need-returns-2
 returns-2 c =
     let a = c .before .before .before .before .before .before .before .before .args in
     waits-not (ofState (now (a .states)) (a .k) (a .u)) (mem (a .x) (edgesIn (now (a .edges)) (a .u))) (marked (now (a .placed)) (a .u))
-    (eq-eqb (getD (now (a .states)) (a .u) 255) (a .k) (sym (c .before .before .before .before .at .ensures) ∙ c .before .before .before .if1 .taken))
+    (eq-eqb (getD (now (a .states)) (a .u) none) (a .k) (sym (c .before .before .before .before .at .ensures) ∙ c .before .before .before .if1 .taken))
     (sym (c .before .before .mark .ensures) ∙ c .before .if2 .left) (c .leads .result) (c .leads .ensures)
 
 returns-3 : tie.Need-returns-3
 returns-3 c =
     let a = c .before .before .before .before .before .args in
     and-none (ofState (now (a .states)) (a .k) (a .u)) (not (passes (now (a .edges)) (marked (now (a .placed))) (a .x) (a .u)))
-    (ne-eqb (getD (now (a .states)) (a .u) 255) (a .k) (λ (p : getD (now (a .states)) (a .u) 255 ≡ a .k). c .if1 .left (c .before .at .ensures ∙ p)))
+    (ne-eqb (getD (now (a .states)) (a .u) none) (a .k) (λ (p : getD (now (a .states)) (a .u) none ≡ a .k). c .if1 .left (c .before .at .ensures ∙ p)))
 
 pub awaits-spec : {M : Type 1} → statement M
 awaits-spec =

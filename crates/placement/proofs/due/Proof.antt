@@ -7,6 +7,7 @@ use denote.Ref.{now}
 use lib.ListN.{getD}
 use borrow.Author.Needs.{needs}
 use borrow.Author.Tests.{eq-eqb, ne-eqb}
+use Rattle.fsmd.specs.Layout.{none}
 use Rattle.runs.specs.Lists.{every}
 use Rattle.placement.specs.PlacementBytes.{marked, ofState, membersIn, passes, nextIn}
 use Rattle.placement.proofs.PlacementSteps.{due-placed, due-starter, due-entered, and-none}
@@ -17,11 +18,11 @@ use Rattle.placement.proofs.due.Tie as tie
 at-x : (f : ℕ → Bool) (n x : ℕ) (r b : Bool) → n ≡ x → r ≡ f n → r ≡ b → f x ≡ b
 at-x f n x r b e h t = ap f (sym e) ∙ sym h ∙ t
 
-of-state : (states : List ℕ) (k n x r : ℕ) → n ≡ x → r ≡ getD states n 255 → r ≡ k → ofState states k x ≡ true
-of-state states k n x r e h t = eq-eqb (getD states x 255) k (ap (λ (m : ℕ). getD states m 255) (sym e) ∙ sym h ∙ t)
+of-state : (states : List ℕ) (k n x r : ℕ) → n ≡ x → r ≡ getD states n none → r ≡ k → ofState states k x ≡ true
+of-state states k n x r e h t = eq-eqb (getD states x none) k (ap (λ (m : ℕ). getD states m none) (sym e) ∙ sym h ∙ t)
 
-of-other : (states : List ℕ) (k n x r : ℕ) → n ≡ x → r ≡ getD states n 255 → (r ≡ k → ⊥) → ofState states k x ≡ false
-of-other states k n x r e h f = ne-eqb (getD states x 255) k (λ (p : getD states x 255 ≡ k). f (h ∙ ap (λ (m : ℕ). getD states m 255) e ∙ p))
+of-other : (states : List ℕ) (k n x r : ℕ) → n ≡ x → r ≡ getD states n none → (r ≡ k → ⊥) → ofState states k x ≡ false
+of-other states k n x r e h f = ne-eqb (getD states x none) k (λ (p : getD states x none ≡ k). f (h ∙ ap (λ (m : ℕ). getD states m none) e ∙ p))
 
 -- whether all that lead to x are placed
 abbrev all-placed : (edges states placed : List ℕ) (k x : ℕ) → Bool

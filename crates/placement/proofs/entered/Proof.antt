@@ -3,6 +3,7 @@ use mathlib.Core.Path.{_≡_, refl, sym, ap, _∙_}
 use Prim.Native.Nat.{_-_}
 use denote.Ref.{now}
 use borrow.Author.Needs.{needs}
+use Rattle.fsmd.specs.Layout.{maxBlocks}
 use Rattle.runs.specs.Lists.{every}
 use Rattle.placement.specs.PlacementBytes.{marked, membersFrom, membersIn, passes}
 use Rattle.placement.proofs.PlacementSteps.{every-fails, every-on, every-done}
@@ -11,10 +12,10 @@ use Rattle.placement.proofs.entered.Tie as tie
 
 abbrev Inv-loop : tie.InvT-loop
 Inv-loop edges states placed k x u₀ u =
-    every (passes edges (marked placed) x) (membersIn states k) ≡ every (passes edges (marked placed) x) (membersFrom states k u (64 - u))
+    every (passes edges (marked placed) x) (membersIn states k) ≡ every (passes edges (marked placed) x) (membersFrom states k u (maxBlocks - u))
 
 abbrev μ-loop : tie.MeasureT-loop
-μ-loop edges states placed k x u₀ u = 64 - u
+μ-loop edges states placed k x u₀ u = maxBlocks - u
 
 returns : tie.Need-returns Inv-loop μ-loop
 returns c =

@@ -3,6 +3,7 @@ use mathlib.Core.Path.{_≡_, sym, ap, _∙_}
 use Prim.Native.Nat.{_-_}
 use denote.Ref.{now}
 use borrow.Author.Needs.{needs}
+use Rattle.fsmd.specs.Layout.{maxBlocks}
 use Rattle.runs.specs.Lists.{first}
 use Rattle.placement.specs.PlacementBytes.{marked, membersFrom, membersIn, nextIn, blockOr64}
 use Rattle.placement.proofs.PlacementSteps.{first-here, first-on, first-done}
@@ -12,10 +13,10 @@ use Rattle.placement.proofs.next.Tie as tie
 abbrev Inv-loop : tie.InvT-loop
 Inv-loop edges states starts placed k x₀ x =
     first (nextIn edges starts (membersIn states k) (marked placed)) (membersIn states k)
-    ≡ first (nextIn edges starts (membersIn states k) (marked placed)) (membersFrom states k x (64 - x))
+    ≡ first (nextIn edges starts (membersIn states k) (marked placed)) (membersFrom states k x (maxBlocks - x))
 
 abbrev μ-loop : tie.MeasureT-loop
-μ-loop edges states starts placed k x₀ x = 64 - x
+μ-loop edges states starts placed k x₀ x = maxBlocks - x
 
 returns : tie.Need-returns Inv-loop μ-loop
 returns c =

@@ -6,6 +6,7 @@ use native.Mathlib.Omega.{arith}
 use denote.Ref.{now}
 use lib.ListN.{set}
 use borrow.Author.Needs.{needs}
+use Rattle.fsmd.specs.Layout.{maxBlocks}
 use Rattle.placement.specs.PlacementBytes.{membersIn}
 use Rattle.placement.proofs.PlacementSteps.{Placing, placing-begins, placing-on, placing-stops, placing-full}
 use Rattle.placement.proofs.place.Statement.{statement}
@@ -15,7 +16,7 @@ abbrev Inv-loop : tie.InvT-loop
 Inv-loop edges states starts k placed₀ blocks₀ count₀ placed blocks count = Placing edges starts (membersIn states k) placed blocks count
 
 abbrev μ-loop : tie.MeasureT-loop
-μ-loop edges states starts k placed₀ blocks₀ count₀ placed blocks count = 64 - count
+μ-loop edges states starts k placed₀ blocks₀ count₀ placed blocks count = maxBlocks - count
 
 loop-holds : tie.Need-loop-holds Inv-loop μ-loop
 loop-holds c = let a = c .before .before .before .args in placing-begins (now (a .edges)) (now (a .starts)) (membersIn (now (a .states)) (a .k))

@@ -12,7 +12,7 @@ use Rattle.runs.specs.Lists.{mem}
 use Rattle.runs.specs.Runs.{Place, standing, halted, Configuration, startAt, times}
 use Rattle.runs.proofs.RunLaws.{never-both, times-zero, times-add, times-last}
 use Rattle.cfg.specs.Graph.{CFG, step}
-use Rattle.fsmd.specs.Layout.{none}
+use Rattle.fsmd.specs.Layout.{maxRegisters, none}
 use Rattle.fsmd.specs.Machine.{State, FSMD, stateOf as stateAt, worked, toState, clock, cycle}
 use Rattle.grouping.specs.Grouping.{Groups}
 use Rattle.placement.specs.Placement.{members}
@@ -63,7 +63,7 @@ module _ (g : CFG) (s : Groups) (rs : List ℕ) where
     block : ℕ
     registers : List ℕ
     arrival : Arrival g (s .starters) rs k steps block registers
-    size : length registers ≡ 16
+    size : length registers ≡ maxRegisters
     machine : machineAfter (machineFor g s) rs k ≡ startAt (stateIn s block) registers
 
   -- the graph halts before arrival k, and the machine has halted after k cycles with the same registers
@@ -156,7 +156,7 @@ module _ (g : CFG) (s : Groups) (f : GraphFits g) (a : Arranged g s) (rs : List 
       go halted e = inr (stops k r e)
   next-cycle k (inr r) = inr (stays-stopped k r)
 
-  after-cycles : length rs ≡ 16 → (k : ℕ) → Arrived g s rs k ⊎ Stopped g s rs k
+  after-cycles : length rs ≡ maxRegisters → (k : ℕ) → Arrived g s rs k ⊎ Stopped g s rs k
   after-cycles size zero =
       inl (record {
         steps = 0;
@@ -176,7 +176,7 @@ registers-of e = ap (λ (c : Configuration). c .registers) e
 standing-of : {b c : ℕ} → standing b ≡ standing c → b ≡ c
 standing-of e = cc
 
-module _ (g : CFG) (s : Groups) (f : GraphFits g) (a : Arranged g s) (rs : List ℕ) (size : length rs ≡ 16) (k : ℕ) where
+module _ (g : CFG) (s : Groups) (f : GraphFits g) (a : Arranged g s) (rs : List ℕ) (size : length rs ≡ maxRegisters) (k : ℕ) where
   end-of-cycle : (n : ℕ) × EndOfCycle g (s .starters) rs k n
   end-of-cycle = go (after-cycles g s f a rs size k)
     where

@@ -45,16 +45,16 @@ execute-opens i rs = refl
 
 -- only registers of the file are read, so their numbers may be taken modulo 16
 pub execute-is : (i : Instruction) (rs : List ℕ) → Within i
-    → execute i rs ≡ set rs (i .d) (evalOf (i .code) (choose (eqb (i .code) 1) (i .a) (getD rs (i .a % 16) 0)) (getD rs (i .b % 16) 0) 0)
+    → execute i rs ≡ set rs (i .d) (evalOf (i .code) (choose (eqb (i .code) 1) (i .a) (getD rs (i .a % maxRegisters) 0)) (getD rs (i .b % maxRegisters) 0) 0)
 execute-is i rs w =
-    let second : i .b % 16 ≡ i .b = (let l = w .second in omega arith) in
+    let second : i .b % maxRegisters ≡ i .b = (let l = w .second in omega arith) in
     execute-opens i rs ∙ rw second (ap (λ (z : ℕ). set rs (i .d) (evalOf (i .code) z (getD rs (i .b) 0) 0)) (first (eqb (i .code) 1) refl))
   where
-    first : (t : Bool) → eqb (i .code) 1 ≡ t → choose t (i .a) (getD rs (i .a) 0) ≡ choose t (i .a) (getD rs (i .a % 16) 0)
+    first : (t : Bool) → eqb (i .code) 1 ≡ t → choose t (i .a) (getD rs (i .a) 0) ≡ choose t (i .a) (getD rs (i .a % maxRegisters) 0)
     first true e = refl
     first false e =
         let l = w .first (eqb-false (i .code) 1 e) in
-        let m : i .a % 16 ≡ i .a = omega arith in
+        let m : i .a % maxRegisters ≡ i .a = omega arith in
         rw m
 
 -- ---- a block's instructions, one after another

@@ -17,7 +17,7 @@ use Rattle.cfg.specs.declared.Instruction.{Instruction}
 use Rattle.cfg.specs.declared.Ending.{Ending}
 use Rattle.cfg.specs.declared.Ending.the-variants.{Goto, Ite, Halt}
 use Rattle.cfg.specs.declared.Block.{Block}
-use Rattle.cfg.specs.Layout.{maxBlocks, maxRegisters, maxInstructions, endingWords, blockOffset}
+use Rattle.cfg.specs.Layout.{maxBlocks, maxRegisters, maxInstructions, headWords, instructionWords, codeWords, endingWords, codeOffset, endingOffset, lastOffset, blockWords, allBlockWords, graphWords, blockOffset}
 use Rattle.cfg.specs.Graph.{CFG, unused, codeOf, validInstruction, validEnding, validBlock, validGraph}
 use Rattle.cfg.specs.Table.{instructionWordsOf, endingWordsOf, blockWordsOf, tableOf, comparisonAt, instructionAt, endingAt, blockAt, graphOf, admitted}
 use Rattle.cfg.specs.Fits.{zeros, endingFits, blockFits}
@@ -58,14 +58,14 @@ four-words t p n h =
     let c : p + 3 + 1 ≡ p + 4 = omega arith in
     rw (e, take-word t p (suc (suc (suc (4 * n)))) (omega arith), take-word t (p + 1) (suc (suc (4 * n))) (omega arith), a, take-word t (p + 2) (suc (4 * n)) (omega arith), b, take-word t (p + 3) (4 * n) (omega arith), c)
 
-pub code-words : (t : List ℕ) (o k n : ℕ) → o + 1 + 4 * (k + n) ≤ length t
-    → concatMap instructionWordsOf (map (instructionAt t o) (upFrom k n)) ≡ take (4 * n) (drop (o + 1 + 4 * k) t)
+pub code-words : (t : List ℕ) (o k n : ℕ) → o + codeOffset + instructionWords * (k + n) ≤ length t
+    → concatMap instructionWordsOf (map (instructionAt t o) (upFrom k n)) ≡ take (instructionWords * n) (drop (o + codeOffset + instructionWords * k) t)
 unfolding concatMap instructionAt
 code-words t o k zero h = refl
 code-words t o k (suc n) h =
-    let e : o + 1 + 4 * suc k ≡ o + 1 + 4 * k + 4 = omega arith in
+    let e : o + codeOffset + instructionWords * suc k ≡ o + codeOffset + instructionWords * k + instructionWords = omega arith in
     let i = code-words t o (suc k) n (omega arith) in
-    rw (four-words t (o + 1 + 4 * k) n (omega arith), i, e)
+    rw (four-words t (o + codeOffset + instructionWords * k) n (omega arith), i, e)
 
 zeros-unused : (l : List Instruction) → every (λ (x : ℕ). eqb x 0) (concatMap instructionWordsOf l) ≡ every unused l
 unfolding concatMap
@@ -84,35 +84,35 @@ six (Goto t) = refl
 six (Ite c t f) = refl
 six Halt = refl
 
-block-list : (t : List ℕ) (o : ℕ) → o + 40 ≤ length t
-    → take 40 (drop o t)
-    ≡ getD t o 0 ∷ (take 32 (drop (o + 1) t) ++ (take 6 (drop (o + 33) t) ++ (getD t (o + 39) 0 ∷ [])))
+block-list : (t : List ℕ) (o : ℕ) → o + blockWords ≤ length t
+    → take blockWords (drop o t)
+    ≡ getD t o 0 ∷ (take codeWords (drop (o + codeOffset) t) ++ (take endingWords (drop (o + endingOffset) t) ++ (getD t (o + lastOffset) 0 ∷ [])))
 block-list t o h =
-    let a : o + 1 + 32 ≡ o + 33 = omega arith in
-    let b : o + 33 + 6 ≡ o + 39 = omega arith in
-    rw (take-word t o 39 (omega arith), take-words t (o + 1) 32 7, a, take-words t (o + 33) 6 1, b, take-word t (o + 39) 0 (omega arith))
+    let a : o + codeOffset + codeWords ≡ o + endingOffset = omega arith in
+    let b : o + endingOffset + endingWords ≡ o + lastOffset = omega arith in
+    rw (take-word t o lastOffset (omega arith), take-words t (o + codeOffset) codeWords (endingWords + 1), a, take-words t (o + endingOffset) endingWords 1, b, take-word t (o + lastOffset) 0 (omega arith))
 
 words-of : (b : Block) → blockWordsOf b ≡ b .count ∷ (concatMap instructionWordsOf (b .instructions) ++ (endingWordsOf (b .ending) ++ (0 ∷ [])))
 unfolding blockWordsOf
 words-of b = refl
 
-pub block-words : (t : List ℕ) (n : ℕ) → blockOffset n + 40 ≤ length t
-    → same (blockWordsOf (blockAt t n)) (take 40 (drop (blockOffset n) t))
-    ≡ same (endingWordsOf (endingAt t (blockOffset n + 33))) (take 6 (drop (blockOffset n + 33) t))
-    && eqb (getD t (blockOffset n + 39) 0) 0
+pub block-words : (t : List ℕ) (n : ℕ) → blockOffset n + blockWords ≤ length t
+    → same (blockWordsOf (blockAt t n)) (take blockWords (drop (blockOffset n) t))
+    ≡ same (endingWordsOf (endingAt t (blockOffset n + endingOffset))) (take endingWords (drop (blockOffset n + endingOffset) t))
+    && eqb (getD t (blockOffset n + lastOffset) 0) 0
 block-words t n h =
     let o = blockOffset n in
-    let z : o + 1 + 4 * 0 ≡ o + 1 = omega arith in
-    rw (words-of (blockAt t n), count-at t n, ending-of t n, instructions-are t n, code-words t o 0 8 (omega arith), z, block-list t o h, eq-eqb (getD t o 0) (getD t o 0) refl, same-front (take 32 (drop (o + 1) t)) (endingWordsOf (endingAt t (o + 33)) ++ (0 ∷ [])) (take 6 (drop (o + 33) t) ++ (getD t (o + 39) 0 ∷ [])), same-append (endingWordsOf (endingAt t (o + 33))) (0 ∷ []) (take 6 (drop (o + 33) t)) (getD t (o + 39) 0 ∷ []) (six (endingAt t (o + 33)) ∙ sym (length-take-le 6 (drop (o + 33) t) (rw length-drop (omega arith)))), eqb-sym 0 (getD t (o + 39) 0), and-true (eqb (getD t (o + 39) 0) 0))
+    let z : o + codeOffset + instructionWords * 0 ≡ o + codeOffset = omega arith in
+    rw (words-of (blockAt t n), count-at t n, ending-of t n, instructions-are t n, code-words t o 0 maxInstructions (omega arith), z, block-list t o h, eq-eqb (getD t o 0) (getD t o 0) refl, same-front (take codeWords (drop (o + codeOffset) t)) (endingWordsOf (endingAt t (o + endingOffset)) ++ (0 ∷ [])) (take endingWords (drop (o + endingOffset) t) ++ (getD t (o + lastOffset) 0 ∷ [])), same-append (endingWordsOf (endingAt t (o + endingOffset))) (0 ∷ []) (take endingWords (drop (o + endingOffset) t)) (getD t (o + lastOffset) 0 ∷ []) (six (endingAt t (o + endingOffset)) ∙ sym (length-take-le endingWords (drop (o + endingOffset) t) (rw length-drop (omega arith)))), eqb-sym 0 (getD t (o + lastOffset) 0), and-true (eqb (getD t (o + lastOffset) 0) 0))
 
 -- ---- an ending fits
 
-fits-ending : (b r : ℕ) (t : List ℕ) (o : ℕ) → endingFits b r t o ≡ validEnding b r (endingAt t o) && same (endingWordsOf (endingAt t o)) (take 6 (drop o t))
+fits-ending : (b r : ℕ) (t : List ℕ) (o : ℕ) → endingFits b r t o ≡ validEnding b r (endingAt t o) && same (endingWordsOf (endingAt t o)) (take endingWords (drop o t))
 unfolding endingFits
 fits-ending b r t o = refl
 
-six-words : (t : List ℕ) (o : ℕ) → o + 6 ≤ length t
-    → take 6 (drop o t)
+six-words : (t : List ℕ) (o : ℕ) → o + endingWords ≤ length t
+    → take endingWords (drop o t)
     ≡ getD t o 0 ∷ getD t (o + 1) 0 ∷ getD t (o + 2) 0 ∷ getD t (o + 3) 0 ∷ getD t (o + 4) 0 ∷ getD t (o + 5) 0 ∷ []
 six-words t o h =
     let a : o + 1 + 1 ≡ o + 2 = omega arith in
@@ -141,7 +141,7 @@ target-last false true true false v = refl
 target-last false true true true false = refl
 target-last false true true true true = refl
 
-module _ (b r : ℕ) (t : List ℕ) (o : ℕ) (l : o + 6 ≤ length t) where
+module _ (b r : ℕ) (t : List ℕ) (o : ℕ) (l : o + endingWords ≤ length t) where
   pub goto-fits : getD t o 0 ≡ 1
       → endingFits b r t o
       ≡ eqb (getD t (o + 1) 0) 0 && (eqb (getD t (o + 2) 0) 0 && (eqb (getD t (o + 3) 0) 0 && (eqb (getD t (o + 5) 0) 0 && ltb (getD t (o + 4) 0) b)))
@@ -178,7 +178,7 @@ module _ (b r : ℕ) (t : List ℕ) (o : ℕ) (l : o + 6 ≤ length t) where
 
 -- ---- a block fits
 
-fits-block : (b r : ℕ) (t : List ℕ) (n : ℕ) → blockFits b r t n ≡ validBlock b r (blockAt t n) && same (blockWordsOf (blockAt t n)) (take 40 (drop (blockOffset n) t))
+fits-block : (b r : ℕ) (t : List ℕ) (n : ℕ) → blockFits b r t n ≡ validBlock b r (blockAt t n) && same (blockWordsOf (blockAt t n)) (take blockWords (drop (blockOffset n) t))
 unfolding blockFits
 fits-block b r t n = refl
 
@@ -195,54 +195,54 @@ in-order true false ended words last = refl
 in-order false rest ended words last = refl
 
 module _ (b r : ℕ) (t : List ℕ) (n : ℕ) where
-  pub block-many : 8 < getD t (blockOffset n) 0 → blockFits b r t n ≡ false
+  pub block-many : maxInstructions < getD t (blockOffset n) 0 → blockFits b r t n ≡ false
   block-many h =
-      fits-block b r t n ∙ rw (valid-is b r (blockAt t n), count-at t n, lt-leb (getD t (blockOffset n) 0) 8 h)
+      fits-block b r t n ∙ rw (valid-is b r (blockAt t n), count-at t n, lt-leb (getD t (blockOffset n) 0) maxInstructions h)
 
-  pub block-few : blockOffset n + 40 ≤ length t → getD t (blockOffset n) 0 ≤ 8
+  pub block-few : blockOffset n + blockWords ≤ length t → getD t (blockOffset n) 0 ≤ maxInstructions
       → blockFits b r t n
       ≡ every (validInstruction r) (map (instructionAt t (blockOffset n)) (upFrom 0 (getD t (blockOffset n) 0)))
-      && (zeros t (blockOffset n + 1 + 4 * getD t (blockOffset n) 0) (4 * (8 - getD t (blockOffset n) 0))
-      && (endingFits b r t (blockOffset n + 33) && eqb (getD t (blockOffset n + 39) 0) 0))
+      && (zeros t (blockOffset n + codeOffset + instructionWords * getD t (blockOffset n) 0) (instructionWords * (maxInstructions - getD t (blockOffset n) 0))
+      && (endingFits b r t (blockOffset n + endingOffset) && eqb (getD t (blockOffset n + lastOffset) 0) 0))
   block-few l h =
       let o = blockOffset n in
       let k = getD t o 0 in
       let e : 0 + k ≡ k = omega arith in
-      let u = ap (every (λ (x : ℕ). eqb x 0)) (code-words t o k (8 - k) (omega arith)) in
+      let u = ap (every (λ (x : ℕ). eqb x 0)) (code-words t o k (maxInstructions - k) (omega arith)) in
       fits-block b r t n
-      ∙ rw (block-words t n l, valid-is b r (blockAt t n), count-at t n, instructions-are t n, le-leb k 8 h, take-map-upFrom (instructionAt t o) 0 8 k h, drop-map-upFrom (instructionAt t o) 0 8 k h, e, ← zeros-unused (map (instructionAt t o) (upFrom k (8 - k))), u, ending-of t n, fits-ending b r t (o + 33))
-      (in-order (every (validInstruction r) (map (instructionAt t o) (upFrom 0 k))) (zeros t (o + 1 + 4 * k) (4 * (8 - k))) (validEnding b r (endingAt t (o + 33))) (same (endingWordsOf (endingAt t (o + 33))) (take 6 (drop (o + 33) t))) (eqb (getD t (o + 39) 0) 0))
+      ∙ rw (block-words t n l, valid-is b r (blockAt t n), count-at t n, instructions-are t n, le-leb k maxInstructions h, take-map-upFrom (instructionAt t o) 0 maxInstructions k h, drop-map-upFrom (instructionAt t o) 0 maxInstructions k h, e, ← zeros-unused (map (instructionAt t o) (upFrom k (maxInstructions - k))), u, ending-of t n, fits-ending b r t (o + endingOffset))
+      (in-order (every (validInstruction r) (map (instructionAt t o) (upFrom 0 k))) (zeros t (o + codeOffset + instructionWords * k) (instructionWords * (maxInstructions - k))) (validEnding b r (endingAt t (o + endingOffset))) (same (endingWordsOf (endingAt t (o + endingOffset))) (take endingWords (drop (o + endingOffset) t))) (eqb (getD t (o + lastOffset) 0) 0))
 
 -- ---- all blocks, and what follows them
 
-block-length : (t : List ℕ) (n : ℕ) → length (blockWordsOf (blockAt t n)) ≡ 40
+block-length : (t : List ℕ) (n : ℕ) → length (blockWordsOf (blockAt t n)) ≡ blockWords
 unfolding blockWordsOf blockAt
-block-length t n = rw (length-append (endingWordsOf (endingAt t (blockOffset n + 33))) (0 ∷ []), six (endingAt t (blockOffset n + 33)))
+block-length t n = rw (length-append (endingWordsOf (endingAt t (blockOffset n + endingOffset))) (0 ∷ []), six (endingAt t (blockOffset n + endingOffset)))
 
 own : List ℕ → ℕ → Bool
-own t j = same (blockWordsOf (blockAt t j)) (take 40 (drop (blockOffset j) t))
+own t j = same (blockWordsOf (blockAt t j)) (take blockWords (drop (blockOffset j) t))
 
-blocks-words : (t : List ℕ) (m k n : ℕ) → 2 + 40 * (k + n) + m ≤ length t
-    → same (concatMap blockWordsOf (map (blockAt t) (upFrom k n)) ++ replicate m 0) (take (40 * n + m) (drop (2 + 40 * k) t))
-    ≡ every (own t) (upFrom k n) && zeros t (2 + 40 * (k + n)) m
+blocks-words : (t : List ℕ) (m k n : ℕ) → blockOffset (k + n) + m ≤ length t
+    → same (concatMap blockWordsOf (map (blockAt t) (upFrom k n)) ++ replicate m 0) (take (blockWords * n + m) (drop (blockOffset k) t))
+    ≡ every (own t) (upFrom k n) && zeros t (blockOffset (k + n)) m
 unfolding concatMap own
 blocks-words t m k zero h =
     let e : 0 + m ≡ m = omega arith in
-    let z : 40 * (k + 0) ≡ 40 * k = omega arith in
-    rw (e, z) (same-zeros m (take m (drop (2 + 40 * k) t)) (length-take-le m (drop (2 + 40 * k) t) (rw length-drop (omega arith))))
+    let z : blockWords * (k + 0) ≡ blockWords * k = omega arith in
+    rw (e, z) (same-zeros m (take m (drop (blockOffset k) t)) (length-take-le m (drop (blockOffset k) t) (rw length-drop (omega arith))))
 blocks-words t m k (suc n) h =
     let i = blocks-words t m (suc k) n (omega arith) in
     let w = blockWordsOf (blockAt t k) in
     let rest = concatMap blockWordsOf (map (blockAt t) (upFrom (suc k) n)) in
-    let e : 40 * suc n + m ≡ 40 + (40 * n + m) = omega arith in
-    let p : 2 + 40 * k + 40 ≡ 2 + 40 * suc k = omega arith in
-    let q : 40 * (suc k + n) ≡ 40 * (k + suc n) = omega arith in
-    let s = same-append w (rest ++ replicate m 0) (take 40 (drop (2 + 40 * k) t)) (take (40 * n + m) (drop (2 + 40 * suc k) t)) (block-length t k ∙ sym (length-take-le 40 (drop (2 + 40 * k) t) (rw length-drop (omega arith)))) in
-    rw (append-assoc w rest (replicate m 0), e, take-words t (2 + 40 * k) 40 (40 * n + m), p, s, i, q, and-assoc (same w (take 40 (drop (2 + 40 * k) t))) (every (own t) (upFrom (suc k) n)) (zeros t (2 + 40 * (k + suc n)) m))
+    let e : blockWords * suc n + m ≡ blockWords + (blockWords * n + m) = omega arith in
+    let p : blockOffset k + blockWords ≡ blockOffset (suc k) = omega arith in
+    let q : blockWords * (suc k + n) ≡ blockWords * (k + suc n) = omega arith in
+    let s = same-append w (rest ++ replicate m 0) (take blockWords (drop (blockOffset k) t)) (take (blockWords * n + m) (drop (blockOffset (suc k)) t)) (block-length t k ∙ sym (length-take-le blockWords (drop (blockOffset k) t) (rw length-drop (omega arith)))) in
+    rw (append-assoc w rest (replicate m 0), e, take-words t (blockOffset k) blockWords (blockWords * n + m), p, s, i, q, and-assoc (same w (take blockWords (drop (blockOffset k) t))) (every (own t) (upFrom (suc k) n)) (zeros t (blockOffset (k + suc n)) m))
 
 -- ---- the whole table
 
-admitted-is : (t : List ℕ) → admitted t ≡ validGraph (graphOf t) && same (tableOf (graphOf t)) (take 2562 t)
+admitted-is : (t : List ℕ) → admitted t ≡ validGraph (graphOf t) && same (tableOf (graphOf t)) (take graphWords t)
 unfolding admitted
 admitted-is t = refl
 
@@ -253,7 +253,7 @@ graph-is : (g : CFG)
 unfolding validGraph
 graph-is g = refl
 
-table-is : (g : CFG) → tableOf g ≡ length (g .blocks) ∷ g .registers ∷ padded 2560 0 (concatMap blockWordsOf (g .blocks))
+table-is : (g : CFG) → tableOf g ≡ length (g .blocks) ∷ g .registers ∷ padded allBlockWords 0 (concatMap blockWordsOf (g .blocks))
 unfolding tableOf
 table-is g = refl
 
@@ -272,7 +272,7 @@ unfolding blockFits own
 all-fit b r t l = refl
 
 -- the blocks' words, one after another
-all-length : (t : List ℕ) (k n : ℕ) → length (concatMap blockWordsOf (map (blockAt t) (upFrom k n))) ≡ 40 * n
+all-length : (t : List ℕ) (k n : ℕ) → length (concatMap blockWordsOf (map (blockAt t) (upFrom k n))) ≡ blockWords * n
 unfolding concatMap
 all-length t k zero = refl
 all-length t k (suc n) =
@@ -280,49 +280,49 @@ all-length t k (suc n) =
     rw (length-append (blockWordsOf (blockAt t k)) (concatMap blockWordsOf (map (blockAt t) (upFrom (suc k) n))), block-length t k) (omega arith)
 
 -- the table's words are those of its graph where each block's are, and the rest is 0
-table-words : (t : List ℕ) → 2562 ≤ length t → getD t 0 0 ≤ 64
-    → same (tableOf (graphOf t)) (take 2562 t)
-    ≡ every (own t) (upFrom 0 (getD t 0 0)) && zeros t (2 + 40 * getD t 0 0) (2560 - 40 * getD t 0 0)
+table-words : (t : List ℕ) → graphWords ≤ length t → getD t 0 0 ≤ maxBlocks
+    → same (tableOf (graphOf t)) (take graphWords t)
+    ≡ every (own t) (upFrom 0 (getD t 0 0)) && zeros t (blockOffset (getD t 0 0)) (allBlockWords - blockWords * getD t 0 0)
 table-words t l h =
     let b = getD t 0 0 in
     let all = concatMap blockWordsOf (map (blockAt t) (upFrom 0 b)) in
     let n = all-length t 0 b in
-    let e : 40 * b + (2560 - 40 * b) ≡ 2560 = omega arith in
+    let e : blockWords * b + (allBlockWords - blockWords * b) ≡ allBlockWords = omega arith in
     let z : 0 + b ≡ b = omega arith in
-    let w = blocks-words t (2560 - 40 * b) 0 b (omega arith) in
-    let two = take-word t 0 2561 (omega arith) ∙ ap (λ (x : List ℕ). b ∷ x) (take-word t 1 2560 (omega arith)) in
-    by-rest 2560 b (getD t 1 0) (length (graphOf t .blocks)) (graphOf t .registers) all (concatMap blockWordsOf (graphOf t .blocks)) (take 2560 (drop 2 t)) (tableOf (graphOf t)) (take 2562 t) (table-is (graphOf t)) (blocks-length t) (registers-are t) (ap (concatMap blockWordsOf) (blocks-are t)) two (omega arith)
-    ∙ ap (λ (k : ℕ). same (all ++ replicate (2560 - k) 0) (take 2560 (drop 2 t))) n
+    let w = blocks-words t (allBlockWords - blockWords * b) 0 b (omega arith) in
+    let two = take-word t 0 (suc allBlockWords) (omega arith) ∙ ap (λ (x : List ℕ). b ∷ x) (take-word t 1 allBlockWords (omega arith)) in
+    by-rest allBlockWords b (getD t 1 0) (length (graphOf t .blocks)) (graphOf t .registers) all (concatMap blockWordsOf (graphOf t .blocks)) (take allBlockWords (drop headWords t)) (tableOf (graphOf t)) (take graphWords t) (table-is (graphOf t)) (blocks-length t) (registers-are t) (ap (concatMap blockWordsOf) (blocks-are t)) two (omega arith)
+    ∙ ap (λ (k : ℕ). same (all ++ replicate (allBlockWords - k) 0) (take allBlockWords (drop headWords t))) n
     ∙ (rw (e, z) at w)
 
 module _ (t : List ℕ) where
   by-head : admitted t
       ≡ leb 1 (getD t 0 0) && leb (getD t 0 0) maxBlocks && leb 1 (getD t 1 0) && leb (getD t 1 0) maxRegisters
       && every (validBlock (getD t 0 0) (getD t 1 0)) (map (blockAt t) (upFrom 0 (getD t 0 0)))
-      && same (tableOf (graphOf t)) (take 2562 t)
+      && same (tableOf (graphOf t)) (take graphWords t)
   by-head = rw (admitted-is t, graph-is (graphOf t), blocks-length t, registers-are t, blocks-are t)
 
   pub no-block : getD t 0 0 < 1 → admitted t ≡ false
   no-block h = rw (by-head, lt-leb 1 (getD t 0 0) h)
 
-  pub many-blocks : 1 ≤ getD t 0 0 → 64 < getD t 0 0 → admitted t ≡ false
-  many-blocks h₁ h = rw (by-head, le-leb 1 (getD t 0 0) h₁, lt-leb (getD t 0 0) 64 h)
+  pub many-blocks : 1 ≤ getD t 0 0 → maxBlocks < getD t 0 0 → admitted t ≡ false
+  many-blocks h₁ h = rw (by-head, le-leb 1 (getD t 0 0) h₁, lt-leb (getD t 0 0) maxBlocks h)
 
-  pub no-register : 1 ≤ getD t 0 0 → getD t 0 0 ≤ 64 → getD t 1 0 < 1 → admitted t ≡ false
-  no-register h₁ h₂ h = rw (by-head, le-leb 1 (getD t 0 0) h₁, le-leb (getD t 0 0) 64 h₂, lt-leb 1 (getD t 1 0) h)
+  pub no-register : 1 ≤ getD t 0 0 → getD t 0 0 ≤ maxBlocks → getD t 1 0 < 1 → admitted t ≡ false
+  no-register h₁ h₂ h = rw (by-head, le-leb 1 (getD t 0 0) h₁, le-leb (getD t 0 0) maxBlocks h₂, lt-leb 1 (getD t 1 0) h)
 
-  pub many-registers : 1 ≤ getD t 0 0 → getD t 0 0 ≤ 64 → 1 ≤ getD t 1 0 → 16 < getD t 1 0 → admitted t ≡ false
-  many-registers h₁ h₂ h₃ h = rw (by-head, le-leb 1 (getD t 0 0) h₁, le-leb (getD t 0 0) 64 h₂, le-leb 1 (getD t 1 0) h₃, lt-leb (getD t 1 0) 16 h)
+  pub many-registers : 1 ≤ getD t 0 0 → getD t 0 0 ≤ maxBlocks → 1 ≤ getD t 1 0 → maxRegisters < getD t 1 0 → admitted t ≡ false
+  many-registers h₁ h₂ h₃ h = rw (by-head, le-leb 1 (getD t 0 0) h₁, le-leb (getD t 0 0) maxBlocks h₂, le-leb 1 (getD t 1 0) h₃, lt-leb (getD t 1 0) maxRegisters h)
 
-  pub by-blocks : 2562 ≤ length t → 1 ≤ getD t 0 0 → getD t 0 0 ≤ 64 → 1 ≤ getD t 1 0 → getD t 1 0 ≤ 16
+  pub by-blocks : graphWords ≤ length t → 1 ≤ getD t 0 0 → getD t 0 0 ≤ maxBlocks → 1 ≤ getD t 1 0 → getD t 1 0 ≤ maxRegisters
       → admitted t
-      ≡ every (blockFits (getD t 0 0) (getD t 1 0) t) (upFrom 0 (getD t 0 0)) && zeros t (2 + 40 * getD t 0 0) (2560 - 40 * getD t 0 0)
+      ≡ every (blockFits (getD t 0 0) (getD t 1 0) t) (upFrom 0 (getD t 0 0)) && zeros t (blockOffset (getD t 0 0)) (allBlockWords - blockWords * getD t 0 0)
   by-blocks l h₁ h₂ h₃ h₄ =
       let b = getD t 0 0 in
       let r = getD t 1 0 in
       let valid : ℕ → Bool = λ j. validBlock b r (blockAt t j) in
       by-head
-      ∙ rw (le-leb 1 b h₁, le-leb b 64 h₂, le-leb 1 r h₃, le-leb r 16 h₄, table-words t l h₂, every-map (blockAt t) (validBlock b r) (upFrom 0 b), ← and-assoc (every valid (upFrom 0 b)) (every (own t) (upFrom 0 b)) (zeros t (2 + 40 * b) (2560 - 40 * b)), every-and valid (own t) (upFrom 0 b), all-fit b r t (upFrom 0 b))
+      ∙ rw (le-leb 1 b h₁, le-leb b maxBlocks h₂, le-leb 1 r h₃, le-leb r maxRegisters h₄, table-words t l h₂, every-map (blockAt t) (validBlock b r) (upFrom 0 b), ← and-assoc (every valid (upFrom 0 b)) (every (own t) (upFrom 0 b)) (zeros t (blockOffset b) (allBlockWords - blockWords * b)), every-and valid (own t) (upFrom 0 b), all-fit b r t (upFrom 0 b))
 
 -- ---- the comparisons' codes are 12 to 17
 

@@ -18,21 +18,33 @@ headWords = 2
 abbrev pub instructionWords : ℕ
 instructionWords = 4
 
+-- the words of a block's eight instructions
+abbrev pub codeWords : ℕ
+codeWords = maxInstructions * instructionWords
+
 abbrev pub endingWords : ℕ
 endingWords = 6
 
-abbrev pub blockWords : ℕ
-blockWords = 40
-
--- where a block's first instruction and its ending stand, from the block's first word
+-- where a block's first instruction, its ending and its last word, always 0, stand from the block's first word: 1, 33 and 39
 abbrev pub codeOffset : ℕ
 codeOffset = 1
 
 abbrev pub endingOffset : ℕ
-endingOffset = 33
+endingOffset = codeOffset + codeWords
 
+abbrev pub lastOffset : ℕ
+lastOffset = endingOffset + endingWords
+
+-- "40 words a block"
+abbrev pub blockWords : ℕ
+blockWords = lastOffset + 1
+
+abbrev pub allBlockWords : ℕ
+allBlockWords = maxBlocks * blockWords
+
+-- "Graph table, 2,562 words"
 abbrev pub graphWords : ℕ
-graphWords = 2562
+graphWords = headWords + allBlockWords
 
 -- where block n begins
 abbrev pub blockOffset : ℕ → ℕ

@@ -13,7 +13,7 @@ use Rattle.cfg.specs.declared.Condition.{Condition}
 use Rattle.cfg.specs.declared.Ending.{Ending}
 use Rattle.cfg.specs.declared.Ending.the-variants.{Goto, Ite, Halt}
 use Rattle.cfg.specs.declared.Block.{Block}
-use Rattle.cfg.specs.Layout.{maxInstructions, headWords, instructionWords, codeOffset, endingOffset, graphWords, blockOffset}
+use Rattle.cfg.specs.Layout.{maxInstructions, instructionWords, codeOffset, endingOffset, allBlockWords, graphWords, blockOffset}
 use Rattle.cfg.specs.Graph.{CFG, validGraph}
 
 -- ---- words of a graph
@@ -34,7 +34,7 @@ blockWordsOf b = b .count ∷ (concatMap instructionWordsOf (b .instructions) ++
 
 unfoldable pub tableOf : CFG → List ℕ
 unfolding concatMap blockWordsOf
-tableOf g = length (g .blocks) ∷ g .registers ∷ padded (graphWords - headWords) 0 (concatMap blockWordsOf (g .blocks))
+tableOf g = length (g .blocks) ∷ g .registers ∷ padded allBlockWords 0 (concatMap blockWordsOf (g .blocks))
 
 -- ---- the graph of a table; what a word that no graph has stands for is of no matter
 

@@ -21,7 +21,7 @@ impl Graph {
     // Words of the head, and of the whole table.
     pub const HEAD: usize = 2;
 
-    pub const WORDS: usize = 2562;
+    pub const WORDS: usize = Graph::HEAD + Graph::BLOCKS * Block::WORDS;
 }
 
 // Code, written register, first and second operand; of a set the first operand is the literal.
@@ -63,23 +63,27 @@ pub enum Ending {
     Halt,
 }
 
+impl Ending {
+    pub const WORDS: usize = 6;
+}
+
 // The first `count` instructions are the block's.
 pub struct Block {
     pub count: u32,
-    pub instructions: [Instruction; 8],
+    pub instructions: [Instruction; Block::INSTRUCTIONS],
     pub ending: Ending,
 }
 
 impl Block {
     pub const INSTRUCTIONS: usize = 8;
-    // Words of a block, and where in them its first instruction and its ending begin and the last, always 0, stands.
-    pub const WORDS: usize = 40;
-
+    // Where in a block's words its first instruction and its ending begin and the last, always 0, stands, and how many there are.
     pub const CODE: usize = 1;
 
-    pub const ENDING: usize = 33;
+    pub const ENDING: usize = Block::CODE + Block::INSTRUCTIONS * Instruction::WORDS;
 
-    pub const LAST: usize = 39;
+    pub const LAST: usize = Block::ENDING + Ending::WORDS;
+
+    pub const WORDS: usize = Block::LAST + 1;
 
     // No instruction, and a halt.
     pub fn empty() -> Block
@@ -87,7 +91,7 @@ impl Block {
     {
         Block {
             count: 0,
-            instructions: [Instruction::none(); 8],
+            instructions: [Instruction::none(); Block::INSTRUCTIONS],
             ending: Ending::Halt,
         }
     }

@@ -9,7 +9,7 @@ use lib.Seq.{sets}
 use lib.Dec.{eqb}
 use borrow.Author.Tests.{eqb-true, eq-eqb}
 use Rattle.runs.specs.Lists.{every, padded, concatMap}
-use Rattle.cfg.specs.Layout.{maxInstructions, graphWords, blockOffset, codeOffset, endingOffset, instructionWords}
+use Rattle.cfg.specs.Layout.{maxInstructions, instructionWords, codeWords, endingWords, codeOffset, endingOffset, blockWords, allBlockWords, graphWords, blockOffset}
 use Rattle.cfg.specs.Graph.{CFG, noInstruction}
 use Rattle.cfg.specs.Table.{instructionWordsOf, endingWordsOf, blockWordsOf, tableOf}
 use Rattle.cfg.specs.declared.Instruction.{Instruction}
@@ -23,27 +23,27 @@ use Rattle.cfg_text.proofs.Padding.{padded-more, padded-none, padded-lo
 
 -- ---- how many words
 
-pub code-length : (is : List Instruction) → length (concatMap instructionWordsOf is) ≡ 4 * length is
+pub code-length : (is : List Instruction) → length (concatMap instructionWordsOf is) ≡ instructionWords * length is
 unfolding concatMap
 code-length [] = refl
 code-length (i ∷ is) =
     let h = code-length is in
     omega arith
 
-ending-length : (e : Ending) → length (endingWordsOf e) ≡ 6
+ending-length : (e : Ending) → length (endingWordsOf e) ≡ endingWords
 ending-length (ending.Goto t) = refl
 ending-length (ending.Ite c t f) = refl
 ending-length ending.Halt = refl
 
-block-length : (k : Block) → sized k ≡ true → length (blockWordsOf k) ≡ 40
+block-length : (k : Block) → sized k ≡ true → length (blockWordsOf k) ≡ blockWords
 unfolding blockWordsOf
 block-length k h =
-    let n = eqb-true (length (k .instructions)) 8 h in
+    let n = eqb-true (length (k .instructions)) maxInstructions h in
     let c = code-length (k .instructions) in
     let e = ending-length (k .ending) in
     simp length-append (omega arith)
 
-pub blocks-length : (bs : List Block) → every sized bs ≡ true → length (concatMap blockWordsOf bs) ≡ 40 * length bs
+pub blocks-length : (bs : List Block) → every sized bs ≡ true → length (concatMap blockWordsOf bs) ≡ blockWords * length bs
 unfolding concatMap
 blocks-length [] h = refl
 blocks-length (k ∷ bs) h =
@@ -66,11 +66,11 @@ code-padded (suc n) (i ∷ is) = ap (λ (l : List ℕ). i .code ∷ i .d ∷ i .
 
 pub code-eight :
     (is : List Instruction) → length is ≤ maxInstructions
-    → concatMap instructionWordsOf (padded maxInstructions noInstruction is) ≡ concatMap instructionWordsOf is ++ replicate (32 - 4 * length is) 0
+    → concatMap instructionWordsOf (padded maxInstructions noInstruction is) ≡ concatMap instructionWordsOf is ++ replicate (codeWords - instructionWords * length is) 0
 unfolding times4
 code-eight is h =
     let n = code-length is in
-    sym (code-padded 8 is) ∙ padded-long 0 32 (concatMap instructionWordsOf is) (omega arith) ∙ rw n
+    sym (code-padded maxInstructions is) ∙ padded-long 0 codeWords (concatMap instructionWordsOf is) (omega arith) ∙ rw n
 
 -- ---- what each line stores
 
@@ -108,7 +108,7 @@ module _ (b r : ℕ) (bs : List Block) (whole : every sized bs ≡ true) where
 
   -- the count, and the instructions filled up with zeros
   counted : List Instruction → List ℕ
-  counted is = b ∷ r ∷ (concatMap blockWordsOf bs ++ (length is ∷ (concatMap instructionWordsOf is ++ replicate (32 - 4 * length is) 0)))
+  counted is = b ∷ r ∷ (concatMap blockWordsOf bs ++ (length is ∷ (concatMap instructionWordsOf is ++ replicate (codeWords - instructionWords * length is) 0)))
 
   counted-length : (is : List Instruction) → length is ≤ maxInstructions → length (counted is) ≡ blockOffset (length bs) + endingOffset
   unfolding counted
@@ -122,10 +122,10 @@ module _ (b r : ℕ) (bs : List Block) (whole : every sized bs ≡ true) where
   counted-words is =
       let x = b ∷ r ∷ concatMap blockWordsOf bs in
       let c = concatMap instructionWordsOf is in
-      let z : List ℕ = replicate (32 - 4 * length is) 0 in
+      let z : List ℕ = replicate (codeWords - instructionWords * length is) 0 in
       ap (λ (n : ℕ). set (filled (inside b r bs is)) n (length is)) (sym behind-blocks)
       ∙ set-at 0 graphWords x 0 c (length is)
-      ∙ sym (padded-more 0 graphWords (32 - 4 * length is) (x ++ (length is ∷ c)))
+      ∙ sym (padded-more 0 graphWords (codeWords - instructionWords * length is) (x ++ (length is ∷ c)))
       ∙ ap (padded graphWords 0) (append-assoc x (length is ∷ c) z)
 
   closed-written : (is : List Instruction) (e : Ending) → length is ≤ maxInstructions
@@ -133,7 +133,7 @@ module _ (b r : ℕ) (bs : List Block) (whole : every sized bs ≡ true) where
   unfolding written counted blockWordsOf
   closed-written is e few =
       let w = concatMap blockWordsOf bs in
-      let c = concatMap instructionWordsOf is ++ replicate (32 - 4 * length is) 0 in
+      let c = concatMap instructionWordsOf is ++ replicate (codeWords - instructionWords * length is) 0 in
       append-assoc (counted is) (endingWordsOf e) (0 ∷ [])
       ∙ ap (λ (l : List ℕ). b ∷ r ∷ l) (append-assoc w (length is ∷ c) (endingWordsOf e ++ (0 ∷ [])))
       ∙ ap (λ (l : List ℕ). b ∷ r ∷ (w ++ (length is ∷ (l ++ (endingWordsOf e ++ (0 ∷ [])))))) (sym (code-eight is few))
@@ -151,7 +151,7 @@ module _ (b r : ℕ) (bs : List Block) (whole : every sized bs ≡ true) where
 
   pub table-words : length bs ≡ b → filled (between b r bs) ≡ tableOf (record { registers = r; blocks = bs })
   unfolding filled written tableOf
-  table-words e = ap (λ (n : ℕ). n ∷ r ∷ padded 2560 0 (concatMap blockWordsOf bs)) (sym e)
+  table-words e = ap (λ (n : ℕ). n ∷ r ∷ padded allBlockWords 0 (concatMap blockWordsOf bs)) (sym e)
 
 pub graph-words : (b r : ℕ) → set (set (filled start) 0 b) 1 r ≡ filled (between b r [])
 unfolding filled written concatMap

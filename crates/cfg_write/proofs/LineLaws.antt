@@ -109,7 +109,7 @@ fields-read (line.Graph b r) h =
     let q = h .fewRegisters in
     number-is (λ b. number (λ r. end (graphLine b r))) b (decimalOf r ∷ []) (omega arith)
     ∙ (number-is (λ r. end (graphLine b r)) r [] (omega arith)
-    ∙ rw (le-leb 1 b (h .someBlock), le-leb b 64 p, le-leb 1 r (h .someRegister), le-leb r 16 q))
+    ∙ rw (le-leb 1 b (h .someBlock), le-leb b maxBlocks p, le-leb 1 r (h .someRegister), le-leb r maxRegisters q))
 fields-read (line.Block n) h = number-is (λ n. end (line.Block n)) n [] h
 fields-read (line.Instruction i) h = instruction-read i h
 fields-read (line.Goto t) h = number-is (λ n. end (line.Goto n)) t [] h

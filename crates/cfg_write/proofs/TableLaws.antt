@@ -8,7 +8,7 @@ use lib.ListN.{length, getD, replicate, length-append}
 use lib.Seq.{getD-append-add}
 use Rattle.runs.specs.Lists.{upFrom, every, padded, concatMap}
 use Rattle.runs.proofs.ListLaws.{and-left, and-right, length-padded, padded-append}
-use Rattle.cfg.specs.Layout.{maxBlocks, maxInstructions, headWords, graphWords, blockOffset}
+use Rattle.cfg.specs.Layout.{maxBlocks, maxInstructions, instructionWords, endingWords, codeOffset, endingOffset, blockWords, allBlockWords, graphWords, blockOffset}
 use Rattle.cfg.specs.Graph.{CFG}
 use Rattle.cfg.specs.Table.{instructionWordsOf, endingWordsOf, blockWordsOf, tableOf, instructionAt, endingAt, blockAt, graphOf}
 use Rattle.cfg.specs.declared.Instruction.{Instruction}
@@ -33,8 +33,8 @@ module _ (front xs : List ℕ) (p : ℕ) (e : length front ≡ p) where
   instruction-behind : (i : ℕ) → instructionAt (front ++ xs) p i ≡ instructionAt xs 0 i
   unfolding instructionAt
   instruction-behind i =
-      let n = 0 + 1 + 4 * i in
-      rw (word-behind n (p + 1 + 4 * i) (omega arith), word-behind (n + 1) (p + 1 + 4 * i + 1) (omega arith), word-behind (n + 2) (p + 1 + 4 * i + 2) (omega arith), word-behind (n + 3) (p + 1 + 4 * i + 3) (omega arith))
+      let n = 0 + codeOffset + instructionWords * i in
+      rw (word-behind n (p + codeOffset + instructionWords * i) (omega arith), word-behind (n + 1) (p + codeOffset + instructionWords * i + 1) (omega arith), word-behind (n + 2) (p + codeOffset + instructionWords * i + 2) (omega arith), word-behind (n + 3) (p + codeOffset + instructionWords * i + 3) (omega arith))
 
 -- ---- one block's words
 
@@ -43,11 +43,11 @@ block n is e = record { count = n; instructions = is; ending = e }
 
 block-behind :
     (front xs : List ℕ) (n : ℕ) → length front ≡ blockOffset n
-    → blockAt (front ++ xs) n ≡ block (getD xs 0 0) (map (instructionAt xs 0) (upFrom 0 maxInstructions)) (endingAt xs 33)
+    → blockAt (front ++ xs) n ≡ block (getD xs 0 0) (map (instructionAt xs 0) (upFrom 0 maxInstructions)) (endingAt xs endingOffset)
 unfolding blockAt
 block-behind front xs n e =
     let i = instruction-behind front xs (blockOffset n) e in
-    rw (word-behind front xs (blockOffset n) e 0 (blockOffset n) (omega arith), ending-behind front xs (blockOffset n) e 33, i 0, i 1, i 2, i 3, i 4, i 5, i 6, i 7)
+    rw (word-behind front xs (blockOffset n) e 0 (blockOffset n) (omega arith), ending-behind front xs (blockOffset n) e endingOffset, i 0, i 1, i 2, i 3, i 4, i 5, i 6, i 7)
 
 ending-words : (e : Ending) (s : List ℕ) → endingAt (endingWordsOf e ++ s) 0 ≡ e
 unfolding endingAt
@@ -55,7 +55,7 @@ ending-words (Goto t) s = refl
 ending-words (Ite c t f) s = rw (comparison-back (c .comparison))
 ending-words Halt s = refl
 
-code-words : (c : ℕ) (is : List Instruction) (s : List ℕ) → length is ≡ 8 → map (instructionAt (c ∷ (concatMap instructionWordsOf is ++ s)) 0) (upFrom 0 8) ≡ is
+code-words : (c : ℕ) (is : List Instruction) (s : List ℕ) → length is ≡ maxInstructions → map (instructionAt (c ∷ (concatMap instructionWordsOf is ++ s)) 0) (upFrom 0 maxInstructions) ≡ is
 unfolding instructionAt concatMap
 code-words c [] s h = absurd (omega arith)
 code-words c (i ∷ []) s h = absurd (omega arith)
@@ -68,7 +68,7 @@ code-words c (i ∷ j ∷ k ∷ l ∷ m ∷ n ∷ o ∷ []) s h = absurd (omega 
 code-words c (i ∷ j ∷ k ∷ l ∷ m ∷ n ∷ o ∷ p ∷ []) s h = refl
 code-words c (i ∷ j ∷ k ∷ l ∷ m ∷ n ∷ o ∷ p ∷ q ∷ is) s h = absurd (omega arith)
 
-code-length : (is : List Instruction) → length (concatMap instructionWordsOf is) ≡ 4 * length is
+code-length : (is : List Instruction) → length (concatMap instructionWordsOf is) ≡ instructionWords * length is
 unfolding concatMap
 code-length [] = refl
 code-length (i ∷ is) =
@@ -76,13 +76,13 @@ code-length (i ∷ is) =
     let f = length-append (instructionWordsOf i) (concatMap instructionWordsOf is) in
     omega arith
 
-six : (e : Ending) → length (endingWordsOf e) ≡ 6
+six : (e : Ending) → length (endingWordsOf e) ≡ endingWords
 six (Goto t) = refl
 six (Ite c t f) = refl
 six Halt = refl
 
-module _ (k : Block) (eight : length (k .instructions) ≡ 8) where
-  block-length : length (blockWordsOf k) ≡ 40
+module _ (k : Block) (eight : length (k .instructions) ≡ maxInstructions) where
+  block-length : length (blockWordsOf k) ≡ blockWords
   unfolding blockWordsOf
   block-length =
       let a = code-length (k .instructions) in
@@ -101,12 +101,12 @@ module _ (k : Block) (eight : length (k .instructions) ≡ 8) where
 
   block-read :
       (s : List ℕ)
-      → block (getD (blockWordsOf k ++ s) 0 0) (map (instructionAt (blockWordsOf k ++ s) 0) (upFrom 0 8)) (endingAt (blockWordsOf k ++ s) 33) ≡ k
+      → block (getD (blockWordsOf k ++ s) 0 0) (map (instructionAt (blockWordsOf k ++ s) 0) (upFrom 0 maxInstructions)) (endingAt (blockWordsOf k ++ s) endingOffset) ≡ k
   block-read s =
       let first = k .count ∷ concatMap instructionWordsOf (k .instructions) in
-      let n : length first ≡ 33 = let a = code-length (k .instructions) in omega arith in
+      let n : length first ≡ endingOffset = let a = code-length (k .instructions) in omega arith in
       let behind = endingWordsOf (k .ending) ++ (0 ∷ s) in
-      let e = ending-behind first behind 33 n 0 ∙ ending-words (k .ending) (0 ∷ s) in
+      let e = ending-behind first behind endingOffset n 0 ∙ ending-words (k .ending) (0 ∷ s) in
       let i = code-words (k .count) (k .instructions) behind eight in
       rw (block-words s) (ap₂ (λ (is : List Instruction) (e : Ending). block (k .count) is e) i e)
 
@@ -127,7 +127,7 @@ blocks-read (k ∷ bs) n front s e p =
     let h = block-behind front (blockWordsOf k ++ (rest ++ s)) n e ∙ block-read k eight (rest ++ s) in
     rw (append-assoc (blockWordsOf k) rest s) (ap₂ (λ (b : Block) (l : List Block). b ∷ l) h (rw t at i))
 
-blocks-length : (bs : List Block) → every proper bs ≡ true → length (concatMap blockWordsOf bs) ≡ 40 * length bs
+blocks-length : (bs : List Block) → every proper bs ≡ true → length (concatMap blockWordsOf bs) ≡ blockWords * length bs
 unfolding concatMap
 blocks-length [] p = refl
 blocks-length (k ∷ bs) p =
@@ -156,15 +156,15 @@ graph-padded m t g s e l p =
     (rw (e, padded-append m 0 w l, append-assoc w (replicate (m - length w) 0) s))
     p
 
-table-is : (g : CFG) → tableOf g ≡ length (g .blocks) ∷ g .registers ∷ padded 2560 0 (concatMap blockWordsOf (g .blocks))
+table-is : (g : CFG) → tableOf g ≡ length (g .blocks) ∷ g .registers ∷ padded allBlockWords 0 (concatMap blockWordsOf (g .blocks))
 unfolding tableOf
 table-is g = refl
 
 pub table-read : (g : CFG) (s : List ℕ) → every proper (g .blocks) ≡ true → length (g .blocks) ≤ maxBlocks → graphOf (tableOf g ++ s) ≡ g
 table-read g s p l =
     let n = blocks-length (g .blocks) p in
-    graph-padded 2560 (tableOf g) g s (table-is g) (omega arith) p
+    graph-padded allBlockWords (tableOf g) g s (table-is g) (omega arith) p
 
 pub table-length : (g : CFG) → length (tableOf g) ≡ graphWords
 unfolding tableOf
-table-length g = ap (λ (n : ℕ). suc (suc n)) (length-padded {A = ℕ} (graphWords - headWords) 0 (concatMap blockWordsOf (g .blocks)))
+table-length g = ap (λ (n : ℕ). suc (suc n)) (length-padded {A = ℕ} allBlockWords 0 (concatMap blockWordsOf (g .blocks)))

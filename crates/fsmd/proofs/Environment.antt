@@ -12,7 +12,7 @@ use Rattle.word.specs.Word.{choose, evalOf, arity}
 use Rattle.word.proofs.WireLaws.{eval-uses}
 use Rattle.runs.proofs.ListLaws.{and-left, and-right}
 use Rattle.runs.specs.Runs.{Place, Configuration}
-use Rattle.fsmd.specs.Layout.{recordOffset}
+use Rattle.fsmd.specs.Layout.{maxRegisters, recordOffset, nextStateOffset, nextRegistersOffset, roomWords}
 use Rattle.fsmd.specs.Machine.{wireValue, worked, toState, clock}
 use Rattle.fsmd.specs.Table.{wireAt, stateAt, machineOf, firstWireAt, wireCountAt, validReference, validWire}
 use Rattle.fsmd.specs.declared.Wire.{Wire}
@@ -35,30 +35,30 @@ module _ (at : ℕ → ℕ) (w : Wire) where
       sym (ap (λ (z : ℕ). evalOf (w .code) z (at (w .b)) (at (w .c))) first)
 
 -- a valid reference is one of the words so far
-reference-below : (r n x : ℕ) → r ≤ 16 → validReference r n x ≡ true → x < 16 + n
+reference-below : (r n x : ℕ) → r ≤ maxRegisters → validReference r n x ≡ true → x < maxRegisters + n
 reference-below r n x h e = go (ltb x r) refl e
   where
-    go : (b : Bool) → ltb x r ≡ b → (b || (leb 16 x && ltb x (16 + n))) ≡ true → x < 16 + n
+    go : (b : Bool) → ltb x r ≡ b → (b || (leb maxRegisters x && ltb x (maxRegisters + n))) ≡ true → x < maxRegisters + n
     go true q p = let l = ltb-true x r q in omega arith
-    go false q p = ltb-true x (16 + n) (and-right (leb 16 x) (ltb x (16 + n)) p)
+    go false q p = ltb-true x (maxRegisters + n) (and-right (leb maxRegisters x) (ltb x (maxRegisters + n)) p)
 
 -- what a valid wire reads is among the words so far, and the rest of the room does not matter
-module _ (l : List ℕ) (r n : ℕ) (w : Wire) (few : r ≤ 16) (fits : 16 + n ≤ 4096) (valid : validWire r n w ≡ true) where
-  reads-same : (x : ℕ) → validReference r n x ≡ true → getD l (x % 4096) 0 ≡ getD (take (16 + n) l) x 0
+module _ (l : List ℕ) (r n : ℕ) (w : Wire) (few : r ≤ maxRegisters) (fits : maxRegisters + n ≤ roomWords) (valid : validWire r n w ≡ true) where
+  reads-same : (x : ℕ) → validReference r n x ≡ true → getD l (x % roomWords) 0 ≡ getD (take (maxRegisters + n) l) x 0
   reads-same x e =
       let h = reference-below r n x few e in
-      let m : x % 4096 ≡ x = omega arith in
-      ap (λ (i : ℕ). getD l i 0) m ∙ sym (getD-take (16 + n) l x 0 h)
+      let m : x % roomWords ≡ x = omega arith in
+      ap (λ (i : ℕ). getD l i 0) m ∙ sym (getD-take (maxRegisters + n) l x 0 h)
 
-  operand-same : (b : Bool) (x : ℕ) → (b || validReference r n x) ≡ true → (b ≡ true → ⊥) → getD l (x % 4096) 0 ≡ getD (take (16 + n) l) x 0
+  operand-same : (b : Bool) (x : ℕ) → (b || validReference r n x) ≡ true → (b ≡ true → ⊥) → getD l (x % roomWords) 0 ≡ getD (take (maxRegisters + n) l) x 0
   operand-same true x e h = absurd (h refl)
   operand-same false x e h = reads-same x e
 
-  first-same : (b : Bool) → (b || validReference r n (w .a)) ≡ true → choose b (w .a) (getD l (w .a % 4096) 0) ≡ choose b (w .a) (getD (take (16 + n) l) (w .a) 0)
+  first-same : (b : Bool) → (b || validReference r n (w .a)) ≡ true → choose b (w .a) (getD l (w .a % roomWords) 0) ≡ choose b (w .a) (getD (take (maxRegisters + n) l) (w .a) 0)
   first-same true e = refl
   first-same false e = reads-same (w .a) e
 
-  pub value-within : wireValue (λ x. getD l (x % 4096) 0) w ≡ wireValue (λ x. getD (take (16 + n) l) x 0) w
+  pub value-within : wireValue (λ x. getD l (x % roomWords) 0) w ≡ wireValue (λ x. getD (take (maxRegisters + n) l) x 0) w
   unfolding wireValue validWire
   value-within =
       let k = w .code in
@@ -68,23 +68,23 @@ module _ (l : List ℕ) (r n : ℕ) (w : Wire) (few : r ≤ 16) (fits : 16 + n �
       let c = ltb (arity k) 3 || validReference r n (w .c) in
       let e3 = and-left (p && a && b) c valid in
       let e2 = and-left (p && a) b e3 in
-      let f : ℕ → ℕ = λ x. getD l (x % 4096) 0 in
-      let g : ℕ → ℕ = λ x. getD (take (16 + n) l) x 0 in
+      let f : ℕ → ℕ = λ x. getD l (x % roomWords) 0 in
+      let g : ℕ → ℕ = λ x. getD (take (maxRegisters + n) l) x 0 in
       eval-uses (choose (eqb k 1) (w .a) (f (w .a))) (f (w .b)) (f (w .c)) (choose (eqb k 1) (w .a) (g (w .a))) (g (w .b)) (g (w .c)) k
       (λ h. first-same (eqb k 1) (and-right p a e2))
       (λ h. operand-same (ltb (arity k) 2) (w .b) (and-right (p && a) b e3) (λ q. let z = ltb-true (arity k) 2 q in omega arith))
       (λ h. operand-same (ltb (arity k) 3) (w .c) (and-right (p && a && b) c valid) (λ q. let z = ltb-true (arity k) 3 q in omega arith))
 
 -- wire n of those from `first` on is worked out, after the words before it
-pub work-next : (t : List ℕ) (first count n : ℕ) (l : List ℕ) (v : ℕ) → n < count → 16 + n < length l
-    → v ≡ wireValue (λ x. getD (take (16 + n) l) x 0) (wireAt t (first + n))
-    → worked (take (16 + n) l) (drop n (wiresFrom t first count)) ≡ worked (take (16 + (n + 1)) (set l (16 + n) v)) (drop (n + 1) (wiresFrom t first count))
+pub work-next : (t : List ℕ) (first count n : ℕ) (l : List ℕ) (v : ℕ) → n < count → maxRegisters + n < length l
+    → v ≡ wireValue (λ x. getD (take (maxRegisters + n) l) x 0) (wireAt t (first + n))
+    → worked (take (maxRegisters + n) l) (drop n (wiresFrom t first count)) ≡ worked (take (maxRegisters + (n + 1)) (set l (maxRegisters + n) v)) (drop (n + 1) (wiresFrom t first count))
 unfolding worked
 work-next t first count n l v h k e =
-    let i : 16 + (n + 1) ≡ suc (16 + n) = omega arith in
-    let s : take (16 + (n + 1)) (set l (16 + n) v) ≡ take (16 + n) l ++ (v ∷ []) = ap (λ (j : ℕ). take j (set l (16 + n) v)) i ∙ take-suc-set l (16 + n) v k in
-    ap (worked (take (16 + n) l)) (wires-next t first count n h)
-    ∙ ap (λ (x : ℕ). worked (take (16 + n) l ++ (x ∷ [])) (drop (n + 1) (wiresFrom t first count))) (sym e)
+    let i : maxRegisters + (n + 1) ≡ suc (maxRegisters + n) = omega arith in
+    let s : take (maxRegisters + (n + 1)) (set l (maxRegisters + n) v) ≡ take (maxRegisters + n) l ++ (v ∷ []) = ap (λ (j : ℕ). take j (set l (maxRegisters + n) v)) i ∙ take-suc-set l (maxRegisters + n) v k in
+    ap (worked (take (maxRegisters + n) l)) (wires-next t first count n h)
+    ∙ ap (λ (x : ℕ). worked (take (maxRegisters + n) l ++ (x ∷ [])) (drop (n + 1) (wiresFrom t first count))) (sym e)
     ∙ ap (λ (m : List ℕ). worked m (drop (n + 1) (wiresFrom t first count))) (sym s)
 
 pub work-done : (t : List ℕ) (first count n : ℕ) (l : List ℕ) → count ≤ n → worked l (drop n (wiresFrom t first count)) ≡ l
@@ -96,13 +96,13 @@ work-done t first count n l h = rw (wires-end t first count n h)
 pub clocked : (t : List ℕ) (k first count at r : ℕ) → first ≡ firstWireAt t k → count ≡ wireCountAt t k → at ≡ recordOffset k → r ≡ getD t 1 0
     → (rs env next : List ℕ) (state : ℕ)
     → env ≡ worked rs (wiresFrom t first count)
-    → state ≡ getD env (getD t (at + 2) 0) 0
-    → next ≡ map (λ x. getD env x 0) (take r (drop (at + 3) t)) ++ drop r rs
+    → state ≡ getD env (getD t (at + nextStateOffset) 0) 0
+    → next ≡ map (λ x. getD env x 0) (take r (drop (at + nextRegistersOffset) t)) ++ drop r rs
     → _≡_ {A = Configuration} (record { place = toState (getD t 0 0) state; registers = next }) (clock (machineOf t) (stateAt t k) rs)
 unfolding clock stateAt machineOf
 clocked t k first count at r ef ec ea em rs env next state e es er =
     let w = e ∙ ap₂ (λ (f n : ℕ). worked rs (wiresFrom t f n)) ef ec in
     ap₂ {C = Configuration} (λ (p : Place) (l : List ℕ). record { place = p; registers = l })
-    (ap₂ toState (sym (states-length t)) (es ∙ ap₂ (λ (i : ℕ) (v : List ℕ). getD v (getD t (i + 2) 0) 0) ea w))
-    (er ∙ ap₂ (λ (i m : ℕ). map (λ x. getD env x 0) (take m (drop (i + 3) t)) ++ drop m rs) ea em
-    ∙ ap (λ (v : List ℕ). map (λ x. getD v x 0) (take (getD t 1 0) (drop (recordOffset k + 3) t)) ++ drop (getD t 1 0) rs) w)
+    (ap₂ toState (sym (states-length t)) (es ∙ ap₂ (λ (i : ℕ) (v : List ℕ). getD v (getD t (i + nextStateOffset) 0) 0) ea w))
+    (er ∙ ap₂ (λ (i m : ℕ). map (λ x. getD env x 0) (take m (drop (i + nextRegistersOffset) t)) ++ drop m rs) ea em
+    ∙ ap (λ (v : List ℕ). map (λ x. getD v x 0) (take (getD t 1 0) (drop (recordOffset k + nextRegistersOffset) t)) ++ drop (getD t 1 0) rs) w)

@@ -9,7 +9,7 @@ use borrow.Author.Tests.{leb-true, le-leb}
 use Rattle.runs.proofs.Every.{below-at, below-of}
 use Rattle.runs.proofs.ListLaws.{and-left, and-right, length-upFrom, getD-map-upFrom}
 use Rattle.runs.specs.Lists.{upFrom, every}
-use Rattle.fsmd.specs.Layout.{maxStates, maxRegisters, maxWires, recordOffset}
+use Rattle.fsmd.specs.Layout.{maxStates, maxRegisters, maxWires, recordOffset, nextStateOffset, nextRegistersOffset}
 use Rattle.fsmd.specs.Machine.{stateOf, emptyState}
 use Rattle.fsmd.specs.Table.{firstWireAt, wireCountAt, stateAt, machineOf, validReference, validWires, validState, within, apart, admitted}
 use Rattle.fsmd.proofs.Windows.{wiresFrom, wires-length}
@@ -32,14 +32,14 @@ state-is t k h = getD-map-upFrom (stateAt t) (getD t 0 0) k emptyState h
 
 pub valid-state-is : (t : List ℕ) (r k first count at : ℕ) → first ≡ firstWireAt t k → count ≡ wireCountAt t k → at ≡ recordOffset k → r ≡ getD t 1 0
     → validState r (stateAt t k)
-    ≡ (validWires r 0 (wiresFrom t first count) && validReference r count (getD t (at + 2) 0) && every (validReference r count) (take r (drop (at + 3) t)))
+    ≡ (validWires r 0 (wiresFrom t first count) && validReference r count (getD t (at + nextStateOffset) 0) && every (validReference r count) (take r (drop (at + nextRegistersOffset) t)))
 unfolding validState stateAt
 valid-state-is t r k first count at ef ec ea er =
-    ap₂ (λ (n m : ℕ). validWires r 0 (wiresFrom t (firstWireAt t k) (wireCountAt t k)) && validReference r n (getD t (recordOffset k + 2) 0)
-    && every (validReference r n) (take m (drop (recordOffset k + 3) t))) (wires-length t (firstWireAt t k) (wireCountAt t k)) (sym er)
-    ∙ sym (ap (λ (i : ℕ). validWires r 0 (wiresFrom t first count) && validReference r count (getD t (i + 2) 0) && every (validReference r count) (take r (drop (i + 3) t))) ea
-    ∙ ap₂ (λ (f n : ℕ). validWires r 0 (wiresFrom t f n) && validReference r n (getD t (recordOffset k + 2) 0)
-    && every (validReference r n) (take r (drop (recordOffset k + 3) t))) ef ec)
+    ap₂ (λ (n m : ℕ). validWires r 0 (wiresFrom t (firstWireAt t k) (wireCountAt t k)) && validReference r n (getD t (recordOffset k + nextStateOffset) 0)
+    && every (validReference r n) (take m (drop (recordOffset k + nextRegistersOffset) t))) (wires-length t (firstWireAt t k) (wireCountAt t k)) (sym er)
+    ∙ sym (ap (λ (i : ℕ). validWires r 0 (wiresFrom t first count) && validReference r count (getD t (i + nextStateOffset) 0) && every (validReference r count) (take r (drop (i + nextRegistersOffset) t))) ea
+    ∙ ap₂ (λ (f n : ℕ). validWires r 0 (wiresFrom t f n) && validReference r n (getD t (recordOffset k + nextStateOffset) 0)
+    && every (validReference r n) (take r (drop (recordOffset k + nextRegistersOffset) t))) ef ec)
 
 -- ---- what it is that a table is admitted
 

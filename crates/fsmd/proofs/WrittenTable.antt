@@ -8,7 +8,7 @@ use lib.ListN.{length, getD, take, drop, replicate, length-append}
 use lib.Seq.{drop-append-add, drop-drop, take-at, getD-drop}
 use Rattle.runs.proofs.ListLaws.{padded-append, length-padded}
 use Rattle.runs.specs.Lists.{upFrom, padded, concatMap}
-use Rattle.fsmd.specs.Layout.{maxStates, maxBlocks, maxRegisters, maxWires, wireWords, recordWords, recordOffset, wireOffset, machineWords, none}
+use Rattle.fsmd.specs.Layout.{maxStates, maxBlocks, maxRegisters, maxWires, wireWords, recordWords, allRecordWords, allWireWords, recordsOffset, wiresOffset, machineWords, recordOffset, nextStateOffset, nextRegistersOffset, wireOffset, none}
 use Rattle.fsmd.specs.Machine.{State, wireCount, FSMD, emptyState, stateOf}
 use Rattle.fsmd.specs.Table.{wireWordsOf, recordOf, recordsOf, wiresOf, tableOf, wireAt, firstWireAt, wireCountAt, stateAt}
 use Rattle.fsmd.specs.declared.Wire.{Wire}
@@ -69,12 +69,12 @@ wires-read t [] f r e = refl
 wires-read t (w ∷ ws) f r e =
     let p = wireOffset f in
     let l = wordsOf (w ∷ ws) ++ r in
-    let n : wireOffset (suc f) ≡ p + 4 = omega arith in
+    let n : wireOffset (suc f) ≡ p + wireWords = omega arith in
     let w′ : wireAt t f ≡ w = ap₂ {C = Wire} (λ (x y : ℕ × ℕ). record { code = x .0; a = x .1; b = y .0; c = y .1 })
     (ap₂ {C = ℕ × ℕ} (λ (x y : ℕ). (x, y)) (first-from t l p e) (word-from t l p 1 e))
     (ap₂ {C = ℕ × ℕ} (λ (x y : ℕ). (x, y)) (word-from t l p 2 e) (word-from t l p 3 e)) in
     ap₂ {C = List Wire} (λ (x : Wire) (xs : List Wire). x ∷ xs) w′
-    (wires-read t ws (suc f) r (ap (λ (i : ℕ). drop i t) n ∙ drop-from t l p 4 e))
+    (wires-read t ws (suc f) r (ap (λ (i : ℕ). drop i t) n ∙ drop-from t l p wireWords e))
 
 pub length-wiresOf : (qs : List State) → length (wiresOf qs) ≡ wireWords * wireCount qs
 unfolding wiresOf concatMap wireCount
@@ -142,10 +142,10 @@ module _ (m : FSMD) (rest : List ℕ) where
   blockWords = padded maxBlocks none (m .blockStates)
 
   abbrev recordSpace : List ℕ
-  recordSpace = padded (maxStates * recordWords) 0 (recordsOf 0 (m .states))
+  recordSpace = padded allRecordWords 0 (recordsOf 0 (m .states))
 
   abbrev wireSpace : List ℕ
-  wireSpace = padded (maxWires * wireWords) 0 (wiresOf (m .states))
+  wireSpace = padded allWireWords 0 (wiresOf (m .states))
 
   pub count-is : getD table 0 0 ≡ length (m .states)
   unfolding tableOf
@@ -155,31 +155,31 @@ module _ (m : FSMD) (rest : List ℕ) where
   unfolding tableOf
   registers-are = refl
 
-  from-records : (i : ℕ) → drop (130 + i) table ≡ drop i (recordSpace ++ (wireSpace ++ rest))
+  from-records : (i : ℕ) → drop (recordsOffset + i) table ≡ drop i (recordSpace ++ (wireSpace ++ rest))
   unfolding tableOf wiresOf
   from-records i =
-      let e : 130 + i ≡ suc (suc (64 + (64 + i))) = omega arith in
+      let e : recordsOffset + i ≡ suc (suc (maxStates + (maxBlocks + i))) = omega arith in
       let b = blockWords ++ (recordSpace ++ wireSpace) in
       ap (λ (j : ℕ). drop j table) e
-      ∙ ap (drop (64 + (64 + i))) (append-assoc starterWords b rest)
-      ∙ drop-past starterWords (b ++ rest) 64 (64 + i) (length-padded maxStates 0 (m .starters))
-      ∙ ap (drop (64 + i)) (append-assoc blockWords (recordSpace ++ wireSpace) rest)
-      ∙ drop-past blockWords ((recordSpace ++ wireSpace) ++ rest) 64 i (length-padded maxBlocks none (m .blockStates))
+      ∙ ap (drop (maxStates + (maxBlocks + i))) (append-assoc starterWords b rest)
+      ∙ drop-past starterWords (b ++ rest) maxStates (maxBlocks + i) (length-padded maxStates 0 (m .starters))
+      ∙ ap (drop (maxBlocks + i)) (append-assoc blockWords (recordSpace ++ wireSpace) rest)
+      ∙ drop-past blockWords ((recordSpace ++ wireSpace) ++ rest) maxBlocks i (length-padded maxBlocks none (m .blockStates))
       ∙ ap (drop i) (append-assoc recordSpace wireSpace rest)
 
-  from-wires : (i : ℕ) → drop (1346 + i) table ≡ drop i (wireSpace ++ rest)
+  from-wires : (i : ℕ) → drop (wiresOffset + i) table ≡ drop i (wireSpace ++ rest)
   from-wires i =
-      let e : 1346 + i ≡ 130 + (1216 + i) = omega arith in
-      ap (λ (j : ℕ). drop j table) e ∙ from-records (1216 + i)
-      ∙ drop-past recordSpace (wireSpace ++ rest) 1216 i (length-padded 1216 0 (recordsOf 0 (m .states)))
+      let e : wiresOffset + i ≡ recordsOffset + (allRecordWords + i) = omega arith in
+      ap (λ (j : ℕ). drop j table) e ∙ from-records (allRecordWords + i)
+      ∙ drop-past recordSpace (wireSpace ++ rest) allRecordWords i (length-padded allRecordWords 0 (recordsOf 0 (m .states)))
 
   module _ (few : length (m .states) ≤ maxStates) (room : wireCount (m .states) ≤ maxWires) (k : ℕ) (h : k < length (m .states)) where
     -- the words from state k's record on
     at-record : (r : List ℕ) × (drop (recordOffset k) table ≡ recordOf (wiresBefore (m .states) k) (at (m .states) k) ++ r)
     at-record =
         let recs = recordsOf 0 (m .states) in
-        let pad = replicate {A = ℕ} (1216 - length recs) 0 in
-        let p : recordSpace ≡ recs ++ pad = padded-append 1216 0 recs (omega (arith, length-recordsOf 0 (m .states))) in
+        let pad = replicate {A = ℕ} (allRecordWords - length recs) 0 in
+        let p : recordSpace ≡ recs ++ pad = padded-append allRecordWords 0 recs (omega (arith, length-recordsOf 0 (m .states))) in
         let d = records-drop (m .states) 0 k (pad ++ (wireSpace ++ rest)) h in
         let z : 0 + wiresBefore (m .states) k ≡ wiresBefore (m .states) k = omega arith in (
           d .0,
@@ -193,8 +193,8 @@ module _ (m : FSMD) (rest : List ℕ) where
     at-wires : (r : List ℕ) × (drop (wireOffset (wiresBefore (m .states) k)) table ≡ wordsOf (at (m .states) k .wires) ++ r)
     at-wires =
         let all = wiresOf (m .states) in
-        let pad = replicate {A = ℕ} (12288 - length all) 0 in
-        let p : wireSpace ≡ all ++ pad = padded-append 12288 0 all (omega (arith, length-wiresOf (m .states))) in
+        let pad = replicate {A = ℕ} (allWireWords - length all) 0 in
+        let p : wireSpace ≡ all ++ pad = padded-append allWireWords 0 all (omega (arith, length-wiresOf (m .states))) in
         let i = wireWords * wiresBefore (m .states) k in
         let d = wires-drop (m .states) k (pad ++ rest) h in (
           d .0,
@@ -207,8 +207,8 @@ module _ (m : FSMD) (rest : List ℕ) where
     pub back-count : wireCountAt table k ≡ length (stateOf m k .wires)
     back-count = word-from table _ (recordOffset k) 1 (at-record .1)
 
-    back-next : getD table (recordOffset k + 2) 0 ≡ stateOf m k .next
-    back-next = word-from table _ (recordOffset k) 2 (at-record .1)
+    back-next : getD table (recordOffset k + nextStateOffset) 0 ≡ stateOf m k .next
+    back-next = word-from table _ (recordOffset k) nextStateOffset (at-record .1)
 
     back-wires : map (wireAt table) (upFrom (firstWireAt table k) (wireCountAt table k)) ≡ stateOf m k .wires
     back-wires =
@@ -216,13 +216,13 @@ module _ (m : FSMD) (rest : List ℕ) where
         ∙ wires-read table (stateOf m k .wires) (wiresBefore (m .states) k) (at-wires .0) (at-wires .1)
 
     back-registers : m .registers ≤ maxRegisters → length (stateOf m k .nextRegisters) ≡ m .registers
-        → take (getD table 1 0) (drop (recordOffset k + 3) table) ≡ stateOf m k .nextRegisters
+        → take (getD table 1 0) (drop (recordOffset k + nextRegistersOffset) table) ≡ stateOf m k .nextRegisters
     back-registers small e =
         let l = stateOf m k .nextRegisters in
         let r = at-record .0 in
-        let pad = replicate {A = ℕ} (16 - length l) 0 in
-        let p : padded maxRegisters 0 l ≡ l ++ pad = padded-append 16 0 l (omega arith) in
-        ap₂ (λ (n : ℕ) (d : List ℕ). take n d) registers-are (drop-from table _ (recordOffset k) 3 (at-record .1))
+        let pad = replicate {A = ℕ} (maxRegisters - length l) 0 in
+        let p : padded maxRegisters 0 l ≡ l ++ pad = padded-append maxRegisters 0 l (omega arith) in
+        ap₂ (λ (n : ℕ) (d : List ℕ). take n d) registers-are (drop-from table _ (recordOffset k) nextRegistersOffset (at-record .1))
         ∙ ap (λ (d : List ℕ). take (m .registers) (d ++ r)) p
         ∙ ap (take (m .registers)) (append-assoc l pad r)
         ∙ take-at l (pad ++ r) (m .registers) e
@@ -240,7 +240,7 @@ unfolding tableOf
 table-length m =
     let s = padded maxStates 0 (m .starters) in
     let b = padded maxBlocks none (m .blockStates) in
-    let r = padded 1216 0 (recordsOf 0 (m .states)) in
+    let r = padded allRecordWords 0 (recordsOf 0 (m .states)) in
     let ws = wiresOf (m .states) in
-    let w = padded 12288 0 ws in
-    omega (arith, length-append s (b ++ (r ++ w)), length-append b (r ++ w), length-append r w, length-padded maxStates 0 (m .starters), length-padded maxBlocks none (m .blockStates), length-padded 1216 0 (recordsOf 0 (m .states)), length-padded 12288 0 ws)
+    let w = padded allWireWords 0 ws in
+    omega (arith, length-append s (b ++ (r ++ w)), length-append b (r ++ w), length-append r w, length-padded maxStates 0 (m .starters), length-padded maxBlocks none (m .blockStates), length-padded allRecordWords 0 (recordsOf 0 (m .states)), length-padded allWireWords 0 ws)

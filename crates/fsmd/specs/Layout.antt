@@ -17,35 +17,44 @@ maxWires = 3072
 abbrev pub wireWords : ℕ
 wireWords = 4
 
--- first wire, wire count, next-state reference, 16 next-register references
-abbrev pub recordWords : ℕ
-recordWords = 19
-
--- where the starters, the block states, the records and the wires begin
-abbrev pub startersOffset : ℕ
-startersOffset = 2
-
-abbrev pub blockStatesOffset : ℕ
-blockStatesOffset = 66
-
-abbrev pub recordsOffset : ℕ
-recordsOffset = 130
-
-abbrev pub wiresOffset : ℕ
-wiresOffset = 1346
-
-abbrev pub machineWords : ℕ
-machineWords = 13634
-
--- where the record of state k begins, and where in it the next references are
-abbrev pub recordOffset : ℕ → ℕ
-recordOffset k = recordsOffset + recordWords * k
-
+-- where in a state's record the next references are: behind first wire and wire count
 abbrev pub nextStateOffset : ℕ
 nextStateOffset = 2
 
 abbrev pub nextRegistersOffset : ℕ
 nextRegistersOffset = 3
+
+-- 19 words: first wire, wire count, next-state reference, 16 next-register references
+abbrev pub recordWords : ℕ
+recordWords = nextRegistersOffset + maxRegisters
+
+-- the words of all records, and of all wires
+abbrev pub allRecordWords : ℕ
+allRecordWords = maxStates * recordWords
+
+abbrev pub allWireWords : ℕ
+allWireWords = maxWires * wireWords
+
+-- where the starters, the block states, the records and the wires begin: 2, 66, 130 and 1,346
+abbrev pub startersOffset : ℕ
+startersOffset = 2
+
+abbrev pub blockStatesOffset : ℕ
+blockStatesOffset = startersOffset + maxStates
+
+abbrev pub recordsOffset : ℕ
+recordsOffset = blockStatesOffset + maxBlocks
+
+abbrev pub wiresOffset : ℕ
+wiresOffset = recordsOffset + allRecordWords
+
+-- "Machine table, 13,634 words"
+abbrev pub machineWords : ℕ
+machineWords = wiresOffset + allWireWords
+
+-- where the record of state k begins
+abbrev pub recordOffset : ℕ → ℕ
+recordOffset k = recordsOffset + recordWords * k
 
 -- where wire i of the whole machine begins
 abbrev pub wireOffset : ℕ → ℕ

@@ -1,13 +1,13 @@
 -- The machine table ("Machine table" of paper 01): the words of a machine, the machine of some words, and which words are admitted. Assumes nothing.
-use Prim.Native.Nat.{ℕ, zero, suc, _+_, _-_, _*_}
-use mathlib.Core.Bool.{Bool, true, false, not, _&&_, _||_}
+use Prim.Native.Nat.{ℕ, suc, _+_}
+use mathlib.Core.Bool.{Bool, true, _&&_, _||_}
 use mathlib.Core.List.{List, [], _∷_, _++_, map}
 use lib.ListN.{length, getD, take, drop}
 use lib.Dec.{eqb, leb, ltb}
 use Rattle.word.specs.Word.{arity}
 use Rattle.runs.specs.Lists.{upFrom, every, padded, concatMap}
 use Rattle.fsmd.specs.declared.Wire.{Wire}
-use Rattle.fsmd.specs.Layout.{maxStates, maxBlocks, maxRegisters, maxWires, wireWords, recordWords, startersOffset, blockStatesOffset, wiresOffset, recordsOffset, machineWords, recordOffset, nextStateOffset, nextRegistersOffset, wireOffset, none}
+use Rattle.fsmd.specs.Layout.{maxStates, maxBlocks, maxRegisters, maxWires, allRecordWords, allWireWords, startersOffset, blockStatesOffset, recordOffset, nextStateOffset, nextRegistersOffset, wireOffset, none}
 use Rattle.fsmd.specs.Machine.{State, FSMD}
 
 -- ---- words of a machine
@@ -36,8 +36,8 @@ tableOf m =
     length (m .states) ∷ m .registers
     ∷ (padded maxStates 0 (m .starters)
     ++ (padded maxBlocks none (m .blockStates)
-    ++ (padded (maxStates * recordWords) 0 (recordsOf 0 (m .states))
-    ++ padded (maxWires * wireWords) 0 (wiresOf (m .states)))))
+    ++ (padded allRecordWords 0 (recordsOf 0 (m .states))
+    ++ padded allWireWords 0 (wiresOf (m .states)))))
 
 -- ---- the machine of a table
 

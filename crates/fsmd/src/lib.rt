@@ -14,25 +14,29 @@ impl Machine {
     // Limits.
     pub const STATES: usize = 64;
 
+    pub const BLOCKS: usize = 64;
+
     pub const REGISTERS: usize = 16;
 
     pub const WIRES: usize = 3072;
-    // Where the starters, the block states, the states' records and the wires begin, and the words of the whole table.
-    pub const STARTERS: usize = 2;
-
-    pub const BLOCK_STATES: usize = 66;
-
-    pub const RECORDS: usize = 130;
-
-    pub const WIRE_WORDS: usize = 1346;
-
-    pub const WORDS: usize = 13634;
-    // Words of a record, and where in it the next references are.
-    pub const RECORD: usize = 19;
-
+    // No block or no state.
+    pub const NONE: u32 = 255;
+    // Where in a state's record the next references are, and the words of a record.
     pub const NEXT_STATE: usize = 2;
 
     pub const NEXT_REGISTERS: usize = 3;
+
+    pub const RECORD: usize = Machine::NEXT_REGISTERS + Machine::REGISTERS;
+    // Where the starters, the block states, the records and the wires begin, and the words of the whole table.
+    pub const STARTERS: usize = 2;
+
+    pub const BLOCK_STATES: usize = Machine::STARTERS + Machine::STATES;
+
+    pub const RECORDS: usize = Machine::BLOCK_STATES + Machine::BLOCKS;
+
+    pub const WIRE_WORDS: usize = Machine::RECORDS + Machine::STATES * Machine::RECORD;
+
+    pub const WORDS: usize = Machine::WIRE_WORDS + Machine::WIRES * Wire::WORDS;
     // Room for what references of a cycle read, the registers, then the wires: a power of two.
     pub const REFERENCES: usize = 4096;
 }

@@ -85,40 +85,40 @@ module _ (bytes : List ℕ) where
 
 -- the lists are whole, the stack has blocks, and no more of them than were seen: those at which `seen` is not blank
 pub record Sized (blank : ℕ) (seen stack passed : List ℕ) (depth : ℕ) : Type 0 where
-  pub seen-64 : length seen ≡ 64
-  pub stack-64 : length stack ≡ 64
-  pub passed-64 : length passed ≡ 64
+  pub seen-64 : length seen ≡ maxBlocks
+  pub stack-64 : length stack ≡ maxBlocks
+  pub passed-64 : length passed ≡ maxBlocks
   pub deep : depth ≤ used blank seen
-  pub low : (i : ℕ) → i < depth → getD stack i 0 < 64
+  pub low : (i : ℕ) → i < depth → getD stack i 0 < maxBlocks
 
-pub shallow : {blank : ℕ} {seen stack passed : List ℕ} {depth : ℕ} → Sized blank seen stack passed depth → depth ≤ 64
+pub shallow : {blank : ℕ} {seen stack passed : List ℕ} {depth : ℕ} → Sized blank seen stack passed depth → depth ≤ maxBlocks
 shallow {blank = blank} {seen = seen} i = omega (arith, used-le blank seen, i .deep, i .seen-64)
 
 -- at the outer loop's head, with s threaded: what is left of the visit gives what the whole gives
 pub record AtVisit {S : Type 0} (bytes : List ℕ) (v : Visitor S) (whole : S) (blank : ℕ) (s : S) (seen stack passed : List ℕ) (depth : ℕ) : Type 0 where
   pub sized : Sized blank seen stack passed depth
-  pub left : resume v (edgesIn bytes) (64 - depth) (frames bytes stack passed depth) s ≡ whole
+  pub left : resume v (edgesIn bytes) (maxBlocks - depth) (frames bytes stack passed depth) s ≡ whole
 
 -- at the inner loop's head
 pub record AtEdges {S : Type 0} (bytes : List ℕ) (v : Visitor S) (whole : S) (blank : ℕ) (s : S) (seen stack passed : List ℕ) (depth block k : ℕ) : Type 0 where
   pub sized : Sized blank seen stack passed depth
   pub some : 0 < depth
   pub is-top : getD stack (depth - 1) 0 ≡ block
-  pub is-block : block < 64
-  pub left : resume v (edgesIn bytes) (64 - depth) (top bytes block k ∷ frames bytes stack passed (depth - 1)) s ≡ whole
+  pub is-block : block < maxBlocks
+  pub left : resume v (edgesIn bytes) (maxBlocks - depth) (top bytes block k ∷ frames bytes stack passed (depth - 1)) s ≡ whole
 
 -- the visit begins at the root, which goes to the stack's foot
 pub begins : {S : Type 0} (bytes : List ℕ) (v : Visitor S) (blank : ℕ) (s : S) (root : ℕ) (seen : List ℕ) → v .stop [] root s ≡ false
-    → root < 64 → length seen ≡ 64 → 1 ≤ used blank seen
-    → AtVisit bytes v (visitBytes v bytes root s) blank (v .enter root s) seen (set (replicate 64 0) 0 root) (replicate 64 0) 1
+    → root < maxBlocks → length seen ≡ maxBlocks → 1 ≤ used blank seen
+    → AtVisit bytes v (visitBytes v bytes root s) blank (v .enter root s) seen (set (replicate maxBlocks 0) 0 root) (replicate maxBlocks 0) 1
 unfolding frames
 begins bytes v blank s root seen h l n d =
     record {
       sized = record { seen-64 = n; stack-64 = refl; passed-64 = refl; deep = d; low = low };
-      left = sym (resume-start v (edgesIn bytes) 63 root s h);
+      left = sym (resume-start v (edgesIn bytes) (maxBlocks - 1) root s h);
     }
   where
-    low : (i : ℕ) → i < 1 → getD (set (replicate 64 0) 0 root) i 0 < 64
+    low : (i : ℕ) → i < 1 → getD (set (replicate maxBlocks 0) 0 root) i 0 < maxBlocks
     low zero k = l
     low (suc i) k = absurd (omega arith)
 
@@ -126,7 +126,7 @@ module _ {S : Type 0} {bytes : List ℕ} {v : Visitor S} {whole : S} {blank : �
   -- the stack is empty
   pub ends : AtVisit bytes v whole blank s seen stack passed depth → depth ≡ 0 → s ≡ whole
   unfolding frames
-  ends i z = sym (resume-none v (edgesIn bytes) 64 s) ∙ (rw z at (i .left))
+  ends i z = sym (resume-none v (edgesIn bytes) maxBlocks s) ∙ (rw z at (i .left))
 
   -- the deepest frame is taken up
   pub enters : AtVisit bytes v whole blank s seen stack passed depth → 0 < depth → (block k : ℕ) → block ≡ getD stack (depth - 1) 0 → k ≡ getD passed (depth - 1) 0
@@ -145,33 +145,33 @@ module _ {S : Type 0} {bytes : List ℕ} {v : Visitor S} {whole : S} {blank : �
 
   module _ {block k : ℕ} (i : AtEdges bytes v whole blank s seen stack passed depth block k) where
     -- t goes above it
-    pub path-push : (t : ℕ) → depth < 64
+    pub path-push : (t : ℕ) → depth < maxBlocks
         → pathOf bytes (set stack depth t) (set (set passed (depth - 1) (k + 1)) depth 0) (depth + 1) ≡ t ∷ block ∷ pathOf bytes stack passed (depth - 1)
     path-push t room =
         rw (frames-push bytes stack passed depth t (k + 1) (i .some) (omega (arith, i .sized .stack-64)) (omega (arith, i .sized .passed-64)), i .is-top)
 
     -- it has no successor left; what is seen may be marked anew
-    pub pops : 2 ≤ k → (seen′ : List ℕ) → length seen′ ≡ 64 → used blank seen ≤ used blank seen′
+    pub pops : 2 ≤ k → (seen′ : List ℕ) → length seen′ ≡ maxBlocks → used blank seen ≤ used blank seen′
         → AtVisit bytes v whole blank (v .finish block s) seen′ stack passed (depth - 1)
     pops end seen′ l u =
-        let le : depth ≤ 64 = omega (arith, used-le blank seen) in
-        let e : 64 - (depth - 1) ≡ suc (64 - depth) = omega (arith, i .some) in
+        let le : depth ≤ maxBlocks = omega (arith, used-le blank seen) in
+        let e : maxBlocks - (depth - 1) ≡ suc (maxBlocks - depth) = omega (arith, i .some) in
         record {
           sized = record { seen-64 = l; stack-64 = i .sized .stack-64; passed-64 = i .sized .passed-64; deep = omega arith; low = λ j h. i .sized .low j (omega arith) };
-          left = rw e (sym (resume-pop v (edgesIn bytes) (64 - depth) block (frames bytes stack passed (depth - 1)) s) ∙ (rw (two bytes block k end) at (i .left)));
+          left = rw e (sym (resume-pop v (edgesIn bytes) (maxBlocks - depth) block (frames bytes stack passed (depth - 1)) s) ∙ (rw (two bytes block k end) at (i .left)));
         }
 
     -- its next byte is t
     module _ (t : ℕ) (is : t ≡ getD bytes (2 * block + k) none) (more : k < 2) where
-      pub passes-none : 64 ≤ t → AtEdges bytes v whole blank s seen stack passed depth block (k + 1)
+      pub passes-none : maxBlocks ≤ t → AtEdges bytes v whole blank s seen stack passed depth block (k + 1)
       passes-none h =
           record { sized = i .sized; some = i .some; is-top = i .is-top; is-block = i .is-block; left = rw (edge-none bytes block k t more is h) at (i .left) }
 
-      module _ (l : t < 64) where
+      module _ (l : t < maxBlocks) where
         abbrev fs : List Frame
         fs = frames bytes stack passed (depth - 1)
 
-        left′ : resume v (edgesIn bytes) (64 - depth) (record { block = block; left = t ∷ edgesFrom bytes block (k + 1) } ∷ fs) s ≡ whole
+        left′ : resume v (edgesIn bytes) (maxBlocks - depth) (record { block = block; left = t ∷ edgesFrom bytes block (k + 1) } ∷ fs) s ≡ whole
         left′ = rw (edge-some bytes block k t more is l) at (i .left)
 
         -- it is turned away from
@@ -183,23 +183,23 @@ module _ {S : Type 0} {bytes : List ℕ} {v : Visitor S} {whole : S} {blank : �
               some = i .some;
               is-top = i .is-top;
               is-block = i .is-block;
-              left = sym (resume-turn v (edgesIn bytes) block t (edgesFrom bytes block (k + 1)) fs s (64 - depth) h) ∙ left′;
+              left = sym (resume-turn v (edgesIn bytes) block t (edgesFrom bytes block (k + 1)) fs s (maxBlocks - depth) h) ∙ left′;
             }
 
         -- a block that is not seen finds room, and the outer loop's measure falls
         module _ (new : getD seen t 0 ≡ blank) where
-          pub room : depth < 64
+          pub room : depth < maxBlocks
           room = omega (arith, used-lt blank seen t (omega (arith, i .sized .seen-64)) new, i .sized)
 
           pub falls : (m : ℕ) → (m ≡ blank → ⊥) → {seen₀ : List ℕ} {depth₀ : ℕ} → seen ≡ seen₀ → depth ≡ depth₀
-              → 2 * (64 - used blank (set seen t m)) + (depth + 1) < 2 * (64 - used blank seen₀) + depth₀
+              → 2 * (maxBlocks - used blank (set seen t m)) + (depth + 1) < 2 * (maxBlocks - used blank seen₀) + depth₀
           falls m ne es ed =
               rw (← es) (omega (arith, used-set blank seen t m (omega (arith, i .sized .seen-64)) new ne, used-lt blank seen t (omega (arith, i .sized .seen-64)) new, i .sized .seen-64))
 
           pub pushes : (m : ℕ) → (m ≡ blank → ⊥) → v .stop (block ∷ pathOf bytes stack passed (depth - 1)) t s ≡ false
               → AtVisit bytes v whole blank (v .enter t s) (set seen t m) (set stack depth t) (set (set passed (depth - 1) (k + 1)) depth 0) (depth + 1)
           pushes m ne h =
-              let f : 64 - depth ≡ suc (64 - (depth + 1)) = omega (arith, room) in
+              let f : maxBlocks - depth ≡ suc (maxBlocks - (depth + 1)) = omega (arith, room) in
               record {
                 sized =
                     record {
@@ -211,9 +211,9 @@ module _ {S : Type 0} {bytes : List ℕ} {v : Visitor S} {whole : S} {blank : �
                     };
                 left =
                     rw (frames-push bytes stack passed depth t (k + 1) (i .some) (omega (arith, room, i .sized .stack-64)) (omega (arith, room, i .sized .passed-64)), i .is-top)
-                    (sym (resume-push v (edgesIn bytes) block t (edgesFrom bytes block (k + 1)) fs s (64 - (depth + 1)) h) ∙ (rw f at left′));
+                    (sym (resume-push v (edgesIn bytes) block t (edgesFrom bytes block (k + 1)) fs s (maxBlocks - (depth + 1)) h) ∙ (rw f at left′));
               }
             where
-              low : (j : ℕ) → j < depth + 1 → Compared j depth → getD (set stack depth t) j 0 < 64
+              low : (j : ℕ) → j < depth + 1 → Compared j depth → getD (set stack depth t) j 0 < maxBlocks
               low j g (same e p) = rw (p, getD-set-same stack depth t 0 (omega (arith, room, i .sized .stack-64))) l
               low j g (other e p) = rw (getD-set-other stack depth j t 0 p) (i .sized .low j (omega arith))

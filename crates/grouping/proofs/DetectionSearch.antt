@@ -8,6 +8,7 @@ use lib.Dec.{eqb}
 use lib.ListN.{length, getD, set, replicate, getD-replicate}
 use lib.Seq.{getD-set-same, getD-set-other}
 use borrow.Author.Tests.{ne-eqb}
+use Rattle.cfg.specs.Layout.{maxBlocks}
 use Rattle.runs.specs.Lists.{mem}
 use Rattle.runs.proofs.Tests.{Compared, same, other, compared}
 use Rattle.fsmd.specs.Layout.{none}
@@ -19,7 +20,7 @@ use Rattle.grouping.proofs.VisitStack.{resume-over}
 use Rattle.grouping.proofs.ByteStack.{top, pathOf, frames, AtVisit, AtEdges, begins, ends, enters, pops, passes-none, turns, room, falls, pushes}
 
 -- an edge from the path's head is tested by the marks of the starters
-illegal-by : (s : Starters) (states path : List ℕ) (x y : ℕ) → Listed s → y < 64 → illegal (startersOf s) states (x ∷ path) y ≡ illegalBy states (s .marks) x y
+illegal-by : (s : Starters) (states path : List ℕ) (x y : ℕ) → Listed s → y < maxBlocks → illegal (startersOf s) states (x ∷ path) y ≡ illegalBy states (s .marks) x y
 illegal-by s states path x y l h = rw (l .marked y h) (twice (not (eqb (getD states x none) (getD states y none))) (eqb (getD (s .marks) y 0) 0))
   where
     twice : (a b : Bool) → a && not (not b) ≡ a && b
@@ -27,22 +28,22 @@ illegal-by s states path x y l h = rw (l .marked y h) (twice (not (eqb (getD sta
     twice a false = refl
 
 abbrev Seen : List ℕ → List ℕ → Type 0
-Seen list seen = (x : ℕ) → x < 64 → mem x list ≡ not (eqb (getD seen x 0) 0)
+Seen list seen = (x : ℕ) → x < maxBlocks → mem x list ≡ not (eqb (getD seen x 0) 0)
 
-seen-push : (list seen : List ℕ) (t : ℕ) → length seen ≡ 64 → t < 64 → Seen list seen → Seen (t ∷ list) (set seen t 1)
+seen-push : (list seen : List ℕ) (t : ℕ) → length seen ≡ maxBlocks → t < maxBlocks → Seen list seen → Seen (t ∷ list) (set seen t 1)
 seen-push list seen t n l m x h = go (compared x t)
   where
     go : Compared x t → (eqb x t || mem x list) ≡ not (eqb (getD (set seen t 1) x 0) 0)
     go (same e p) = rw (e, p, getD-set-same seen t 1 0 (omega arith)) refl
     go (other e p) = rw (e, getD-set-other seen t x 1 0 p) (m x h)
 
-seen-first : Seen (0 ∷ []) (set (replicate 64 0) 0 1)
+seen-first : Seen (0 ∷ []) (set (replicate maxBlocks 0) 0 1)
 seen-first zero h = refl
 seen-first (suc x) h = go (compared (suc x) 0)
   where
-    go : Compared (suc x) 0 → (eqb (suc x) 0 || false) ≡ not (eqb (getD (replicate 63 0) x 0) 0)
+    go : Compared (suc x) 0 → (eqb (suc x) 0 || false) ≡ not (eqb (getD (replicate (maxBlocks - 1) 0) x 0) 0)
     go (same e p) = absurd (omega arith)
-    go (other e p) = rw (e, getD-replicate {A = ℕ} 63 x 0 0 (omega arith)) refl
+    go (other e p) = rw (e, getD-replicate {A = ℕ} (maxBlocks - 1) x 0 0 (omega arith)) refl
 
 pub detectWhole : List ℕ → List ℕ → List ℕ → Detection
 detectWhole bytes starters states = visitBytes (detecting starters states) bytes 0 (visited [])
@@ -59,14 +60,14 @@ pub record DetectEdges (bytes : List ℕ) (s : Starters) (states seen stack pass
   pub marked : Seen list seen
   pub on : AtEdges bytes (detecting (startersOf s) states) (detectWhole bytes (startersOf s) states) 0 (visited list) seen stack passed depth block k
 
-pub detect-begins : (bytes : List ℕ) (s : Starters) (states : List ℕ) → Listed s → DetectVisit bytes s states (set (replicate 64 0) 0 1) (replicate 64 0) (replicate 64 0) 1
+pub detect-begins : (bytes : List ℕ) (s : Starters) (states : List ℕ) → Listed s → DetectVisit bytes s states (set (replicate maxBlocks 0) 0 1) (replicate maxBlocks 0) (replicate maxBlocks 0) 1
 unfolding detectWhole used
 detect-begins bytes s states l =
     record {
       list = 0 ∷ [];
       listed = l;
       marked = seen-first;
-      on = begins bytes (detecting (startersOf s) states) 0 (visited []) 0 (set (replicate 64 0) 0 1) refl (omega arith) refl (omega arith);
+      on = begins bytes (detecting (startersOf s) states) 0 (visited []) 0 (set (replicate maxBlocks 0) 0 1) refl (omega arith) refl (omega arith);
     }
 
 module _ {bytes : List ℕ} {s : Starters} {states seen stack passed : List ℕ} {depth : ℕ} where
@@ -87,10 +88,10 @@ module _ {bytes : List ℕ} {s : Starters} {states seen stack passed : List ℕ}
       byte : t ≡ getD bytes (2 * block + k) none
       byte = index ∙ is
 
-      pub detect-none : 64 ≤ t → DetectEdges bytes s states seen stack passed depth block (k + 1)
+      pub detect-none : maxBlocks ≤ t → DetectEdges bytes s states seen stack passed depth block (k + 1)
       detect-none h = record { list = i .list; listed = i .listed; marked = i .marked; on = passes-none (i .on) t byte more h }
 
-      module _ (l : t < 64) where
+      module _ (l : t < maxBlocks) where
         abbrev path : List ℕ
         path = block ∷ pathOf bytes stack passed (depth - 1)
 
@@ -105,15 +106,15 @@ module _ {bytes : List ℕ} {s : Starters} {states seen stack passed : List ℕ}
             let a : AtEdges bytes (detecting (startersOf s) states) (detectWhole bytes (startersOf s) states) 0 (illegalTo t) seen stack passed depth block (k + 1) =
             rw (e, detectTurn) at (turns (i .on) t byte more l (rw e refl)) in
             rw (← index) (ap detectedOf
-            (sym (resume-over (detecting (startersOf s) states) (edgesIn bytes) (illegalTo t) (λ path x. refl) (λ path x. refl) (λ x. refl) (64 - depth) (top bytes block (k + 1) ∷ frames bytes stack passed (depth - 1)))
+            (sym (resume-over (detecting (startersOf s) states) (edgesIn bytes) (illegalTo t) (λ path x. refl) (λ path x. refl) (λ x. refl) (maxBlocks - depth) (top bytes block (k + 1) ∷ frames bytes stack passed (depth - 1)))
             ∙ a .left))
 
         module _ (new : getD seen t 0 ≡ 0) where
-          pub detect-room : depth < 64
+          pub detect-room : depth < maxBlocks
           detect-room = room (i .on) t byte more l new
 
           pub detect-falls : {seen₀ : List ℕ} {depth₀ : ℕ} → seen ≡ seen₀ → depth ≡ depth₀
-              → 2 * (64 - used 0 (set seen t 1)) + (depth + 1) < 2 * (64 - used 0 seen₀) + depth₀
+              → 2 * (maxBlocks - used 0 (set seen t 1)) + (depth + 1) < 2 * (maxBlocks - used 0 seen₀) + depth₀
           detect-falls es ed = falls (i .on) t byte more l new 1 (λ e. omega arith) es ed
 
         -- a legal edge to a block that is not visited yet

@@ -27,11 +27,11 @@ module _ (bytes : List ℕ) (n : ℕ) where
   unfolding edgesFrom
   edges-none a b = rw (a, b)
 
-  edges-goto : (t : ℕ) → t < 64 → getD bytes (2 * n) none ≡ t → getD bytes (2 * n + 1) none ≡ none → edgesIn bytes n ≡ t ∷ []
+  edges-goto : (t : ℕ) → t < maxBlocks → getD bytes (2 * n) none ≡ t → getD bytes (2 * n + 1) none ≡ none → edgesIn bytes n ≡ t ∷ []
   unfolding edgesFrom
   edges-goto t l a b = rw (a, b, lt-ltb t maxBlocks l)
 
-  edges-ite : (t f : ℕ) → t < 64 → f < 64 → getD bytes (2 * n) none ≡ t → getD bytes (2 * n + 1) none ≡ f → edgesIn bytes n ≡ t ∷ f ∷ []
+  edges-ite : (t f : ℕ) → t < maxBlocks → f < maxBlocks → getD bytes (2 * n) none ≡ t → getD bytes (2 * n + 1) none ≡ f → edgesIn bytes n ≡ t ∷ f ∷ []
   unfolding edgesFrom
   edges-ite t f l m a b = rw (a, b, lt-ltb t maxBlocks l, lt-ltb f maxBlocks m)
 
@@ -79,7 +79,7 @@ module _ {t bytes : List ℕ} {n : ℕ} (c : Copied t bytes n) where
       done m h (other e p) = let o = others m p in edges-same after bytes m (o .0) (o .1) ∙ c .done m (omega arith)
 
   module _ (a : Admitted t) (l : n < getD t 0 0) where
-    low : n < 64
+    low : n < maxBlocks
     low = let h = a .fewBlocks in omega arith
 
     -- by the ending
@@ -93,10 +93,10 @@ module _ {t bytes : List ℕ} {n : ℕ} (c : Copied t bytes n) where
       valid : ValidEnding (getD t 0 0) (getD t 1 0) e
       valid = rw ending-is at (a .block n l .ended)
 
-    pub goto-low : (x : ℕ) → Goto x ≡ endingAt t (blockOffset n + endingOffset) → x < 64
+    pub goto-low : (x : ℕ) → Goto x ≡ endingAt t (blockOffset n + endingOffset) → x < maxBlocks
     goto-low x is = let h = valid (Goto x) is in let k = a .fewBlocks in omega arith
 
-    pub ite-low : (o : Condition) (x y : ℕ) → Ite o x y ≡ endingAt t (blockOffset n + endingOffset) → (x < 64) × (y < 64)
+    pub ite-low : (o : Condition) (x y : ℕ) → Ite o x y ≡ endingAt t (blockOffset n + endingOffset) → (x < maxBlocks) × (y < maxBlocks)
     ite-low o x y is = let h = valid (Ite o x y) is in let k = a .fewBlocks in (omega (arith, h .holds), omega (arith, h .fails))
 
     pub copied-halt : Halt ≡ endingAt t (blockOffset n + endingOffset) → Copied t bytes (n + 1)

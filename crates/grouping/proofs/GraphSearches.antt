@@ -9,6 +9,7 @@ use lib.Dec.{eqb}
 use lib.ListN.{length, getD, set, replicate, length-set, length-replicate}
 use Rattle.runs.specs.Lists.{mem, padded}
 use Rattle.runs.proofs.Sets.{In, Distinct}
+use Rattle.cfg.specs.Layout.{maxBlocks}
 use Rattle.cfg.specs.Graph.{CFG, successors}
 use Rattle.fsmd.specs.Layout.{none}
 use Rattle.grouping.specs.Visit.{Visitor, visit}
@@ -60,12 +61,12 @@ padded-append (suc n) d (y ∷ l) h =
 module _ (g : CFG) (a : Closed g) where
   -- population on longer lists
   populating-maps : (starters : List ℕ) (r k : ℕ)
-      → Maps (populating starters r k) (populating starters r k) (padded 64 none) (λ (s : List ℕ). length s ≡ length (g .blocks)) (length (g .blocks))
+      → Maps (populating starters r k) (populating starters r k) (padded maxBlocks none) (λ (s : List ℕ). length s ≡ length (g .blocks)) (length (g .blocks))
   populating-maps starters r k =
       record {
-        stops = λ path x s l i. ap (λ (y : ℕ). not (eqb y none) || (mem x starters && not (eqb x r))) (padded-at 64 none s (omega (arith, a .few-blocks)) x);
+        stops = λ path x s l i. ap (λ (y : ℕ). not (eqb y none) || (mem x starters && not (eqb x r))) (padded-at maxBlocks none s (omega (arith, a .few-blocks)) x);
         turns = λ path x s l i. (refl, i);
-        enters = λ x s l i. (padded-set 64 none s x k (omega arith) (omega (arith, a .few-blocks)), length-set s x k ∙ i);
+        enters = λ x s l i. (padded-set maxBlocks none s x k (omega arith) (omega (arith, a .few-blocks)), length-set s x k ∙ i);
         finishes = λ x s l i. (refl, i);
       }
 
@@ -98,30 +99,30 @@ module _ (g : CFG) (a : Closed g) (bytes : List ℕ) (edges : (n : ℕ) → edge
   pub loops-bytes : loopStarters bytes ≡ loops g .starters
   unfolding loopStarters
   loops-bytes =
-      ap (λ (n : ℕ → List ℕ). visit looping n 65 [] 0 (record { finished = []; starters = 0 ∷ [] }) .starters) next
-      ∙ ap (λ (l : Loops). l .starters) (loops-fuel g a 65 (omega (arith, a .few-blocks)))
+      ap (λ (n : ℕ → List ℕ). visit looping n (maxBlocks + 1) [] 0 (record { finished = []; starters = 0 ∷ [] }) .starters) next
+      ∙ ap (λ (l : Loops). l .starters) (loops-fuel g a (maxBlocks + 1) (omega (arith, a .few-blocks)))
 
   module _ (starters : List ℕ) where
     from-bytes : (k : ℕ) (rs s : List ℕ) → ((r : ℕ) → In r rs → r < length (g .blocks)) → length s ≡ length (g .blocks)
-        → takenFrom bytes starters k rs (padded 64 none s) ≡ padded 64 none (populateWith 65 g starters k rs s)
+        → takenFrom bytes starters k rs (padded maxBlocks none s) ≡ padded maxBlocks none (populateWith (maxBlocks + 1) g starters k rs s)
     unfolding takenFrom taken
     from-bytes k [] s low i = refl
     from-bytes k (r ∷ rs) s low i =
-        let m = visit-maps (populating-maps g a starters r k) (successors g) (λ u x j. a .inside u x j) 65 [] r s (low r (inl refl)) i in
-        ap (λ (n : ℕ → List ℕ). takenFrom bytes starters (suc k) rs (visit (populating starters r k) n 65 [] r (padded 64 none s))) next
+        let m = visit-maps (populating-maps g a starters r k) (successors g) (λ u x j. a .inside u x j) (maxBlocks + 1) [] r s (low r (inl refl)) i in
+        ap (λ (n : ℕ → List ℕ). takenFrom bytes starters (suc k) rs (visit (populating starters r k) n (maxBlocks + 1) [] r (padded maxBlocks none s))) next
         ∙ ap (takenFrom bytes starters (suc k) rs) (m .0)
-        ∙ from-bytes (suc k) rs (visit (populating starters r k) (successors g) 65 [] r s) (λ x j. low x (inr j)) (m .1)
+        ∙ from-bytes (suc k) rs (visit (populating starters r k) (successors g) (maxBlocks + 1) [] r s) (λ x j. low x (inr j)) (m .1)
 
-    pub population-bytes : Distinct starters → ((x : ℕ) → In x starters → Reached g x) → population bytes starters ≡ padded 64 none (populate g starters)
+    pub population-bytes : Distinct starters → ((x : ℕ) → In x starters → Reached g x) → population bytes starters ≡ padded maxBlocks none (populate g starters)
     unfolding population
     population-bytes distinct known =
-        ap (takenFrom bytes starters 0 starters) (sym (padded-blank 64 (length (g .blocks)) none))
+        ap (takenFrom bytes starters 0 starters) (sym (padded-blank maxBlocks (length (g .blocks)) none))
         ∙ from-bytes 0 starters (replicate (length (g .blocks)) none) (λ r i. reached-below a (known r i)) (length-replicate (length (g .blocks)) none)
-        ∙ ap (padded 64 none) (populate-fuel g a starters distinct known 65 (omega (arith, a .few-blocks)))
+        ∙ ap (padded maxBlocks none) (populate-fuel g a starters distinct known (maxBlocks + 1) (omega (arith, a .few-blocks)))
 
-    pub detection-bytes : (states : List ℕ) → length states ≤ 64 → detection bytes starters (padded 64 none states) ≡ detectedOf (detect g starters states)
+    pub detection-bytes : (states : List ℕ) → length states ≤ maxBlocks → detection bytes starters (padded maxBlocks none states) ≡ detectedOf (detect g starters states)
     unfolding detection
     detection-bytes states h =
-        ap₂ (λ (n : ℕ → List ℕ) (v : Visitor Detection). detectedOf (visit v n 65 [] 0 (visited []))) next
-        (detecting-alike starters (padded 64 none states) states (padded-at 64 none states h))
-        ∙ ap detectedOf (detect-fuel g a starters states 65 (omega (arith, a .few-blocks)))
+        ap₂ (λ (n : ℕ → List ℕ) (v : Visitor Detection). detectedOf (visit v n (maxBlocks + 1) [] 0 (visited []))) next
+        (detecting-alike starters (padded maxBlocks none states) states (padded-at maxBlocks none states h))
+        ∙ ap detectedOf (detect-fuel g a starters states (maxBlocks + 1) (omega (arith, a .few-blocks)))

@@ -8,6 +8,7 @@ use lib.ListN.{length, replicate, length-append, take-append-drop}
 use Rattle.runs.specs.Lists.{padded}
 use Rattle.runs.proofs.ListLaws.{length-padded}
 use Rattle.runs.proofs.Sets.{In, Distinct, Out→mem, in-left, in-append, distinct-snoc, distinct-below}
+use Rattle.cfg.specs.Layout.{maxBlocks}
 use Rattle.cfg.specs.Graph.{CFG, successors}
 use Rattle.fsmd.specs.Layout.{none}
 use Rattle.grouping.specs.declared.Starters.{Starters}
@@ -45,7 +46,7 @@ pub record Round (g : CFG) (s : Starters) : Type 0 where
   pub enough : length (g .blocks) < rounds + length (startersOf s)
   pub left : regroup g rounds (startersOf s) ≡ groups g
 
-pub round-few : {g : CFG} {s : Starters} → Closed g → Round g s → length (startersOf s) ≤ 64
+pub round-few : {g : CFG} {s : Starters} → Closed g → Round g s → length (startersOf s) ≤ maxBlocks
 round-few {g} {s} a i =
     omega (arith, distinct-below (length (g .blocks)) (startersOf s) (i .distinct) (λ x j. reached-below a (i .known x j)), a .few-blocks)
 
@@ -66,11 +67,11 @@ module _ (g : CFG) (a : Closed g) (bytes : List ℕ) (edges : (n : ℕ) → edge
       }
 
   module _ (s : Starters) (i : Round g s) (states : List ℕ) (fresh : states ≡ population bytes (startersOf s)) where
-    padded-states : states ≡ padded 64 none (populate g (startersOf s))
+    padded-states : states ≡ padded maxBlocks none (populate g (startersOf s))
     padded-states = fresh ∙ population-bytes g a bytes edges (startersOf s) (i .distinct) (i .known)
 
-    pub states-64 : length states ≡ 64
-    states-64 = ap length padded-states ∙ length-padded 64 none (populate g (startersOf s))
+    pub states-64 : length states ≡ maxBlocks
+    states-64 = ap length padded-states ∙ length-padded maxBlocks none (populate g (startersOf s))
 
     size : length (populate g (startersOf s)) ≡ length (g .blocks)
     size = populated g a (startersOf s) (i .distinct) (i .known) (i .entry) .taken .size
@@ -91,7 +92,7 @@ module _ (g : CFG) (a : Closed g) (bytes : List ℕ) (edges : (n : ℕ) → edge
       new : Reached g y × (In y (startersOf s) → ⊥)
       new = detect-illegal g a (startersOf s) (populate g (startersOf s)) y is
 
-      pub illegal-low : y < 64
+      pub illegal-low : y < maxBlocks
       illegal-low = let h = reached-below a (new .0) in omega (arith, a .few-blocks)
 
       pub round-on : (r : Starters) → Listed r → startersOf r ≡ withStarter y (startersOf s) → Round g r × (length (startersOf s) < length (startersOf r))
@@ -133,11 +134,11 @@ module _ (g : CFG) (a : Closed g) (bytes : List ℕ) (edges : (n : ℕ) → edge
         counted : length (startersOf s) ≡ s .count
         counted = starters-length s (i .listed)
 
-        list : s .list ≡ padded 64 0 (startersOf s)
+        list : s .list ≡ padded maxBlocks 0 (startersOf s)
         list =
             sym (take-append-drop (s .count) (s .list))
-            ∙ ap (λ (l : List ℕ). startersOf s ++ l) (i .listed .rest ∙ ap (λ (k : ℕ). replicate (64 - k) 0) (sym counted))
-            ∙ sym (padded-append 64 0 (startersOf s) (omega (arith, counted, starters-few s (i .listed))))
+            ∙ ap (λ (l : List ℕ). startersOf s ++ l) (i .listed .rest ∙ ap (λ (k : ℕ). replicate (maxBlocks - k) 0) (sym counted))
+            ∙ sym (padded-append maxBlocks 0 (startersOf s) (omega (arith, counted, starters-few s (i .listed))))
 
         go : (k : ℕ) → length (g .blocks) < k + length (startersOf s) → regroup g k (startersOf s) ≡ groups g
             → (seen : List ℕ) × (detect g (startersOf s) (populate g (startersOf s)) ≡ visited seen)

@@ -7,6 +7,7 @@ use native.Mathlib.Omega.{arith}
 use lib.Dec.{eqb}
 use lib.ListN.{length, getD, set, replicate, length-set, getD-replicate}
 use lib.Seq.{getD-set-same, getD-set-other}
+use Rattle.cfg.specs.Layout.{maxBlocks}
 use Rattle.runs.specs.Lists.{mem}
 use Rattle.runs.proofs.Tests.{Compared, same, other, compared}
 use Rattle.fsmd.specs.Layout.{none}
@@ -38,10 +39,10 @@ mark-two false true a b = absurd (b refl)
 mark-two false false a b = absurd (a refl)
 
 abbrev Marked : List ℕ → List ℕ → List ℕ → Type 0
-Marked path finished marks = (x : ℕ) → x < 64 → getD marks x 0 ≡ markOf (mem x finished) (mem x path)
+Marked path finished marks = (x : ℕ) → x < maxBlocks → getD marks x 0 ≡ markOf (mem x finished) (mem x path)
 
 -- another block on the path
-mark-push : (path finished marks : List ℕ) (t : ℕ) → length marks ≡ 64 → t < 64 → getD marks t 0 ≡ 0 → Marked path finished marks → Marked (t ∷ path) finished (set marks t 1)
+mark-push : (path finished marks : List ℕ) (t : ℕ) → length marks ≡ maxBlocks → t < maxBlocks → getD marks t 0 ≡ 0 → Marked path finished marks → Marked (t ∷ path) finished (set marks t 1)
 mark-push path finished marks t n l new m x h = go (compared x t)
   where
     out : mem t finished ≡ false
@@ -52,16 +53,16 @@ mark-push path finished marks t n l new m x h = go (compared x t)
     go (other e p) = rw e (getD-set-other marks t x 1 0 p ∙ m x h)
 
 -- the path's first block is finished
-mark-pop : (path finished marks : List ℕ) (b : ℕ) → length marks ≡ 64 → b < 64 → Marked (b ∷ path) finished marks → Marked path (b ∷ finished) (set marks b 2)
+mark-pop : (path finished marks : List ℕ) (b : ℕ) → length marks ≡ maxBlocks → b < maxBlocks → Marked (b ∷ path) finished marks → Marked path (b ∷ finished) (set marks b 2)
 mark-pop path finished marks b n l m x h = go (compared x b) (m x h)
   where
     go : Compared x b → getD marks x 0 ≡ markOf (mem x finished) (eqb x b || mem x path) → getD (set marks b 2) x 0 ≡ markOf (eqb x b || mem x finished) (mem x path)
     go (same e p) k = rw (e, p) (getD-set-same marks b 2 0 (omega arith))
     go (other e p) k = rw e (getD-set-other marks b x 2 0 p ∙ (rw e at k))
 
-mark-first : Marked (0 ∷ []) [] (set (replicate 64 0) 0 1)
+mark-first : Marked (0 ∷ []) [] (set (replicate maxBlocks 0) 0 1)
 mark-first zero h = refl
-mark-first (suc x) h = getD-replicate 63 x 0 0 (omega arith) ∙ go (compared (suc x) 0)
+mark-first (suc x) h = getD-replicate (maxBlocks - 1) x 0 0 (omega arith) ∙ go (compared (suc x) 0)
   where
     go : Compared (suc x) 0 → 0 ≡ markOf false (eqb (suc x) 0 || false)
     go (same e p) = absurd (omega arith)
@@ -87,7 +88,7 @@ pub record LoopEdges (bytes : List ℕ) (s : Starters) (marks stack passed : Lis
   pub on : AtEdges bytes looping (loopWhole bytes) 0 (threaded finished s) marks stack passed depth block k
 
 pub loop-begins : (bytes : List ℕ) (s : Starters) → Listed s → startersOf s ≡ 0 ∷ []
-    → LoopVisit bytes s (set (replicate 64 0) 0 1) (replicate 64 0) (replicate 64 0) 1
+    → LoopVisit bytes s (set (replicate maxBlocks 0) 0 1) (replicate maxBlocks 0) (replicate maxBlocks 0) 1
 unfolding loopWhole frames used
 loop-begins bytes s l e =
     record {
@@ -95,7 +96,7 @@ loop-begins bytes s l e =
       listed = l;
       marked = mark-first;
       on =
-          rw e (begins bytes looping 0 (record { finished = []; starters = 0 ∷ [] }) 0 (set (replicate 64 0) 0 1) refl (omega arith) refl (omega arith));
+          rw e (begins bytes looping 0 (record { finished = []; starters = 0 ∷ [] }) 0 (set (replicate maxBlocks 0) 0 1) refl (omega arith) refl (omega arith));
     }
 
 module _ {bytes : List ℕ} {s : Starters} {marks stack passed : List ℕ} {depth : ℕ} where
@@ -124,16 +125,16 @@ module _ {bytes : List ℕ} {s : Starters} {marks stack passed : List ℕ} {dept
       byte : t ≡ getD bytes (2 * block + k) none
       byte = index ∙ is
 
-      pub loop-none : 64 ≤ t → LoopEdges bytes s marks stack passed depth block (k + 1)
+      pub loop-none : maxBlocks ≤ t → LoopEdges bytes s marks stack passed depth block (k + 1)
       loop-none h = record { finished = i .finished; listed = i .listed; marked = i .marked; on = passes-none (i .on) t byte more h }
 
-      module _ (l : t < 64) where
+      module _ (l : t < maxBlocks) where
         -- met for the first time
-        pub loop-room : getD marks t 0 ≡ 0 → depth < 64
+        pub loop-room : getD marks t 0 ≡ 0 → depth < maxBlocks
         loop-room new = room (i .on) t byte more l new
 
         pub loop-falls : getD marks t 0 ≡ 0 → {marks₀ : List ℕ} {depth₀ : ℕ} → marks ≡ marks₀ → depth ≡ depth₀
-            → 2 * (64 - used 0 (set marks t 1)) + (depth + 1) < 2 * (64 - used 0 marks₀) + depth₀
+            → 2 * (maxBlocks - used 0 (set marks t 1)) + (depth + 1) < 2 * (maxBlocks - used 0 marks₀) + depth₀
         loop-falls new em ed = falls (i .on) t byte more l new 1 (λ e. omega arith) em ed
 
         pub loop-pushes : getD marks t 0 ≡ 0 → LoopVisit bytes s (set marks t 1) (set stack depth to) (set (set passed (depth - 1) (k + 1)) depth 0) (depth + 1)

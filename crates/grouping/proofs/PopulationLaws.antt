@@ -12,6 +12,7 @@ use borrow.Author.Tests.{not-true, not-false, eqb-true, eqb-false}
 use Rattle.runs.specs.Lists.{mem}
 use Rattle.runs.proofs.Tests.{or-false, or-true, and-true, and-false, Compared, same, other, compared}
 use Rattle.runs.proofs.Sets.{In, Distinct, mem→In, mem→Out, in-append, in-right, distinct-below, getD-in, distinct-at}
+use Rattle.cfg.specs.Layout.{maxBlocks}
 use Rattle.cfg.specs.Graph.{CFG, successors}
 use Rattle.fsmd.specs.Layout.{none}
 use Rattle.grouping.specs.Visit.{visit, visitFrom}
@@ -197,7 +198,7 @@ abbrev Sealed : CFG → List ℕ → List ℕ → Type 0
 Sealed g starters states = (u : ℕ) → stateIn states u ≢ none → (v : ℕ) → In v (successors g u) → (stateIn states v ≢ none) ⊎ In v starters
 
 module _ (g : CFG) (a : Closed g) (starters : List ℕ) (distinct : Distinct starters) (known : (x : ℕ) → In x starters → Reached g x) where
-  few : length starters ≤ 64
+  few : length starters ≤ maxBlocks
   few = let r = distinct-below (length (g .blocks)) starters distinct (λ x i. reached-below a (known x i)) in let f = a .few-blocks in omega arith
 
   pub record Partly (front states : List ℕ) : Type 0 where

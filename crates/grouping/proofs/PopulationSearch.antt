@@ -9,6 +9,7 @@ use lib.Dec.{eqb}
 use lib.ListN.{length, getD, set, drop, replicate, length-set, length-replicate, drop-of-length-le}
 use lib.Seq.{getD-set-same, getD-set-other, getD-take, drop-cons}
 use borrow.Author.Tests.{eq-eqb, ne-eqb}
+use Rattle.cfg.specs.Layout.{maxBlocks}
 use Rattle.runs.specs.Lists.{mem}
 use Rattle.runs.proofs.Sets.{getD-any}
 use Rattle.fsmd.specs.Layout.{none}
@@ -23,7 +24,7 @@ use Rattle.grouping.proofs.ByteStack.{pathOf, frames, AtVisit, AtEdges,
 
 -- what is left of taking at a head of the outer loop
 abbrev pub takeRest : List ℕ → Starters → ℕ → ℕ → List ℕ → List ℕ → List ℕ → ℕ → List ℕ
-takeRest bytes s r k states stack passed depth = resume (populating (startersOf s) r k) (edgesIn bytes) (64 - depth) (frames bytes stack passed depth) states
+takeRest bytes s r k states stack passed depth = resume (populating (startersOf s) r k) (edgesIn bytes) (maxBlocks - depth) (frames bytes stack passed depth) states
 
 -- the starter's block is taken from the first
 pub record TakeVisit (bytes : List ℕ) (s : Starters) (r k : ℕ) (whole states stack passed : List ℕ) (depth : ℕ) : Type 0 where
@@ -39,7 +40,7 @@ pub record TakeEdges (bytes : List ℕ) (s : Starters) (r k : ℕ) (whole states
   pub on : AtEdges bytes (populating (startersOf s) r k) whole none states states stack passed depth block j
 
 -- a block that a state has, and one that none has
-module _ (starters : List ℕ) (r k : ℕ) (path : List ℕ) (x : ℕ) (states : List ℕ) (n : length states ≡ 64) (l : x < 64) where
+module _ (starters : List ℕ) (r k : ℕ) (path : List ℕ) (x : ℕ) (states : List ℕ) (n : length states ≡ maxBlocks) (l : x < maxBlocks) where
   stops-taken : (getD states x 0 ≡ none → ⊥) → populating starters r k .stop path x states ≡ true
   stops-taken f = rw (getD-any states x none 0 (omega arith), ne-eqb (getD states x 0) none f)
 
@@ -51,15 +52,15 @@ and-no true = refl
 and-no false = refl
 
 -- the starter's byte, and the same as an index
-module _ (bytes : List ℕ) (s : Starters) (first r k : ℕ) (index : r ≡ first) (states : List ℕ) (n : length states ≡ 64) (l : r < 64) where
+module _ (bytes : List ℕ) (s : Starters) (first r k : ℕ) (index : r ≡ first) (states : List ℕ) (n : length states ≡ maxBlocks) (l : r < maxBlocks) where
   -- the starter's block is another state's already
   pub take-nothing : (getD states r 0 ≡ none → ⊥) → states ≡ taken bytes (startersOf s) first k states
   unfolding taken
   take-nothing f =
-      rw (← index) (sym (visit-stops (populating (startersOf s) r k) (edgesIn bytes) 64 [] r states (stops-taken (startersOf s) r k [] r states n l f)))
+      rw (← index) (sym (visit-stops (populating (startersOf s) r k) (edgesIn bytes) maxBlocks [] r states (stops-taken (startersOf s) r k [] r states n l f)))
 
   module _ (h : k < none) (e : getD states r 0 ≡ none) where
-    begun : AtVisit bytes (populating (startersOf s) r k) (visitBytes (populating (startersOf s) r k) bytes r states) none (set states r k) (set states r k) (set (replicate 64 0) 0 r) (replicate 64 0) 1
+    begun : AtVisit bytes (populating (startersOf s) r k) (visitBytes (populating (startersOf s) r k) bytes r states) none (set states r k) (set states r k) (set (replicate maxBlocks 0) 0 r) (replicate maxBlocks 0) 1
     begun =
         begins bytes (populating (startersOf s) r k) none states r (set states r k)
         (free (startersOf s) r k [] r states n l e ∙ rw (eq-eqb r r refl) (and-no (mem r (startersOf s))))
@@ -68,7 +69,7 @@ module _ (bytes : List ℕ) (s : Starters) (first r k : ℕ) (index : r ≡ firs
         (omega (arith, used-set none states r k (omega arith) e (λ f. omega arith)))
 
     pub take-begins : Listed s
-        → TakeVisit bytes s r k (takeRest bytes s r k (set states r k) (set (replicate 64 0) 0 first) (replicate 64 0) 1) (set states r k) (set (replicate 64 0) 0 first) (replicate 64 0) 1
+        → TakeVisit bytes s r k (takeRest bytes s r k (set states r k) (set (replicate maxBlocks 0) 0 first) (replicate maxBlocks 0) 1) (set states r k) (set (replicate maxBlocks 0) 0 first) (replicate maxBlocks 0) 1
     take-begins i =
         rw (← index) (record {
           listed = i;
@@ -77,7 +78,7 @@ module _ (bytes : List ℕ) (s : Starters) (first r k : ℕ) (index : r ≡ firs
           on = record { sized = begun .sized; left = refl };
         })
 
-    pub take-whole : takeRest bytes s r k (set states r k) (set (replicate 64 0) 0 first) (replicate 64 0) 1 ≡ taken bytes (startersOf s) first k states
+    pub take-whole : takeRest bytes s r k (set states r k) (set (replicate maxBlocks 0) 0 first) (replicate maxBlocks 0) 1 ≡ taken bytes (startersOf s) first k states
     unfolding taken
     take-whole = rw (← index) (begun .left)
 
@@ -102,10 +103,10 @@ module _ {bytes : List ℕ} {s : Starters} {r k : ℕ} {whole states stack passe
       byte : t ≡ getD bytes (2 * block + j) none
       byte = index ∙ is
 
-      pub take-none : 64 ≤ t → TakeEdges bytes s r k whole states stack passed depth block (j + 1)
+      pub take-none : maxBlocks ≤ t → TakeEdges bytes s r k whole states stack passed depth block (j + 1)
       take-none h = record { listed = i .listed; number = i .number; own = i .own; on = passes-none (i .on) t byte more h }
 
-      module _ (l : t < 64) where
+      module _ (l : t < maxBlocks) where
         abbrev path : List ℕ
         path = block ∷ pathOf bytes stack passed (depth - 1)
 
@@ -131,11 +132,11 @@ module _ {bytes : List ℕ} {s : Starters} {r k : ℕ} {whole states stack passe
           not-none : k ≡ none → ⊥
           not-none f = let h = i .number in omega arith
 
-          pub take-room : depth < 64
+          pub take-room : depth < maxBlocks
           take-room = room (i .on) t byte more l e
 
           pub take-falls : {states₀ : List ℕ} {depth₀ : ℕ} → states ≡ states₀ → depth ≡ depth₀
-              → 2 * (64 - used none (set states t k)) + (depth + 1) < 2 * (64 - used none states₀) + depth₀
+              → 2 * (maxBlocks - used none (set states t k)) + (depth + 1) < 2 * (maxBlocks - used none states₀) + depth₀
           take-falls es ed = falls (i .on) t byte more l e k not-none es ed
 
           pub take-pushes : getD (s .marks) t 0 ≡ 0
@@ -155,18 +156,18 @@ module _ {bytes : List ℕ} {s : Starters} {r k : ℕ} {whole states stack passe
 
 pub record Populating (bytes : List ℕ) (s : Starters) (states : List ℕ) (k : ℕ) : Type 0 where
   pub number : k ≤ s .count
-  pub size : length states ≡ 64
+  pub size : length states ≡ maxBlocks
   pub left : takenFrom bytes (startersOf s) k (drop k (startersOf s)) states ≡ population bytes (startersOf s)
 
-pub populating-begins : (bytes : List ℕ) (s : Starters) → Populating bytes s (replicate 64 none) 0
+pub populating-begins : (bytes : List ℕ) (s : Starters) → Populating bytes s (replicate maxBlocks none) 0
 unfolding population
-populating-begins bytes s = record { number = omega arith; size = length-replicate 64 none; left = refl }
+populating-begins bytes s = record { number = omega arith; size = length-replicate maxBlocks none; left = refl }
 
 module _ (bytes : List ℕ) (s : Starters) (listed : Listed s) (states : List ℕ) (k : ℕ) (i : Populating bytes s states k) where
   size : length (startersOf s) ≡ s .count
   size = starters-length s listed
 
-  pub populating-on : k < s .count → (after : List ℕ) → length after ≡ 64 → after ≡ taken bytes (startersOf s) (getD (s .list) k 0) k states → Populating bytes s after (k + 1)
+  pub populating-on : k < s .count → (after : List ℕ) → length after ≡ maxBlocks → after ≡ taken bytes (startersOf s) (getD (s .list) k 0) k states → Populating bytes s after (k + 1)
   unfolding takenFrom
   populating-on l after m e =
       let d : drop k (startersOf s) ≡ getD (s .list) k 0 ∷ drop (suc k) (startersOf s) =

@@ -8,6 +8,7 @@ use native.Mathlib.Omega.{arith}
 use native.Mathlib.Decide.{decLt}
 use lib.ListN.{length, List·getD-eq-default}
 use Rattle.runs.proofs.Sets.{In}
+use Rattle.cfg.specs.Layout.{maxBlocks}
 use Rattle.cfg.specs.declared.Ending.{Ending}
 use Rattle.cfg.specs.declared.Ending.the-variants.{Goto, Ite, Halt}
 use Rattle.cfg.specs.Graph.{CFG, emptyBlock, blockOf, targets, successors}
@@ -17,7 +18,7 @@ use Rattle.cfg.proofs.Admitted.{ValidEnding, ValidGraph, valid-graph, admitted-
 -- what the grouping asks of a graph
 pub record Closed (g : CFG) : Type 0 where
   pub some-block : 0 < length (g .blocks)
-  pub few-blocks : length (g .blocks) ≤ 64
+  pub few-blocks : length (g .blocks) ≤ maxBlocks
   pub inside : (u v : ℕ) → In v (successors g u) → v < length (g .blocks)
 
 -- a block reached from block 0

@@ -9,13 +9,14 @@ use lib.Dec.{eqb}
 use lib.ListN.{length, getD, set, drop, replicate, length-set, getD-replicate}
 use lib.Seq.{length-take-le, take-suc-set, drop-set-lt, drop-drop, getD-set-same, getD-set-other}
 use borrow.Author.Tests.{eq-eqb, ne-eqb}
+use Rattle.cfg.specs.Layout.{maxBlocks}
 use Rattle.runs.specs.Lists.{mem}
 use Rattle.runs.proofs.Tests.{Compared, same, other, compared}
 use Rattle.grouping.specs.declared.Starters.{Starters}
 use Rattle.grouping.specs.Bytes.{Listed, startersOf, withStarter, used}
 use Rattle.grouping.proofs.Marks.{used-le, used-lt, used-set}
 
-pub entry-listed : Listed (record { count = 1; list = replicate 64 0; marks = set (replicate 64 0) 0 1 })
+pub entry-listed : Listed (record { count = 1; list = replicate maxBlocks 0; marks = set (replicate maxBlocks 0) 0 1 })
 unfolding used
 entry-listed =
     record {
@@ -27,19 +28,19 @@ entry-listed =
       rest = refl;
     }
   where
-    marked : (x : ℕ) → x < 64 → mem x (0 ∷ []) ≡ not (eqb (getD (set (replicate 64 0) 0 1) x 0) 0)
+    marked : (x : ℕ) → x < maxBlocks → mem x (0 ∷ []) ≡ not (eqb (getD (set (replicate maxBlocks 0) 0 1) x 0) 0)
     marked zero h = refl
     marked (suc x) h = go (compared (suc x) 0)
       where
-        go : Compared (suc x) 0 → (eqb (suc x) 0 || false) ≡ not (eqb (getD (replicate 63 0) x 0) 0)
+        go : Compared (suc x) 0 → (eqb (suc x) 0 || false) ≡ not (eqb (getD (replicate (maxBlocks - 1) 0) x 0) 0)
         go (same e p) = absurd (omega arith)
-        go (other e p) = rw (e, getD-replicate {A = ℕ} 63 x 0 0 (omega arith)) refl
+        go (other e p) = rw (e, getD-replicate {A = ℕ} (maxBlocks - 1) x 0 0 (omega arith)) refl
 
-    blocks : (k : ℕ) → k < 1 → getD (replicate 64 0) k 0 < 64
+    blocks : (k : ℕ) → k < 1 → getD (replicate maxBlocks 0) k 0 < maxBlocks
     blocks zero h = omega arith
     blocks (suc k) h = absurd (omega arith)
 
-pub starters-few : (s : Starters) → Listed s → s .count ≤ 64
+pub starters-few : (s : Starters) → Listed s → s .count ≤ maxBlocks
 starters-few s i = omega (arith, i .counted, i .marks-64, used-le 0 (s .marks))
 
 pub starters-length : (s : Starters) → Listed s → length (startersOf s) ≡ s .count
@@ -57,7 +58,7 @@ mem-snoc x y (z ∷ l) = ap (λ (b : Bool). eqb x z || b) (mem-snoc x y l) ∙ a
     assoc true b c = refl
     assoc false b c = refl
 
-module _ (s : Starters) (i : Listed s) (t : ℕ) (l : t < 64) where
+module _ (s : Starters) (i : Listed s) (t : ℕ) (l : t < maxBlocks) where
   marks-in : t < length (s .marks)
   marks-in = omega (arith, i .marks-64)
 
@@ -65,7 +66,7 @@ module _ (s : Starters) (i : Listed s) (t : ℕ) (l : t < 64) where
   with-known f = let e : mem t (startersOf s) ≡ true = i .marked t l ∙ ap not (ne-eqb (getD (s .marks) t 0) 0 f) in rw (e, withStarter)
 
   module _ (new : getD (s .marks) t 0 ≡ 0) where
-    pub with-room : s .count < 64
+    pub with-room : s .count < maxBlocks
     with-room = omega (arith, used-lt 0 (s .marks) t marks-in new, i .counted, i .marks-64)
 
     abbrev pub more : Starters
@@ -96,17 +97,17 @@ module _ (s : Starters) (i : Listed s) (t : ℕ) (l : t < 64) where
         or-no true = refl
         or-no false = refl
 
-        marked : (x : ℕ) → x < 64 → Compared x t → mem x (startersOf s) || eqb x t ≡ not (eqb (getD (set (s .marks) t 1) x 0) 0)
+        marked : (x : ℕ) → x < maxBlocks → Compared x t → mem x (startersOf s) || eqb x t ≡ not (eqb (getD (set (s .marks) t 1) x 0) 0)
         marked x h (same e p) = rw (e, p, getD-set-same (s .marks) t 1 0 marks-in) (or-yes (mem t (startersOf s)))
         marked x h (other e p) = rw (e, getD-set-other (s .marks) t x 1 0 p) (or-no (mem x (startersOf s)) ∙ i .marked x h)
 
-        blocks : (k : ℕ) → k < s .count + 1 → Compared k (s .count) → getD (set (s .list) (s .count) t) k 0 < 64
+        blocks : (k : ℕ) → k < s .count + 1 → Compared k (s .count) → getD (set (s .list) (s .count) t) k 0 < maxBlocks
         blocks k h (same e p) = rw (p, getD-set-same (s .list) (s .count) t 0 list-in) l
         blocks k h (other e p) = rw (getD-set-other (s .list) (s .count) k t 0 p) (i .blocks k (omega arith))
 
-        rest : drop (s .count + 1) (set (s .list) (s .count) t) ≡ replicate (64 - (s .count + 1)) 0
+        rest : drop (s .count + 1) (set (s .list) (s .count) t) ≡ replicate (maxBlocks - (s .count + 1)) 0
         rest =
-            let e : 64 - s .count ≡ suc (64 - (s .count + 1)) = omega (arith, with-room) in
+            let e : maxBlocks - s .count ≡ suc (maxBlocks - (s .count + 1)) = omega (arith, with-room) in
             drop-set-lt (s .count + 1) (s .list) (s .count) t (omega arith)
             ∙ sym (drop-drop 1 (s .count) (s .list))
             ∙ ap (drop 1) (i .rest ∙ ap (λ (k : ℕ). replicate k 0) e)

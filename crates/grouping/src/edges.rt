@@ -11,11 +11,14 @@ ghost use Rattle.cfg.specs.Table.{graphOf, admitted};
 ghost use Rattle.fsmd.specs.Layout.{none};
 ghost use Rattle.grouping.specs.Bytes.{edgesIn};
 
-// The byte at i, or 255 past the end.
+// The byte of no block and of no state.
+pub const NONE: u8 = 255;
+
+// The byte at i, or none past the end.
 pub fn at(bytes: &[u8], i: usize) -> u8
     ensures { λ r. ⌜ r ≡ getD (now (bytes .entry)) i none ⌝ }
 {
-    if i < bytes.len() { bytes[i] } else { 255 }
+    if i < bytes.len() { bytes[i] } else { NONE }
 }
 
 pub fn wide(x: u8) -> usize
@@ -24,11 +27,11 @@ pub fn wide(x: u8) -> usize
     x as usize
 }
 
-pub fn edges_of(table: &[u32]) -> [u8; 128]
+pub fn edges_of(table: &[u32]) -> [u8; 2 * Graph::BLOCKS]
     requires { ⌜ admitted (now table) ≡ true ⌝ }
     ensures { λ r. ⌜ ((n : ℕ) → edgesIn r n ≡ successors (graphOf (now (table .entry))) n) ⌝ }
 {
-    let mut edges = [255u8; 128];
+    let mut edges = [NONE; 2 * Graph::BLOCKS];
     let blocks = table[0] as usize;
     let mut n = 0;
     while n < blocks {

@@ -17,15 +17,15 @@ mod population; // population.rt: the blocks that each state takes
 // How many states there are, their starters in order and the state of each block.
 pub struct Grouping {
     pub count: usize,
-    pub starters: [u8; 64],
-    pub states: [u8; 64],
+    pub starters: [u8; Graph::BLOCKS],
+    pub states: [u8; Graph::BLOCKS],
 }
 
 // The starters in order, and a mark at each of them.
 struct Starters {
     pub count: usize,
-    pub list: [u8; 64],
-    pub marks: [u8; 64],
+    pub list: [u8; Graph::BLOCKS],
+    pub marks: [u8; Graph::BLOCKS],
 }
 
 // What detection finds: the target of an illegal edge, or none.

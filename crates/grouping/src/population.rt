@@ -16,7 +16,7 @@ fn take_state(edges: &[u8], starters: Starters, k: u8, states: &mut [u8])
     let number = edges::wide(k);
     let first = starters.list[number];
     let root = edges::wide(first);
-    if states[root] != 255 {
+    if states[root] != edges::NONE {
         return;
     }
     let mut stack = [0u8; Graph::BLOCKS];
@@ -32,7 +32,7 @@ fn take_state(edges: &[u8], starters: Starters, k: u8, states: &mut [u8])
             let t = edges::wide(to);
             j += 1;
             if t < Graph::BLOCKS {
-                if states[t] == 255 {
+                if states[t] == edges::NONE {
                     if starters.marks[t] == 0 {
                         passed[depth - 1] = j as u8;
                         states[t] = k;
@@ -49,11 +49,11 @@ fn take_state(edges: &[u8], starters: Starters, k: u8, states: &mut [u8])
 }
 
 // The state of each block, 255 where none has taken it.
-pub fn populate(edges: &[u8], starters: Starters) -> [u8; 64]
+pub fn populate(edges: &[u8], starters: Starters) -> [u8; Graph::BLOCKS]
     requires { ⌜ Listed starters ⌝ }
     ensures { λ r. ⌜ r ≡ population (now (edges .entry)) (startersOf starters) ⌝ }
 {
-    let mut states = [255u8; Graph::BLOCKS];
+    let mut states = [edges::NONE; Graph::BLOCKS];
     let mut k: u8 = 0;
     while edges::wide(k) < starters.count {
         take_state(edges, starters, k, &mut states);

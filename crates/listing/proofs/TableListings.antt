@@ -1,5 +1,5 @@
 -- The listing by a machine table's words is that of the machine whose table it is. Assumes nothing.
-use Prim.Native.Nat.{ℕ, zero, suc, _+_, _-_, _*_, _≤_, _<_}
+use Prim.Native.Nat.{ℕ, zero, suc, _+_, _-_, _≤_, _<_}
 use native.Mathlib.Omega.{arith}
 use mathlib.Core.Path.{_≡_, refl, ap, ap₂, _∙_}
 use mathlib.Core.Bool.{Bool, true, false}
@@ -10,7 +10,7 @@ use lib.Dec.{eqb}
 use borrow.Author.Tests.{ne-eqb}
 use Rattle.runs.specs.Lists.{upFrom, keep, only, padded, concatMap}
 use Rattle.runs.proofs.ListLaws.{padded-append, length-padded, getD-padded}
-use Rattle.fsmd.specs.Layout.{maxStates, maxBlocks, maxWires, recordWords, wireWords, startersOffset, blockStatesOffset, none}
+use Rattle.fsmd.specs.Layout.{maxStates, maxBlocks, allRecordWords, allWireWords, startersOffset, blockStatesOffset, none}
 use Rattle.fsmd.specs.Machine.{State, wireCount, FSMD, stateOf, emptyState}
 use Rattle.fsmd.specs.Table.{recordsOf, wiresOf, tableOf, wireCountAt}
 use Rattle.fsmd.proofs.WrittenTable.{wiresBefore, count-is, back-first, back-count, table-length}
@@ -70,8 +70,8 @@ module _ (m : FSMD) (rest : List ℕ) (f : MachineFits m) where
 
   abbrev behind : List ℕ
   behind =
-      (padded (maxStates * recordWords) 0 (recordsOf 0 (m .states))
-      ++ padded (maxWires * wireWords) 0 (wiresOf (m .states)))
+      (padded allRecordWords 0 (recordsOf 0 (m .states))
+      ++ padded allWireWords 0 (wiresOf (m .states)))
       ++ rest
 
   parts : table ≡ length (m .states) ∷ m .registers ∷ (starterWords ++ (blockWords ++ behind))

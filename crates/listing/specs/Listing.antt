@@ -15,6 +15,10 @@ use Rattle.synthesis.specs.Synthesis.{machine}
 use Rattle.listing.specs.declared.ListAnswer.{ListAnswer}
 use Rattle.listing.specs.declared.ListAnswer.the-variants.{Listed, Short}
 
+-- no listing is longer
+abbrev pub maxListing : ℕ
+maxListing = 4096
+
 -- fields parted by commas, then a line feed
 abbrev pub lineOf : List (List ℕ) → List ℕ
 lineOf fs = parted 44 fs ++ (10 ∷ [])

@@ -11,8 +11,11 @@ ghost use Prim.Native.Nat.{_≤_};
 ghost use lib.ListN.{length};
 ghost use Rattle.cfg.specs.Table.{graphOf, admitted};
 ghost use Rattle.synthesis.specs.Synthesis.{machine};
-ghost use Rattle.listing.specs.Listing.{machineListing, refusedLine, answerFor, outputFor, listing, listAnswer, listBytes};
+ghost use Rattle.listing.specs.Listing.{maxListing, machineListing, refusedLine, answerFor, outputFor, listing, listAnswer, listBytes};
 ghost use Rattle.listing.specs.Words.{tableListing, Listable};
+
+// The most bytes of a listing.
+pub const LONGEST: usize = 4096;
 
 pub enum ListAnswer {
     // The bytes of the listing.
@@ -23,7 +26,7 @@ pub enum ListAnswer {
 
 // Bytes into an output that may be too short for them.
 fn hand_over(new: &[u8], out: &mut [u8]) -> ListAnswer
-    requires { ⌜ length (now new) ≤ 4096 ⌝ }
+    requires { ⌜ length (now new) ≤ maxListing ⌝ }
     ensures { λ r. ⌜ r ≡ answerFor (now (new .entry)) (now (out .entry)) ⌝ }
     ensures { λ _. ⌜ now (out .exit) ≡ outputFor (now (new .entry)) (now (out .entry)) ⌝ }
 {
@@ -39,7 +42,7 @@ fn hand_over(new: &[u8], out: &mut [u8]) -> ListAnswer
 fn list_refusal(number: u32, line: u32, out: &mut [u8]) -> ListAnswer
     ensures { λ r. ⌜ r ≡ answerFor (refusedLine number line) (now (out .entry)) ⌝ }
     ensures { λ _. ⌜ now (out .exit) ≡ outputFor (refusedLine number line) (now (out .entry)) ⌝ }
-    ensures { λ _. ⌜ length (refusedLine number line) ≤ 4096 ⌝ }
+    ensures { λ _. ⌜ length (refusedLine number line) ≤ maxListing ⌝ }
 {
     let mut new = [0u8; 32];
     let n = lines::put_refused(&mut new, number, line);
@@ -51,9 +54,9 @@ fn list_machine(machine: &[u32], out: &mut [u8]) -> ListAnswer
     requires { ⌜ Listable (now machine) ⌝ }
     ensures { λ r. ⌜ r ≡ answerFor (tableListing (now (machine .entry))) (now (out .entry)) ⌝ }
     ensures { λ _. ⌜ now (out .exit) ≡ outputFor (tableListing (now (machine .entry))) (now (out .entry)) ⌝ }
-    ensures { λ _. ⌜ length (tableListing (now (machine .entry))) ≤ 4096 ⌝ }
+    ensures { λ _. ⌜ length (tableListing (now (machine .entry))) ≤ maxListing ⌝ }
 {
-    let mut new = [0u8; 4096];
+    let mut new = [0u8; LONGEST];
     let n = table::put_listing(machine, &mut new);
     hand_over(&new[..n], out)
 }
@@ -63,7 +66,7 @@ fn list_graph(graph: &[u32], out: &mut [u8]) -> ListAnswer
     requires { ⌜ admitted (now graph) ≡ true ⌝ }
     ensures { λ r. ⌜ r ≡ answerFor (machineListing (machine (graphOf (now (graph .entry))))) (now (out .entry)) ⌝ }
     ensures { λ _. ⌜ now (out .exit) ≡ outputFor (machineListing (machine (graphOf (now (graph .entry))))) (now (out .entry)) ⌝ }
-    ensures { λ _. ⌜ length (machineListing (machine (graphOf (now (graph .entry))))) ≤ 4096 ⌝ }
+    ensures { λ _. ⌜ length (machineListing (machine (graphOf (now (graph .entry))))) ≤ maxListing ⌝ }
 {
     let mut words = [0u32; Machine::WORDS];
     synthesis::table::synthesise(graph, &mut words);
@@ -74,7 +77,7 @@ fn list_graph(graph: &[u32], out: &mut [u8]) -> ListAnswer
 pub fn list(text: &[u8], out: &mut [u8]) -> ListAnswer
     ensures { λ r. ⌜ r ≡ listAnswer (now (text .entry)) (now (out .entry)) ⌝ }
     ensures { λ _. ⌜ now (out .exit) ≡ listBytes (now (text .entry)) (now (out .entry)) ⌝ }
-    ensures { λ _. ⌜ length (listing (now (text .entry))) ≤ 4096 ⌝ }
+    ensures { λ _. ⌜ length (listing (now (text .entry))) ≤ maxListing ⌝ }
 {
     let mut graph = [0u32; Graph::WORDS];
     let answer = cfg_text::read_text(text, &mut graph);

@@ -4,13 +4,15 @@ use fsmd::Machine;
 ghost use mathlib.Core.Path.{_≡_};
 ghost use Prim.Native.Nat.{_+_, _≤_, _<_};
 ghost use lib.ListN.{length, getD};
+ghost use Rattle.fsmd.specs.Layout.{maxBlocks};
 ghost use Rattle.fsmd.specs.Table.{wireCountAt};
 ghost use Rattle.cfg_write.specs.Put.{Put};
+ghost use Rattle.listing.specs.Listing.{maxListing};
 ghost use Rattle.listing.specs.Words.{occurrences, starterAt, blocksAt, wiresAt, stateLineAt, stateLinesAt, tableListing, Listable};
 
 // How often k stands in some words.
 fn count_of(words: &[u32], k: u32) -> u32
-    requires { ⌜ length (now words) ≤ 64 ⌝ }
+    requires { ⌜ length (now words) ≤ maxBlocks ⌝ }
     ensures { λ r. ⌜ r ≡ occurrences k (now (words .entry)) ⌝ }
 {
     let mut n: u32 = 0;
@@ -75,7 +77,7 @@ fn put_lines(machine: &[u32], out: &mut [u8], at: usize) -> usize
 // The whole listing of a machine table, from the start of the buffer on.
 pub fn put_listing(machine: &[u32], out: &mut [u8]) -> usize
     requires { ⌜ Listable (now machine) ⌝ }
-    ensures { λ r. ⌜ Put 4096 (now (out .entry)) (now (out .exit)) 0 (tableListing (now (machine .entry))) r ⌝ }
+    ensures { λ r. ⌜ Put maxListing (now (out .entry)) (now (out .exit)) 0 (tableListing (now (machine .entry))) r ⌝ }
 {
     let at = lines::put_head(out, machine[0], wires_of(machine));
     put_lines(machine, out, at)

@@ -12,7 +12,7 @@ use borrow.Author.Tests.{ne-eqb}
 use Rattle.runs.specs.Lists.{upFrom, mem, only, keep, every, first, padded}
 use Rattle.runs.proofs.ListLaws.{getD-padded, length-padded, length-upFrom}
 use Rattle.cfg.specs.Graph.{CFG, successors}
-use Rattle.fsmd.specs.Layout.{none}
+use Rattle.fsmd.specs.Layout.{maxBlocks, none}
 use Rattle.grouping.specs.Grouping.{Groups, groups}
 use Rattle.grouping.specs.Bytes.{edgesIn}
 use Rattle.grouping.proofs.Reach.{Closed}
@@ -60,7 +60,7 @@ module _ (g : CFG) (a : Closed g) (k : ℕ) (k-in : k < length (groups g .starte
   states-length : length (groups g .states) ≡ length (g .blocks)
   states-length = grouped g a .all-blocks
 
-  k-low : k < 64
+  k-low : k < maxBlocks
   k-low = let n = grouped g a .few-states in let b = a .few-blocks in omega arith
 
   outside : (x : ℕ) → length (g .blocks) ≤ x → ofState (groups g .states) k x ≡ false
@@ -74,11 +74,11 @@ module _ (g : CFG) (a : Closed g) (k : ℕ) (k-in : k < length (groups g .starte
   unfolding members
   members-alike =
       let b = a .few-blocks in
-      let n : 64 ≡ length (g .blocks) + (64 - length (g .blocks)) = omega arith in
+      let n : maxBlocks ≡ length (g .blocks) + (maxBlocks - length (g .blocks)) = omega arith in
       ap (λ (m : ℕ). only (ofState (groups g .states) k) (upFrom 0 m)) n
-      ∙ only-more (ofState (groups g .states) k) 0 (length (g .blocks)) (64 - length (g .blocks)) (λ x h. outside x (omega arith))
+      ∙ only-more (ofState (groups g .states) k) 0 (length (g .blocks)) (maxBlocks - length (g .blocks)) (λ x h. outside x (omega arith))
 
-  pub members-few : length (members g (groups g) k) ≤ 64
+  pub members-few : length (members g (groups g) k) ≤ maxBlocks
   unfolding members
   members-few =
       let l = only-length (ofState (groups g .states) k) (upFrom 0 (length (g .blocks))) in
@@ -86,8 +86,8 @@ module _ (g : CFG) (a : Closed g) (k : ℕ) (k-in : k < length (groups g .starte
       omega (arith, length-upFrom 0 (length (g .blocks)))
 
   pub placed-order : (edges starts : List ℕ) → ((n : ℕ) → edgesIn edges n ≡ successors g n)
-      → ((x : ℕ) → marked starts x ≡ mem x (groups g .starters)) → placeIn edges starts (membersIn (groups g .states) k) 64 [] ≡ order g (groups g) k
+      → ((x : ℕ) → marked starts x ≡ mem x (groups g .starters)) → placeIn edges starts (membersIn (groups g .states) k) maxBlocks [] ≡ order g (groups g) k
   placed-order edges starts e m =
-      ap (λ (l : List ℕ). placeIn edges starts l 64 []) members-alike
-      ∙ place-alike g (groups g) edges starts (members g (groups g) k) e m 64 []
-      ∙ order-turns g a k k-in 64 members-few
+      ap (λ (l : List ℕ). placeIn edges starts l maxBlocks []) members-alike
+      ∙ place-alike g (groups g) edges starts (members g (groups g) k) e m maxBlocks []
+      ∙ order-turns g a k k-in maxBlocks members-few

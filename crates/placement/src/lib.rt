@@ -1,5 +1,5 @@
 // The order in which the blocks of a state are placed.
-use fsmd::Machine;
+use cfg::Graph;
 use grouping::edges;
 ghost use mathlib.Core.Path.{_≡_};
 ghost use mathlib.Core.List.{[]};
@@ -13,7 +13,7 @@ ghost use Rattle.placement.specs.PlacementBytes.{marked, ofState, member
 // The first `count` are the blocks in order.
 pub struct Order {
     pub count: usize,
-    pub blocks: [u8; 64],
+    pub blocks: [u8; Graph::BLOCKS],
 }
 
 // Whether a mark stands at x; none does past the end.
@@ -40,11 +40,11 @@ fn leads(edges: &[u8], u: usize, x: u8) -> bool
 }
 
 // A mark at each block of state k.
-fn members(states: &[u8], k: u8) -> [u8; 64]
+fn members(states: &[u8], k: u8) -> [u8; Graph::BLOCKS]
     requires { ⌜ (length (now states) ≤ maxBlocks) × (k < maxBlocks) ⌝ }
     ensures { λ r. ⌜ (length r ≡ maxBlocks) × ((x : ℕ) → marked r x ≡ ofState (now (states .entry)) k x) ⌝ }
 {
-    let mut marks = [0u8; 64];
+    let mut marks = [0u8; Graph::BLOCKS];
     let mut x: usize = 0;
     while x < states.len() {
         if states[x] == k {
@@ -74,7 +74,7 @@ fn is_freed(edges: &[u8], left: &[u8], x: u8) -> bool
 {
     let mut free = true;
     let mut u: usize = 0;
-    while u < Machine::STATES {
+    while u < Graph::BLOCKS {
         if holds_back(edges, left, x, u) {
             free = false;
         }
@@ -100,18 +100,21 @@ fn due(edges: &[u8], starts: &[u8], left: &[u8], x: u8) -> bool
     }
 }
 
+// A number that no block has.
+const PAST: u8 = Graph::BLOCKS as u8;
+
 // The lowest-numbered block that is to be placed next, or 64.
 fn next(edges: &[u8], starts: &[u8], left: &[u8]) -> u8
     ensures { λ r. ⌜ r ≡ nextDue (now (edges .entry)) (now (starts .entry)) (now (left .entry)) ⌝ }
 {
     let mut x: u8 = 0;
-    while x < 64 {
+    while x < PAST {
         if due(edges, starts, left, x) {
             return x;
         }
         x += 1;
     }
-    64
+    PAST
 }
 
 // The blocks of state k, always the lowest-numbered that is ready.
@@ -120,11 +123,11 @@ pub fn place(edges: &[u8], states: &[u8], starts: &[u8], k: u8) -> Order
     ensures { λ r. ⌜ (r .count ≤ maxBlocks) × (length (r .blocks) ≡ maxBlocks) × (take (r .count) (r .blocks) ≡ placeIn (now (edges .entry)) (now (starts .entry)) (membersIn (now (states .entry)) k) maxBlocks []) ⌝ }
 {
     let mut left = members(states, k);
-    let mut blocks = [0u8; 64];
+    let mut blocks = [0u8; Graph::BLOCKS];
     let mut count: usize = 0;
-    while count < Machine::STATES {
+    while count < Graph::BLOCKS {
         let x = next(edges, starts, &left);
-        if 64 <= x {
+        if PAST <= x {
             break;
         }
         left[edges::wide(x)] = 0;

@@ -86,7 +86,7 @@ fn run_both(s: &[u8], c: Case, graph: &[u32], machine: &[u32], line: &mut [u32])
 
 // The listing's bytes are the first of the output, as many as the answer says.
 fn list(text: &[u8], line: &mut [u32]) {
-    let mut out = [0u8; 4096];
+    let mut out = [0u8; listing::LONGEST];
     let answer = listing::list(text, &mut out);
     let ListAnswer::Listed(length) = answer else {
         return;

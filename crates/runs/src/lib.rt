@@ -4,6 +4,7 @@ ghost use mathlib.Core.Path.{_≡_};
 ghost use mathlib.Core.List.{_++_};
 ghost use Prim.Native.Nat.{_≤_};
 ghost use lib.ListN.{length, take, drop};
+ghost use Rattle.word.specs.RegisterFile.{fileWords};
 
 pub enum RunAnswer {
     // The refusal's number.
@@ -16,10 +17,10 @@ pub enum RunAnswer {
 
 // The first 16 words of a buffer.
 pub fn load(buffer: &[u32]) -> Registers
-    requires { ⌜ 16 ≤ length (now buffer) ⌝ }
-    ensures { λ r. ⌜ r .words ≡ take 16 (now (buffer .entry)) ⌝ }
+    requires { ⌜ fileWords ≤ length (now buffer) ⌝ }
+    ensures { λ r. ⌜ r .words ≡ take fileWords (now (buffer .entry)) ⌝ }
 {
-    let mut words = [0u32; 16];
+    let mut words = [0u32; Registers::COUNT];
     let mut i = 0;
     while i < Registers::COUNT {
         words[i] = buffer[i];
@@ -30,8 +31,8 @@ pub fn load(buffer: &[u32]) -> Registers
 
 // The file's words as the first 16 of a buffer; the others stay.
 pub fn store(buffer: &mut [u32], file: Registers)
-    requires { ⌜ 16 ≤ length (now buffer) ⌝ }
-    ensures { λ r. ⌜ now (buffer .exit) ≡ file .words ++ drop 16 (now (buffer .entry)) ⌝ }
+    requires { ⌜ fileWords ≤ length (now buffer) ⌝ }
+    ensures { λ r. ⌜ now (buffer .exit) ≡ file .words ++ drop fileWords (now (buffer .entry)) ⌝ }
 {
     let mut i = 0;
     while i < Registers::COUNT {

@@ -16,7 +16,7 @@ use Rattle.cfg.specs.Layout.{maxInstructions, blockOffset, graphWords}
 use Rattle.cfg.specs.Graph.{codeOf}
 use Rattle.cfg.specs.Table.{blockAt}
 use Rattle.fsmd.specs.declared.Wire.{Wire}
-use Rattle.fsmd.specs.Layout.{maxStates, maxBlocks, maxWires, wireWords, none}
+use Rattle.fsmd.specs.Layout.{maxStates, maxBlocks, maxRegisters, maxWires, wireWords, none}
 use Rattle.fsmd.specs.Table.{wireWordsOf}
 use Rattle.grouping.specs.Grouping.{Groups}
 use Rattle.state.specs.Wires.{wire, set-wire, select-wire, Edge, Point, Build, fresh, selects, leadsTo, towards, enter, assigns, close, after}
@@ -68,10 +68,10 @@ abbrev pub edgeTo : ℕ → ℕ → List ℕ → Edge
 edgeTo target taken values = record { target = placeOf target; taken = taken; values = values }
 
 abbrev pub maxEdges : ℕ
-maxEdges = 128
+maxEdges = 2 * maxBlocks
 
 abbrev pub rowWords : ℕ
-rowWords = 17
+rowWords = 1 + maxRegisters
 
 -- edge i, where a state has r registers
 unfoldable pub edgeIn : ℕ → List ℕ → List ℕ → ℕ → Edge

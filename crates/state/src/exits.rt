@@ -5,6 +5,7 @@ use crate::Progress;
 use crate::edges;
 use crate::groups;
 use crate::wires;
+use fsmd::Machine;
 ghost use mathlib.Core.Path.{_≡_};
 ghost use mathlib.Core.List.{List, [], _∷_};
 ghost use Prim.Native.Nat.{_+_, _-_, _*_, _≤_, _<_};
@@ -28,7 +29,7 @@ fn next_state(starters: &[u8], states: &[u8], target: u32) -> u32
     ensures { λ r. ⌜ r ≡ nextStateOf (groupsIn (now (starters .entry)) (now (states .entry))) (placeOf target) ⌝ }
 {
     if target == Progress::HALT {
-        return 255;
+        return Machine::NONE;
     }
     groups::entry(states, target)
 }

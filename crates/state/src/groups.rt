@@ -1,4 +1,5 @@
 // The groups of a graph's blocks: which blocks are starters, and which state a block has.
+use fsmd::Machine;
 ghost use mathlib.Core.Path.{_≡_};
 ghost use Prim.Native.Nat.{_≤_, _<_};
 ghost use lib.ListN.{length, getD};
@@ -17,7 +18,11 @@ pub fn entry(list: &[u8], i: u32) -> u32
     ensures { λ r. ⌜ r ≡ getD (now (list .entry)) i none ⌝ }
 {
     let at = i as usize;
-    if at < list.len() { wide(list[at]) } else { 255 }
+    if at < list.len() {
+        wide(list[at])
+    } else {
+        Machine::NONE
+    }
 }
 
 // A block is a starter where it is its own state's.

@@ -6,11 +6,13 @@ pub mod groups; // groups.rt: starters and states of blocks
 pub mod joins; // joins.rt: how a block's arrival and values come about
 pub mod wires; // wires.rt: one wire, the selections of a join
 
+use cfg::Graph;
+use fsmd::Machine;
 ghost use mathlib.Core.Path.{_≡_};
 ghost use Prim.Native.Nat.{_*_, _≤_};
 ghost use lib.ListN.{length, take};
 ghost use Rattle.fsmd.specs.Layout.{maxRegisters};
-ghost use Rattle.state.specs.Making.{Room, Held, Edged, Built, Grouped};
+ghost use Rattle.state.specs.Making.{maxEdges, Room, Held, Edged, Built, Grouped};
 ghost use Rattle.state.specs.BlocksMaking.{buildBlocks, nothing, AllPlaceable, stateBlocks};
 
 // A block in the making: the reference of its arrival, and how many wires its state has so far.
@@ -34,13 +36,13 @@ pub struct Exit {
 
 impl Progress {
     // The most edges of a state, and the words of an edge beside its target: its taken reference and its values.
-    pub const EDGES: usize = 128;
+    pub const EDGES: usize = 2 * Graph::BLOCKS;
 
-    pub const ROW: usize = 17;
+    pub const ROW: usize = 1 + Machine::REGISTERS;
     // The target of an edge that is used up, and of a halt.
     pub const USED: u32 = 254;
 
-    pub const HALT: u32 = 255;
+    pub const HALT: u32 = Machine::NONE;
 }
 
 fn wide(x: u8) -> u32
@@ -66,7 +68,7 @@ fn place_all(
     requires { ⌜ length (now values) ≤ maxRegisters ⌝ }
     requires { ⌜ Room (length (buildBlocks (length (now values)) (now graph) (now starters) (now order) nothing .wires)) (now wires) ⌝ }
     ensures { λ r. ⌜ Built (buildBlocks (length (now (values .entry))) (now (graph .entry)) (now (starters .entry)) (now (order .entry)) nothing) (now (wires .entry)) (length (now (values .entry))) (now (targets .exit)) (now (rows .exit)) (r .edges) (r .wires) (now (wires .exit)) ⌝ }
-    ensures { λ r. ⌜ r .edges ≤ 128 ⌝ }
+    ensures { λ r. ⌜ r .edges ≤ maxEdges ⌝ }
 {
     let mut made = Progress { edges: 0, wires: 0 };
     let mut i = 0;

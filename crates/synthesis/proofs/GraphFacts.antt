@@ -9,6 +9,7 @@ use lib.ListN.{length, getD, take, length-take, List·getD-eq-default}
 use lib.Seq.{getD-take}
 use lib.Dec.{leb}
 use borrow.Author.Tests.{leb-true}
+use Rattle.fsmd.specs.Layout.{maxBlocks, maxRegisters}
 use Rattle.word.specs.Word.{arities, arity}
 use Rattle.runs.specs.Lists.{every}
 use Rattle.runs.proofs.ListLaws.{and-left, and-right}
@@ -36,9 +37,9 @@ pub record BlockFits (R : ℕ) (b : Block) : Type 0 where
 
 pub record GraphFits (g : CFG) : Type 0 where
   pub someBlock : 1 ≤ length (g .blocks)
-  pub fewBlocks : length (g .blocks) ≤ 64
+  pub fewBlocks : length (g .blocks) ≤ maxBlocks
   pub someRegister : 1 ≤ g .registers
-  pub fewRegisters : g .registers ≤ 16
+  pub fewRegisters : g .registers ≤ maxRegisters
   pub block : (n : ℕ) → BlockFits (g .registers) (blockOf g n)
 
 valid-code : (R : ℕ) (is : List Instruction) → ((k : ℕ) → k < length is → ValidInstruction R (getD is k noInstruction)) → ValidCode R is

@@ -11,7 +11,7 @@ use Rattle.runs.specs.Lists.{upFrom, padded}
 use Rattle.runs.proofs.ListLaws.{padded-append, length-upFrom}
 use Rattle.cfg.specs.Table.{graphOf, admitted}
 use Rattle.cfg.proofs.Admitted.{ValidGraph, valid-graph, admitted-halves}
-use Rattle.fsmd.specs.Layout.{none}
+use Rattle.fsmd.specs.Layout.{maxStates, maxBlocks, maxWires, allRecordWords, allWireWords, recordsOffset, machineWords, none}
 use Rattle.fsmd.specs.Machine.{State, wireCount}
 use Rattle.fsmd.specs.Table.{recordsOf, wiresOf, tableOf}
 use Rattle.grouping.specs.Grouping.{groups}
@@ -68,7 +68,7 @@ module _ (t : List ℕ) (a : admitted t ≡ true) where
   all-first = refl
 
   -- the wires of the first states fit
-  pub first-room : (k : ℕ) → k < length (groups (graphOf t) .starters) → wireCount (firstStates t k) + length (nth t k .wires) ≤ 3072
+  pub first-room : (k : ℕ) → k < length (groups (graphOf t) .starters) → wireCount (firstStates t k) + length (nth t k .wires) ≤ maxWires
   first-room k h =
       let n = length (groups (graphOf t) .starters) in
       let e : k + 1 + (n - (k + 1)) ≡ n = omega arith in
@@ -80,7 +80,7 @@ module _ (t : List ℕ) (a : admitted t ≡ true) where
       omega arith
 
   pub machine-table : (n r : ℕ) → n ≡ length (groups (graphOf t) .starters) → r ≡ graphOf t .registers
-      → withStates (n ∷ r ∷ (padded 64 0 (groups (graphOf t) .starters) ++ padded 64 none (groups (graphOf t) .states))) (firstStates t n) ≡ tableOf (machine (graphOf t))
+      → withStates (n ∷ r ∷ (padded maxStates 0 (groups (graphOf t) .starters) ++ padded maxBlocks none (groups (graphOf t) .states))) (firstStates t n) ≡ tableOf (machine (graphOf t))
   unfolding withStates tableOf machine machineFor firstStates wiresOf
   machine-table n r e f =
       let g = graphOf t in
@@ -88,30 +88,30 @@ module _ (t : List ℕ) (a : admitted t ≡ true) where
       let l : length (map (stateOf g s) (upFrom 0 (length (s .starters)))) ≡ length (s .starters) = length-map (upFrom 0 (length (s .starters))) (stateOf g s) ∙ length-upFrom 0 (length (s .starters)) in
       rw (e, f, l)
       (ap (λ (x : List ℕ). length (s .starters) ∷ g .registers ∷ x)
-      (append-assoc (padded 64 0 (s .starters)) (padded 64 none (s .states))
-      (padded 1216 0 (recordsOf 0 (map (stateOf g s) (upFrom 0 (length (s .starters))))) ++ padded 12288 0 (wiresOf (map (stateOf g s) (upFrom 0 (length (s .starters))))))))
+      (append-assoc (padded maxStates 0 (s .starters)) (padded maxBlocks none (s .states))
+      (padded allRecordWords 0 (recordsOf 0 (map (stateOf g s) (upFrom 0 (length (s .starters))))) ++ padded allWireWords 0 (wiresOf (map (stateOf g s) (upFrom 0 (length (s .starters))))))))
 
 -- ---- filling
 
-head-kept : (h t : List ℕ) (qs : List State) → length h ≡ 130 → t ≡ withStates h qs → take 130 t ≡ h
+head-kept : (h t : List ℕ) (qs : List State) → length h ≡ recordsOffset → t ≡ withStates h qs → take recordsOffset t ≡ h
 unfolding withStates
-head-kept h t qs e f = ap (take 130) f ∙ take-at h (padded 1216 0 (recordsOf 0 qs) ++ padded 12288 0 (wiresOf qs)) 130 e
+head-kept h t qs e f = ap (take recordsOffset) f ∙ take-at h (padded allRecordWords 0 (recordsOf 0 qs) ++ padded allWireWords 0 (wiresOf qs)) recordsOffset e
 
 none-counted : wireCount [] ≡ 0
 unfolding wireCount
 none-counted = refl
 
-pub filled-none : (t table h : List ℕ) → length table ≡ 13634 → length h ≡ 130 → table ≡ withStates h [] → Filled t table 0 0 × (take 130 table ≡ h)
+pub filled-none : (t table h : List ℕ) → length table ≡ machineWords → length h ≡ recordsOffset → table ≡ withStates h [] → Filled t table 0 0 × (take recordsOffset table ≡ h)
 filled-none t table h l e f =
     let k = head-kept h table [] e f in (
-      record { all = l; words = f ∙ ap (λ (x : List ℕ). withStates x []) (sym k) ∙ ap (withStates (take 130 table)) (sym (first-none t)); passed = sym (ap wireCount (first-none t) ∙ none-counted) },
+      record { all = l; words = f ∙ ap (λ (x : List ℕ). withStates x []) (sym k) ∙ ap (withStates (take recordsOffset table)) (sym (first-none t)); passed = sym (ap wireCount (first-none t) ∙ none-counted) },
       k,
     )
 
 pub filled-on : (t table : List ℕ) (k first : ℕ) → Filled t table k first → (last : List ℕ) (r : ℕ) → length last ≡ length table
-    → last ≡ withStates (take 130 table) (firstStates t (k + 1)) → r ≡ wireCount (firstStates t (k + 1)) → Filled t last (k + 1) r × (take 130 last ≡ take 130 table)
+    → last ≡ withStates (take recordsOffset table) (firstStates t (k + 1)) → r ≡ wireCount (firstStates t (k + 1)) → Filled t last (k + 1) r × (take recordsOffset last ≡ take recordsOffset table)
 filled-on t table k first f last r l e g =
-    let h = head-kept (take 130 table) last (firstStates t (k + 1)) (length-take-le 130 table (omega (arith, f .all))) e in (
+    let h = head-kept (take recordsOffset table) last (firstStates t (k + 1)) (length-take-le recordsOffset table (omega (arith, f .all))) e in (
       record { all = l ∙ f .all; words = e ∙ ap (λ (x : List ℕ). withStates x (firstStates t (k + 1))) (sym h); passed = g },
       h,
     )
@@ -123,11 +123,11 @@ module _ (t : List ℕ) where
   unfolding groupingOf
   grouping-count = refl
 
-  pub grouping-starters : groupingOf t .starters ≡ padded 64 0 (groups (graphOf t) .starters)
+  pub grouping-starters : groupingOf t .starters ≡ padded maxStates 0 (groups (graphOf t) .starters)
   unfolding groupingOf
   grouping-starters = refl
 
-  pub grouping-states : groupingOf t .states ≡ padded 64 none (groups (graphOf t) .states)
+  pub grouping-states : groupingOf t .states ≡ padded maxBlocks none (groups (graphOf t) .states)
   unfolding groupingOf
   grouping-states = refl
 

@@ -15,6 +15,7 @@ use Rattle.runs.specs.Runs.{Place, standing, halted, Configuration}
 use Rattle.cfg.specs.declared.Ending.{Ending}
 use Rattle.cfg.specs.declared.Ending.the-variants.{Goto, Ite, Halt}
 use Rattle.cfg.specs.Graph.{CFG, blockOf, codeOf, targets, successors, executeAll, holds, leave, runBlock}
+use Rattle.fsmd.specs.Layout.{maxRegisters}
 use Rattle.fsmd.specs.Machine.{State, worked}
 use Rattle.grouping.specs.Grouping.{Groups}
 use Rattle.placement.specs.Placement.{order}
@@ -93,7 +94,7 @@ module _ (g : CFG) (s : Groups) where
 abbrev none-built : Build
 none-built = record { wires = []; edges = [] }
 
-module _ (g : CFG) (s : Groups) (rs : List ℕ) (size : length rs ≡ 16) (f : GraphFits g) (b₀ : ℕ) where
+module _ (g : CFG) (s : Groups) (rs : List ℕ) (size : length rs ≡ maxRegisters) (f : GraphFits g) (b₀ : ℕ) where
   first-token : (xs : List ℕ) → mem b₀ (s .starters) ≡ true → Ahead (s .starters) xs (successors g b₀) → Token g s rs b₀ xs (put g s b₀ none-built) 1
   unfolding start runBlock
   first-token xs h a =
@@ -193,7 +194,7 @@ state-is : (g : CFG) (s : Groups) (k : ℕ) (xs : List ℕ) → order g s k ≡ 
 unfolding stateOf
 state-is g s k xs h = rw h
 
-pub cycle-agrees : (g : CFG) (s : Groups) (rs : List ℕ) → length rs ≡ 16 → GraphFits g → (k b : ℕ) → StateOrder g s k b → CycleAgrees g s rs k b
+pub cycle-agrees : (g : CFG) (s : Groups) (rs : List ℕ) → length rs ≡ maxRegisters → GraphFits g → (k b : ℕ) → StateOrder g s k b → CycleAgrees g s rs k b
 unfolding build
 cycle-agrees g s rs size f k b h =
     let R = g .registers in

@@ -11,6 +11,7 @@ use Rattle.runs.specs.Lists.{upFrom}
 use Rattle.cfg.specs.declared.Instruction.{Instruction}
 use Rattle.cfg.specs.declared.Condition.{Condition}
 use Rattle.cfg.specs.Graph.{valueOf, execute, holds}
+use Rattle.fsmd.specs.Layout.{maxRegisters}
 use Rattle.fsmd.specs.declared.Wire.{Wire}
 use Rattle.fsmd.specs.Machine.{wireValue, worked}
 use Rattle.state.specs.Wires.{wire, set-wire, and-wire, or-wire, and-not-wire, select-wire, selects, Edge, Point, fresh, join, instructionWire, assign}
@@ -164,11 +165,11 @@ module _ {R : ℕ} {high : List ℕ} where
 abbrev pub PointReads : (rs : List ℕ) (R : ℕ) → Point → ℕ → List ℕ → Type 0
 PointReads rs R p v q = Reads R (drop R rs) (worked rs (p .wires)) (p .arrival) (p .values) v q
 
-module _ (rs : List ℕ) (size : length rs ≡ 16) where
+module _ (rs : List ℕ) (size : length rs ≡ maxRegisters) where
   pub fresh-is : (ws : List Wire) → fresh ws ≡ length (worked rs ws)
   fresh-is ws = omega (arith, length-worked rs ws)
 
-module _ (rs : List ℕ) (size : length rs ≡ 16) (R : ℕ) where
+module _ (rs : List ℕ) (size : length rs ≡ maxRegisters) (R : ℕ) where
   pub assign-reads : (i : Instruction) (p : Point) {v : ℕ} {q : List ℕ} → ValidInstruction R i → PointReads rs R p v q → PointReads rs R (assign i p) v (execute i q)
   unfolding assign
   assign-reads i p f l = rw (worked-append rs (p .wires), fresh-is rs size (p .wires)) (reads-execute (worked rs (p .wires)) i f l)
@@ -183,7 +184,7 @@ module _ (rs : List ℕ) (size : length rs ≡ 16) (R : ℕ) where
       (or-value (at (worked rs (p .wires))) (p .arrival) (e .taken) s b (l .reads) (m .reads)) l m)
 
   -- the point of a `set` and the start values
-  pub start-reads : (ws : List Wire) (k : ℕ) → R ≤ 16 → Reads R (drop R rs) (worked rs (ws ++ (set-wire k ∷ []))) (fresh ws) (upFrom 0 R) k rs
+  pub start-reads : (ws : List Wire) (k : ℕ) → R ≤ maxRegisters → Reads R (drop R rs) (worked rs (ws ++ (set-wire k ∷ []))) (fresh ws) (upFrom 0 R) k rs
   start-reads ws k h =
       let E = worked rs ws in
       let base : Reads R (drop R rs) rs 0 (upFrom 0 R) (at rs 0) rs = record {

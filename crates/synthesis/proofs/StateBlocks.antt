@@ -16,7 +16,7 @@ use Rattle.cfg.specs.Layout.{blockOffset}
 use Rattle.cfg.specs.Graph.{CFG}
 use Rattle.cfg.specs.Table.{blockAt, graphOf, admitted}
 use Rattle.cfg.proofs.Admitted.{Admitted, admitted-facts, ValidEnding, block-below, registers-are, blocks-length}
-use Rattle.fsmd.specs.Layout.{none}
+use Rattle.fsmd.specs.Layout.{maxBlocks, none}
 use Rattle.fsmd.specs.Machine.{State}
 use Rattle.grouping.specs.Grouping.{Groups, groups}
 use Rattle.grouping.proofs.Reach.{Closed, admitted-closed}
@@ -50,7 +50,7 @@ module _ (t : List ℕ) (s : Groups) where
   unfolding stateBlocks stateOf
   state-alike k f = rw (build-alike (order (graphOf t) s k) f nothing) refl
 
-aims : (b r : ℕ) (e : Ending) → b ≤ 64 → ValidEnding b r e → Aims e
+aims : (b r : ℕ) (e : Ending) → b ≤ maxBlocks → ValidEnding b r e → Aims e
 aims b r (Goto t) h v = omega arith
 aims b r (Ite c t f) h v = (omega (arith, v .holds), omega (arith, v .fails))
 aims b r Halt h v = tt

@@ -8,8 +8,10 @@ use lib.ListN.{length, getD, take, drop, replicate, length-drop, drop-of-length-
 use lib.Seq.{take-all, length-take-le, drop-drop}
 use Rattle.runs.specs.Lists.{padded, concatMap}
 use Rattle.runs.proofs.ListLaws.{padded-append}
+use Rattle.cfg.specs.Layout.{graphWords}
 use Rattle.cfg.specs.Table.{graphOf, admitted}
 use Rattle.cfg.proofs.Admitted.{admitted-facts, valid-graph, admitted-halves, registers-are}
+use Rattle.fsmd.specs.Layout.{maxStates, maxRegisters, maxWires, wireWords, recordsOffset, recordOffset, wireOffset, none}
 use Rattle.fsmd.specs.declared.Wire.{Wire}
 use Rattle.fsmd.specs.Machine.{State, wireCount}
 use Rattle.fsmd.specs.Table.{wireWordsOf, recordOf}
@@ -43,49 +45,49 @@ module _ (q : State) (old new : List ℕ) (next : ℕ) (values : List ℕ) (n : 
   its-words : (table : List ℕ) (at : ℕ) → old ≡ drop at table → take at table ++ new ≡ written at (concatMap wireWordsOf (q .wires)) table
   unfolding stored
   its-words table at e =
-      let w : new ≡ concatMap wireWordsOf (q .wires) ++ drop (4 * length (q .wires)) old = h .rest ∙ ap (λ (ws : List Wire). stored ws old) its-wires in
-      let m : 4 * length (q .wires) ≡ length (concatMap wireWordsOf (q .wires)) = sym (length-wordsOf (q .wires)) in
-      ap (λ (l : List ℕ). take at table ++ l) (w ∙ ap (λ (l : List ℕ). concatMap wireWordsOf (q .wires) ++ l) (ap (λ (l : List ℕ). drop (4 * length (q .wires)) l) e ∙ drop-drop (4 * length (q .wires)) at table ∙ ap (λ (i : ℕ). drop (at + i) table) m))
+      let w : new ≡ concatMap wireWordsOf (q .wires) ++ drop (wireWords * length (q .wires)) old = h .rest ∙ ap (λ (ws : List Wire). stored ws old) its-wires in
+      let m : wireWords * length (q .wires) ≡ length (concatMap wireWordsOf (q .wires)) = sym (length-wordsOf (q .wires)) in
+      ap (λ (l : List ℕ). take at table ++ l) (w ∙ ap (λ (l : List ℕ). concatMap wireWordsOf (q .wires) ++ l) (ap (λ (l : List ℕ). drop (wireWords * length (q .wires)) l) e ∙ drop-drop (wireWords * length (q .wires)) at table ∙ ap (λ (i : ℕ). drop (at + i) table) m))
 
 -- registers behind which the rest of the 16 is 0
-pub registers-padded : (r : ℕ) (values rest regs : List ℕ) (m : ℕ) → length values ≡ r → r ≤ 16 → m ≤ r → length regs ≡ r → take m values ≡ regs → rest ≡ replicate (16 - r) 0 → values ++ rest ≡ padded 16 0 regs
+pub registers-padded : (r : ℕ) (values rest regs : List ℕ) (m : ℕ) → length values ≡ r → r ≤ maxRegisters → m ≤ r → length regs ≡ r → take m values ≡ regs → rest ≡ replicate (maxRegisters - r) 0 → values ++ rest ≡ padded maxRegisters 0 regs
 registers-padded r values rest regs m l h k e t z =
     let f : m ≡ r = let c = ap length t in let d = length-take-le m values (omega arith) in omega arith in
     let v : values ≡ regs = sym (take-all m values (omega arith)) ∙ t in
-    let n : 16 - r ≡ 16 - length regs = omega arith in
-    ap (λ (x : List ℕ). x ++ rest) v ∙ ap (λ (x : List ℕ). regs ++ x) (z ∙ ap (λ (i : ℕ). replicate {A = ℕ} i 0) n) ∙ sym (padded-append 16 0 regs (omega arith))
+    let n : maxRegisters - r ≡ maxRegisters - length regs = omega arith in
+    ap (λ (x : List ℕ). x ++ rest) v ∙ ap (λ (x : List ℕ). regs ++ x) (z ∙ ap (λ (i : ℕ). replicate {A = ℕ} i 0) n) ∙ sym (padded-append maxRegisters 0 regs (omega arith))
 
 module _ (t : List ℕ) (a : admitted t ≡ true) (table : List ℕ) (k first : ℕ) (f : Filled t table k first) (below : k < length (groups (graphOf t) .starters)) where
-  pub put-room : first + length (nth t k .wires) ≤ 3072
+  pub put-room : first + length (nth t k .wires) ≤ maxWires
   put-room = let r = first-room t a k below in let p = f .passed in omega arith
 
   pub put-registers : length (nth t k .nextRegisters) ≡ getD t 1 0
   put-registers = made-valid (graphOf t) (valid-graph (graphOf t) (admitted-halves t a .0)) k below .registers ∙ registers-are t
 
-  module _ (new : List ℕ) (next : ℕ) (values : List ℕ) (n : ℕ) (h : Held (pointOf (nth t k)) (drop (1346 + 4 * first) table) next values n new) where
+  module _ (new : List ℕ) (next : ℕ) (values : List ℕ) (n : ℕ) (h : Held (pointOf (nth t k)) (drop (wireOffset first) table) next values n new) where
     pub put-next : first + n ≡ wireCount (firstStates t (k + 1))
-    put-next = let c = first-count t k in let e = its-count (nth t k) (drop (1346 + 4 * first) table) new next values n h in let p = f .passed in omega arith
+    put-next = let c = first-count t k in let e = its-count (nth t k) (drop (wireOffset first) table) new next values n h in let p = f .passed in omega arith
 
-    pub put-words : (sixteen : List ℕ) → sixteen ≡ padded 16 0 (nth t k .nextRegisters)
-        → written (130 + 19 * k) (first ∷ n ∷ next ∷ sixteen) (take (1346 + 4 * first) table ++ new) ≡ withStates (take 130 table) (firstStates t (k + 1))
+    pub put-words : (sixteen : List ℕ) → sixteen ≡ padded maxRegisters 0 (nth t k .nextRegisters)
+        → written (recordOffset k) (first ∷ n ∷ next ∷ sixteen) (take (wireOffset first) table ++ new) ≡ withStates (take recordsOffset table) (firstStates t (k + 1))
     put-words sixteen e =
         let q = nth t k in
-        let old = drop (1346 + 4 * first) table in
+        let old = drop (wireOffset first) table in
         let l = first-length t k in
         let c = admitted-closed t a in
         let s = grouped (graphOf t) c .few-states in
         let b = c .few-blocks in
-        let few : length (firstStates t k) < 64 = omega arith in
-        let room : wireCount (firstStates t k) + length (q .wires) ≤ 3072 = first-room t a k below in
-        let h-130 : length (take 130 table) ≡ 130 = length-take-le 130 table (omega (arith, f .all)) in
-        ap (λ (x : List ℕ). written (130 + 19 * k) (first ∷ n ∷ next ∷ x) (take (1346 + 4 * first) table ++ new)) e
-        ∙ ap (λ (x : List ℕ). written (130 + 19 * k) (first ∷ n ∷ next ∷ padded 16 0 (q .nextRegisters)) x) (its-words q old new next values n h table (1346 + 4 * first) refl)
-        ∙ ap (λ (i : ℕ). written (130 + 19 * k) (first ∷ i ∷ next ∷ padded 16 0 (q .nextRegisters)) (written (1346 + 4 * first) (concatMap wireWordsOf (q .wires)) table)) (its-count q old new next values n h)
-        ∙ ap (λ (i : ℕ). written (130 + 19 * k) (first ∷ length (q .wires) ∷ i ∷ padded 16 0 (q .nextRegisters)) (written (1346 + 4 * first) (concatMap wireWordsOf (q .wires)) table)) (its-next q old new next values n h)
-        ∙ ap (λ (i : ℕ). written (130 + 19 * k) (recordOf i q) (written (1346 + 4 * i) (concatMap wireWordsOf (q .wires)) table)) (f .passed)
-        ∙ ap (λ (i : ℕ). written (130 + 19 * i) (recordOf (wireCount (firstStates t k)) q) (written (1346 + 4 * wireCount (firstStates t k)) (concatMap wireWordsOf (q .wires)) table)) (sym (first-length t k))
-        ∙ state-written (take 130 table) (firstStates t k) q h-130 few room table (f .words)
-        ∙ ap (withStates (take 130 table)) (sym (first-more t k))
+        let few : length (firstStates t k) < maxStates = omega arith in
+        let room : wireCount (firstStates t k) + length (q .wires) ≤ maxWires = first-room t a k below in
+        let whole : length (take recordsOffset table) ≡ recordsOffset = length-take-le recordsOffset table (omega (arith, f .all)) in
+        ap (λ (x : List ℕ). written (recordOffset k) (first ∷ n ∷ next ∷ x) (take (wireOffset first) table ++ new)) e
+        ∙ ap (λ (x : List ℕ). written (recordOffset k) (first ∷ n ∷ next ∷ padded maxRegisters 0 (q .nextRegisters)) x) (its-words q old new next values n h table (wireOffset first) refl)
+        ∙ ap (λ (i : ℕ). written (recordOffset k) (first ∷ i ∷ next ∷ padded maxRegisters 0 (q .nextRegisters)) (written (wireOffset first) (concatMap wireWordsOf (q .wires)) table)) (its-count q old new next values n h)
+        ∙ ap (λ (i : ℕ). written (recordOffset k) (first ∷ length (q .wires) ∷ i ∷ padded maxRegisters 0 (q .nextRegisters)) (written (wireOffset first) (concatMap wireWordsOf (q .wires)) table)) (its-next q old new next values n h)
+        ∙ ap (λ (i : ℕ). written (recordOffset k) (recordOf i q) (written (wireOffset i) (concatMap wireWordsOf (q .wires)) table)) (f .passed)
+        ∙ ap (λ (i : ℕ). written (recordOffset i) (recordOf (wireCount (firstStates t k)) q) (written (wireOffset (wireCount (firstStates t k))) (concatMap wireWordsOf (q .wires)) table)) (sym (first-length t k))
+        ∙ state-written (take recordsOffset table) (firstStates t k) q whole few room table (f .words)
+        ∙ ap (withStates (take recordsOffset table)) (sym (first-more t k))
 
 -- ---- what making a state asks
 
@@ -98,7 +100,7 @@ groups-held t edges starts starters states p =
     let m = g .all-blocks in
     let e = ap length (p .its-starters) in
     let f = ap length (p .its-states) in
-    record { owned = λ k h. rw (p .its-states, p .its-starters) (g .starter-home k 255 (omega arith)); few = omega arith; known = omega arith }
+    record { owned = λ k h. rw (p .its-states, p .its-starters) (g .starter-home k none (omega arith)); few = omega arith; known = omega arith }
 
 pub drop-zeros : (r n : ℕ) → r ≤ n → drop r (replicate {A = ℕ} n 0) ≡ replicate (n - r) 0
 drop-zeros zero n h = let e : n - 0 ≡ n = omega arith in rw e refl
@@ -111,55 +113,55 @@ module _ (t edges starts starters states : List ℕ) (p : Prepared t edges start
   pub below : k < length (groups (graphOf t) .starters)
   below = let e = ap length (p .its-starters) in omega arith
 
-  pub few-states : k < 64
+  pub few-states : k < maxStates
   few-states =
       let b = admitted-closed t (p .admits) .few-blocks in
       let n = grouped (graphOf t) (admitted-closed t (p .admits)) .few-states in
       let l = below in
       omega arith
 
-  pub first-low : first ≤ 3072
+  pub first-low : first ≤ maxWires
   first-low = let r = put-room t (p .admits) table k first f below in omega arith
 
-  pub registers-low : getD t 1 0 ≤ 16
+  pub registers-low : getD t 1 0 ≤ maxRegisters
   registers-low = admitted-facts t (p .admits) .fewRegisters
 
-  pub words-long : 2562 ≤ length t
+  pub words-long : graphWords ≤ length t
   words-long = admitted-facts t (p .admits) .long
 
   -- the words from the state's first wire on
-  pub rest-of : take (length table - (1346 + 4 * first)) (drop (1346 + 4 * first) table) ≡ drop (1346 + 4 * first) table
-  rest-of = take-all (length table - (1346 + 4 * first)) (drop (1346 + 4 * first) table) (let l = length-drop (1346 + 4 * first) table in omega arith)
+  pub rest-of : take (length table - (wireOffset first)) (drop (wireOffset first) table) ≡ drop (wireOffset first) table
+  rest-of = take-all (length table - (wireOffset first)) (drop (wireOffset first) table) (let l = length-drop (wireOffset first) table in omega arith)
 
-  pub room-for : (point : Point) → point ≡ pointOf (nth t k) → Room (length (point .wires)) (take (length table - (1346 + 4 * first)) (drop (1346 + 4 * first) table))
+  pub room-for : (point : Point) → point ≡ pointOf (nth t k) → Room (length (point .wires)) (take (length table - (wireOffset first)) (drop (wireOffset first) table))
   room-for point is =
       let e : length (point .wires) ≡ length (nth t k .wires) = ap (λ (x : Point). length (x .wires)) is in
       let r = put-room t (p .admits) table k first f below in
-      let l = ap length rest-of ∙ length-drop (1346 + 4 * first) table in
+      let l = ap length rest-of ∙ length-drop (wireOffset first) table in
       let a = f .all in
       record { fits = omega arith; few = omega arith }
 
-  module _ (point : Point) (is : point ≡ pointOf (nth t k)) (new values : List ℕ) (m n next : ℕ) (h : Held point (take (length table - (1346 + 4 * first)) (drop (1346 + 4 * first) table)) next (take m values) n new)
+  module _ (point : Point) (is : point ≡ pointOf (nth t k)) (new values : List ℕ) (m n next : ℕ) (h : Held point (take (length table - (wireOffset first)) (drop (wireOffset first) table)) next (take m values) n new)
       (as-many : length values ≡ getD t 1 0) (m-low : m ≤ getD t 1 0) where
-    held : Held (pointOf (nth t k)) (drop (1346 + 4 * first) table) next (take m values) n new
-    held = subst (λ (l : List ℕ). Held (pointOf (nth t k)) l next (take m values) n new) rest-of (subst (λ (x : Point). Held x (take (length table - (1346 + 4 * first)) (drop (1346 + 4 * first) table)) next (take m values) n new) is h)
+    held : Held (pointOf (nth t k)) (drop (wireOffset first) table) next (take m values) n new
+    held = subst (λ (l : List ℕ). Held (pointOf (nth t k)) l next (take m values) n new) rest-of (subst (λ (x : Point). Held x (take (length table - (wireOffset first)) (drop (wireOffset first) table)) next (take m values) n new) is h)
 
-    pub made-low : first + n ≤ 3072
-    made-low = let r = put-room t (p .admits) table k first f below in let c = its-count (nth t k) (drop (1346 + 4 * first) table) new next (take m values) n held in omega arith
+    pub made-low : first + n ≤ maxWires
+    made-low = let r = put-room t (p .admits) table k first f below in let c = its-count (nth t k) (drop (wireOffset first) table) new next (take m values) n held in omega arith
 
     pub made-count : first + n ≡ wireCount (firstStates t (k + 1))
     made-count = put-next t (p .admits) table k first f below new next (take m values) n held
 
     -- all of the table with the state's wires
-    pub made-table : new ++ drop (length table - (1346 + 4 * first)) (drop (1346 + 4 * first) table) ≡ new
+    pub made-table : new ++ drop (length table - (wireOffset first)) (drop (wireOffset first) table) ≡ new
     made-table =
-        let l = length-drop (1346 + 4 * first) table in
-        ap (λ (x : List ℕ). new ++ x) (drop-of-length-le (drop (1346 + 4 * first) table) {i = length table - (1346 + 4 * first)} (omega arith)) ∙ append-nil new
+        let l = length-drop (wireOffset first) table in
+        ap (λ (x : List ℕ). new ++ x) (drop-of-length-le (drop (wireOffset first) table) {i = length table - (wireOffset first)} (omega arith)) ∙ append-nil new
 
-    pub made-words : (rest table′ last : List ℕ) → rest ≡ replicate (16 - getD t 1 0) 0 → table′ ≡ take (1346 + 4 * first) table ++ new
-        → last ≡ written (130 + 19 * k) (first ∷ n ∷ next ∷ (values ++ rest)) table′ → last ≡ withStates (take 130 table) (firstStates t (k + 1))
+    pub made-words : (rest table′ last : List ℕ) → rest ≡ replicate (maxRegisters - getD t 1 0) 0 → table′ ≡ take (wireOffset first) table ++ new
+        → last ≡ written (recordOffset k) (first ∷ n ∷ next ∷ (values ++ rest)) table′ → last ≡ withStates (take recordsOffset table) (firstStates t (k + 1))
     made-words rest table′ last z e w =
-        let s : values ++ rest ≡ padded 16 0 (nth t k .nextRegisters) =
+        let s : values ++ rest ≡ padded maxRegisters 0 (nth t k .nextRegisters) =
         registers-padded (getD t 1 0) values rest (nth t k .nextRegisters) m as-many registers-low m-low (put-registers t (p .admits) table k first f below)
-        (its-registers (nth t k) (drop (1346 + 4 * first) table) new next (take m values) n held) z in
-        w ∙ ap (written (130 + 19 * k) (first ∷ n ∷ next ∷ (values ++ rest))) e ∙ put-words t (p .admits) table k first f below new next (take m values) n held (values ++ rest) s
+        (its-registers (nth t k) (drop (wireOffset first) table) new next (take m values) n held) z in
+        w ∙ ap (written (recordOffset k) (first ∷ n ∷ next ∷ (values ++ rest))) e ∙ put-words t (p .admits) table k first f below new next (take m values) n held (values ++ rest) s

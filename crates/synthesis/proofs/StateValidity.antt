@@ -16,6 +16,7 @@ use Rattle.cfg.specs.declared.Ending.{Ending}
 use Rattle.cfg.specs.declared.Ending.the-variants.{Goto, Ite, Halt}
 use Rattle.cfg.specs.Graph.{CFG, blockOf, codeOf}
 use Rattle.cfg.proofs.Admitted.{ValidInstruction}
+use Rattle.fsmd.specs.Layout.{maxRegisters}
 use Rattle.fsmd.specs.declared.Wire.{Wire}
 use Rattle.fsmd.specs.Table.{validReference, validWires, validState}
 use Rattle.grouping.specs.Grouping.{Groups}
@@ -80,8 +81,8 @@ join-valid R e p a b =
     length-append (p .wires) new ∙ ap (λ (k : ℕ). n + suc k) (length-selects (e .taken) (e .values) (p .values) (a .count ∙ sym (b .count))) in
     record {
       arrives = inr (omega arith, omega arith);
-      count = length-upFrom (suc (16 + n)) (length (e .values)) ∙ a .count;
-      reads = new-references R (length (p .wires ++ new)) (suc (16 + n)) (length (e .values)) (omega arith) (omega arith);
+      count = length-upFrom (suc (maxRegisters + n)) (length (e .values)) ∙ a .count;
+      reads = new-references R (length (p .wires ++ new)) (suc (maxRegisters + n)) (length (e .values)) (omega arith) (omega arith);
       wired = wires-append R 0 (p .wires) new (b .wired) (rw zero-add (cons-wires R n (or-wire (p .arrival) (e .taken)) (selects (e .taken) (e .values) (p .values))
           (two-valid R n 6 (p .arrival) (e .taken) or-two (b .arrives) (a .takes))
           (selects-valid R n (suc n) (e .taken) (e .values) (p .values) (omega arith) (a .takes) (a .reads) (b .reads))));
@@ -165,7 +166,7 @@ unfolding close
 close-valid R (Goto t) p f a = record { wired = a .wired; joined = (record { takes = a .arrives; count = a .count; reads = a .reads }, tt) }
 close-valid R (Ite c t f) p h a =
     let n = length (p .wires) in
-    let x = 16 + n in
+    let x = maxRegisters + n in
     let w = wire (comparisonCode (c .comparison)) (getD (p .values) (c .a) 0) (getD (p .values) (c .b) 0) 0 in
     let new = w ∷ and-wire (p .arrival) x ∷ and-not-wire (p .arrival) x ∷ [] in
     let m = length (p .wires ++ new) in
@@ -232,19 +233,19 @@ unfolding exit
 exit-valid R s e p a b =
     let n = length (p .wires) in
     let k = nextStateOf s (e .target) in
-    let w = select-wire (e .taken) (16 + n) (p .arrival) in
+    let w = select-wire (e .taken) (maxRegisters + n) (p .arrival) in
     let more = selects (e .taken) (e .values) (p .values) in
     let new = set-wire k ∷ w ∷ more in
     let l : length (p .wires ++ new) ≡ n + suc (suc (length (e .values))) =
     length-append (p .wires) new ∙ ap (λ (k : ℕ). n + suc (suc k)) (length-selects (e .taken) (e .values) (p .values) (a .count ∙ sym (b .count))) in
     record {
       arrives = inr (omega arith, omega arith);
-      count = length-upFrom (2 + (16 + n)) (length (e .values)) ∙ a .count;
-      reads = new-references R (length (p .wires ++ new)) (2 + (16 + n)) (length (e .values)) (omega arith) (omega arith);
+      count = length-upFrom (2 + (maxRegisters + n)) (length (e .values)) ∙ a .count;
+      reads = new-references R (length (p .wires ++ new)) (2 + (maxRegisters + n)) (length (e .values)) (omega arith) (omega arith);
       wired = wires-append R 0 (p .wires) new (b .wired) (rw zero-add (
           cons-wires R n (set-wire k) (w ∷ more) (set-valid R n k)
           (cons-wires R (suc n) w more
-          (select-valid R (suc n) (e .taken) (16 + n) (p .arrival) (reference-more R n (suc n) (e .taken) (omega arith) (a .takes))
+          (select-valid R (suc n) (e .taken) (maxRegisters + n) (p .arrival) (reference-more R n (suc n) (e .taken) (omega arith) (a .takes))
           (inr (omega arith, omega arith)) (reference-more R n (suc n) (p .arrival) (omega arith) (b .arrives)))
           (selects-valid R n (suc (suc n)) (e .taken) (e .values) (p .values) (omega arith) (a .takes) (a .reads) (b .reads)))));
     }

@@ -9,7 +9,7 @@ use Rattle.runs.proofs.ListLaws.{length-upFrom, getD-map-upFrom}
 use Rattle.runs.proofs.Sets.{In→mem, getD-in}
 use Rattle.cfg.specs.Graph.{CFG}
 use Rattle.cfg.proofs.Admitted.{ValidGraph}
-use Rattle.fsmd.specs.Layout.{none}
+use Rattle.fsmd.specs.Layout.{maxStates, maxBlocks, maxRegisters, maxWires, none}
 use Rattle.fsmd.specs.Machine.{FSMD, emptyState, stateOf as stateAt, wireCount}
 use Rattle.fsmd.specs.Table.{validState}
 use Rattle.grouping.specs.Grouping.{Groups, groups}
@@ -49,14 +49,14 @@ module _ (g : CFG) (s : Groups) where
 
 pub record MachineFits (m : FSMD) : Type 0 where
   pub someState : 1 ≤ length (m .states)
-  pub fewStates : length (m .states) ≤ 64
+  pub fewStates : length (m .states) ≤ maxStates
   pub someRegister : 1 ≤ m .registers
-  pub fewRegisters : m .registers ≤ 16
+  pub fewRegisters : m .registers ≤ maxRegisters
   pub startersCount : length (m .starters) ≡ length (m .states)
-  pub fewBlocks : length (m .blockStates) ≤ 64
+  pub fewBlocks : length (m .blockStates) ≤ maxBlocks
   pub valid : (k : ℕ) → k < length (m .states) → validState (m .registers) (stateAt m k) ≡ true
   pub nextRegisters : (k : ℕ) → k < length (m .states) → length (stateAt m k .nextRegisters) ≡ m .registers
-  pub room : wireCount (m .states) ≤ 3072
+  pub room : wireCount (m .states) ≤ maxWires
 
 pub machine-is : (g : CFG) → machine g ≡ machineFor g (groups g)
 unfolding machine

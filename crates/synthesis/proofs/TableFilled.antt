@@ -12,10 +12,11 @@ use Rattle.runs.specs.Lists.{mem, padded}
 use Rattle.runs.proofs.ListLaws.{length-padded}
 use Rattle.runs.proofs.Tests.{or-right}
 use Rattle.runs.proofs.Sets.{getD-in}
+use Rattle.cfg.specs.Layout.{graphWords}
 use Rattle.cfg.specs.Graph.{CFG}
 use Rattle.cfg.specs.Table.{graphOf, admitted}
 use Rattle.cfg.proofs.Admitted.{Admitted, admitted-facts, blocks-length, registers-are}
-use Rattle.fsmd.specs.Layout.{none}
+use Rattle.fsmd.specs.Layout.{maxStates, maxBlocks, recordsOffset, machineWords, none}
 use Rattle.fsmd.specs.Table.{tableOf}
 use Rattle.grouping.specs.declared.Grouping.{Grouping}
 use Rattle.grouping.specs.Grouping.{Groups, groups}
@@ -31,15 +32,15 @@ use Rattle.synthesis.proofs.MachineTable.{machine-table, filled-none, g
 -- ---- the groups in bytes
 
 pub record GroupsListed (t : List ℕ) (r : Grouping) : Type 0 where
-  pub starters-64 : length (r .starters) ≡ 64
-  pub states-64 : length (r .states) ≡ 64
-  pub few-states : r .count ≤ 64
-  pub few-blocks : getD t 0 0 ≤ 64
-  pub long : 2562 ≤ length t
+  pub starters-64 : length (r .starters) ≡ maxStates
+  pub states-64 : length (r .states) ≡ maxBlocks
+  pub few-states : r .count ≤ maxStates
+  pub few-blocks : getD t 0 0 ≤ maxBlocks
+  pub long : graphWords ≤ length t
   pub counted : r .count ≡ length (groups (graphOf t) .starters)
   pub starters : take (r .count) (r .starters) ≡ groups (graphOf t) .starters
   pub states : take (getD t 0 0) (r .states) ≡ groups (graphOf t) .states
-  pub low : (i : ℕ) → i < length (take (r .count) (r .starters)) → getD (take (r .count) (r .starters)) i 0 < 64
+  pub low : (i : ℕ) → i < length (take (r .count) (r .starters)) → getD (take (r .count) (r .starters)) i 0 < maxBlocks
 
 module _ (t : List ℕ) (a : admitted t ≡ true) (r : Grouping) (e : r ≡ groupingOf t) where
   closed : Closed (graphOf t)
@@ -48,22 +49,22 @@ module _ (t : List ℕ) (a : admitted t ≡ true) (r : Grouping) (e : r ≡ grou
   r-count : r .count ≡ length (groups (graphOf t) .starters)
   r-count = ap (λ (x : Grouping). x .count) e ∙ grouping-count t
 
-  r-starters : r .starters ≡ padded 64 0 (groups (graphOf t) .starters)
+  r-starters : r .starters ≡ padded maxStates 0 (groups (graphOf t) .starters)
   r-starters = ap (λ (x : Grouping). x .starters) e ∙ grouping-starters t
 
-  r-states : r .states ≡ padded 64 none (groups (graphOf t) .states)
+  r-states : r .states ≡ padded maxBlocks none (groups (graphOf t) .states)
   r-states = ap (λ (x : Grouping). x .states) e ∙ grouping-states t
 
-  few : length (groups (graphOf t) .starters) ≤ 64
+  few : length (groups (graphOf t) .starters) ≤ maxStates
   few = let n = grouped (graphOf t) closed .few-states in let b = closed .few-blocks in omega arith
 
   states-are : getD t 0 0 ≡ length (groups (graphOf t) .states)
   states-are = sym (grouped (graphOf t) closed .all-blocks ∙ blocks-length t)
 
   listed : take (r .count) (r .starters) ≡ groups (graphOf t) .starters
-  listed = ap (take (r .count)) r-starters ∙ take-padded 64 0 (groups (graphOf t) .starters) (r .count) few r-count
+  listed = ap (take (r .count)) r-starters ∙ take-padded maxStates 0 (groups (graphOf t) .starters) (r .count) few r-count
 
-  starter-low : (i : ℕ) → i < length (groups (graphOf t) .starters) → getD (groups (graphOf t) .starters) i 0 < 64
+  starter-low : (i : ℕ) → i < length (groups (graphOf t) .starters) → getD (groups (graphOf t) .starters) i 0 < maxBlocks
   starter-low i h =
       let x = getD (groups (graphOf t) .starters) i 0 in
       let l = reached-below closed (grouped (graphOf t) closed .starter-reached x (getD-in (groups (graphOf t) .starters) i 0 h)) in
@@ -75,33 +76,33 @@ module _ (t : List ℕ) (a : admitted t ≡ true) (r : Grouping) (e : r ≡ grou
       let d = admitted-facts t a in
       let n = d .fewBlocks in
       record {
-        starters-64 = ap length r-starters ∙ length-padded 64 0 (groups (graphOf t) .starters);
-        states-64 = ap length r-states ∙ length-padded 64 none (groups (graphOf t) .states);
+        starters-64 = ap length r-starters ∙ length-padded maxStates 0 (groups (graphOf t) .starters);
+        states-64 = ap length r-states ∙ length-padded maxBlocks none (groups (graphOf t) .states);
         few-states = let f = few in let c = r-count in omega arith;
         few-blocks = d .fewBlocks;
         long = d .long;
         counted = r-count;
         starters = listed;
-        states = ap (take (getD t 0 0)) r-states ∙ take-padded 64 none (groups (graphOf t) .states) (getD t 0 0) (let s = states-are in omega arith) states-are;
+        states = ap (take (getD t 0 0)) r-states ∙ take-padded maxBlocks none (groups (graphOf t) .states) (getD t 0 0) (let s = states-are in omega arith) states-are;
         low = λ i h. rw listed (starter-low i (rw listed at h));
       }
 
   -- the head, then the states
-  pub begun : (table : List ℕ) → length table ≡ 13634 → table ≡ withStates (r .count ∷ getD t 1 0 ∷ (r .starters ++ r .states)) []
-      → Filled t table 0 0 × (take 130 table ≡ r .count ∷ getD t 1 0 ∷ (r .starters ++ r .states))
+  pub begun : (table : List ℕ) → length table ≡ machineWords → table ≡ withStates (r .count ∷ getD t 1 0 ∷ (r .starters ++ r .states)) []
+      → Filled t table 0 0 × (take recordsOffset table ≡ r .count ∷ getD t 1 0 ∷ (r .starters ++ r .states))
   begun table l f =
       let g = groups-listed in
       filled-none t table (r .count ∷ getD t 1 0 ∷ (r .starters ++ r .states)) l (omega (arith, length-append (r .starters) (r .states), g .starters-64, g .states-64)) f
 
-  pub table-filled : (table last : List ℕ) → length table ≡ 13634 → table ≡ withStates (r .count ∷ getD t 1 0 ∷ (r .starters ++ r .states)) []
-      → last ≡ withStates (take 130 table) (firstStates t (length (take (r .count) (r .starters)))) → last ≡ tableOf (machine (graphOf t))
+  pub table-filled : (table last : List ℕ) → length table ≡ machineWords → table ≡ withStates (r .count ∷ getD t 1 0 ∷ (r .starters ++ r .states)) []
+      → last ≡ withStates (take recordsOffset table) (firstStates t (length (take (r .count) (r .starters)))) → last ≡ tableOf (machine (graphOf t))
   table-filled table last l f g =
       let n : length (take (r .count) (r .starters)) ≡ r .count = ap length listed ∙ sym r-count in
       g
       ∙ ap (λ (h : List ℕ). withStates h (firstStates t (length (take (r .count) (r .starters))))) (begun table l f .1)
       ∙ ap (λ (m : ℕ). withStates (r .count ∷ getD t 1 0 ∷ (r .starters ++ r .states)) (firstStates t m)) n
       ∙ ap (λ (x : List ℕ). withStates (r .count ∷ getD t 1 0 ∷ (x ++ r .states)) (firstStates t (r .count))) r-starters
-      ∙ ap (λ (x : List ℕ). withStates (r .count ∷ getD t 1 0 ∷ (padded 64 0 (groups (graphOf t) .starters) ++ x)) (firstStates t (r .count))) r-states
+      ∙ ap (λ (x : List ℕ). withStates (r .count ∷ getD t 1 0 ∷ (padded maxStates 0 (groups (graphOf t) .starters) ++ x)) (firstStates t (r .count))) r-states
       ∙ machine-table t a (r .count) (getD t 1 0) r-count (sym (registers-are t))
 
 -- ---- the answer
@@ -109,7 +110,7 @@ module _ (t : List ℕ) (a : admitted t ≡ true) (r : Grouping) (e : r ≡ grou
 module _ (t m : List ℕ) where
   words-kept : (n : ℕ) → synthesisAnswer t m ≡ Refused n → m ≡ synthesisWords t m
   unfolding synthesisWords
-  words-kept n e = sym (ap (λ (a : SynthesisAnswer). made a (tableOf (machine (graphOf t)) ++ drop 13634 m) m) e)
+  words-kept n e = sym (ap (λ (a : SynthesisAnswer). made a (tableOf (machine (graphOf t)) ++ drop machineWords m) m) e)
 
   abbrev Both : SynthesisAnswer → List ℕ → Type 0
   Both r w = (r ≡ synthesisAnswer t m) × (w ≡ synthesisWords t m)
@@ -117,20 +118,20 @@ module _ (t m : List ℕ) where
   refused-with : (n : ℕ) → synthesisAnswer t m ≡ Refused n → Both (Refused n) m
   refused-with n e = (sym e, words-kept n e)
 
-  pub short-graph : length t < 2562 → Both (Refused 7) m
+  pub short-graph : length t < graphWords → Both (Refused 7) m
   unfolding synthesisAnswer
-  short-graph h = refused-with 7 (rw (lt-ltb (length t) 2562 h) refl)
+  short-graph h = refused-with 7 (rw (lt-ltb (length t) graphWords h) refl)
 
-  pub short-machine : 2562 ≤ length t → length m < 13634 → Both (Refused 7) m
+  pub short-machine : graphWords ≤ length t → length m < machineWords → Both (Refused 7) m
   unfolding synthesisAnswer
-  short-machine h l = refused-with 7 (rw (le-ltb (length t) 2562 h, lt-ltb (length m) 13634 l) refl)
+  short-machine h l = refused-with 7 (rw (le-ltb (length t) graphWords h, lt-ltb (length m) machineWords l) refl)
 
-  pub not-admitted : 2562 ≤ length t → 13634 ≤ length m → admitted t ≡ false → Both (Refused 6) m
+  pub not-admitted : graphWords ≤ length t → machineWords ≤ length m → admitted t ≡ false → Both (Refused 6) m
   unfolding synthesisAnswer
-  not-admitted h l e = refused-with 6 (rw (le-ltb (length t) 2562 h, le-ltb (length m) 13634 l, e) refl)
+  not-admitted h l e = refused-with 6 (rw (le-ltb (length t) graphWords h, le-ltb (length m) machineWords l, e) refl)
 
-  pub machine-made : 2562 ≤ length t → 13634 ≤ length m → admitted t ≡ true → (w : List ℕ) → w ≡ tableOf (machine (graphOf t)) → Both Made (w ++ drop 13634 m)
+  pub machine-made : graphWords ≤ length t → machineWords ≤ length m → admitted t ≡ true → (w : List ℕ) → w ≡ tableOf (machine (graphOf t)) → Both Made (w ++ drop machineWords m)
   unfolding synthesisAnswer synthesisWords
   machine-made h l e w f =
-      let d : synthesisAnswer t m ≡ Made = rw (le-ltb (length t) 2562 h, le-ltb (length m) 13634 l, e) refl in
-      (sym d, ap (λ (x : List ℕ). x ++ drop 13634 m) f ∙ sym (ap (λ (a : SynthesisAnswer). made a (tableOf (machine (graphOf t)) ++ drop 13634 m) m) d))
+      let d : synthesisAnswer t m ≡ Made = rw (le-ltb (length t) graphWords h, le-ltb (length m) machineWords l, e) refl in
+      (sym d, ap (λ (x : List ℕ). x ++ drop machineWords m) f ∙ sym (ap (λ (a : SynthesisAnswer). made a (tableOf (machine (graphOf t)) ++ drop machineWords m) m) d))

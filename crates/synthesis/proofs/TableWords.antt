@@ -7,6 +7,7 @@ use lib.ListN.{length, take, drop, replicate, length-append, length-replicate, r
 use lib.Seq.{take-at, drop-at, take-append-le, drop-append-le, take-append-add, drop-append-add, drop-drop}
 use Rattle.runs.specs.Lists.{padded, concatMap}
 use Rattle.runs.proofs.ListLaws.{padded-append, length-padded}
+use Rattle.fsmd.specs.Layout.{maxStates, maxWires, allRecordWords, allWireWords, recordsOffset, machineWords, recordOffset, wireOffset}
 use Rattle.fsmd.specs.Machine.{State, wireCount}
 use Rattle.fsmd.specs.Table.{wireWordsOf, recordOf, recordsOf, wiresOf}
 use Rattle.fsmd.proofs.WrittenTable.{length-wordsOf, length-wiresOf, length-recordOf, length-recordsOf}
@@ -83,8 +84,8 @@ records-more n (p ∷ qs) q =
 parts : ℕ → ℕ → List ℕ → List ℕ → List ℕ → List ℕ
 parts m n head records wires = head ++ (padded m 0 records ++ padded n 0 wires)
 
-module _ (m n : ℕ) (head records wires : List ℕ) (head-130 : length head ≡ 130) where
-  parts-wires : (ws : List ℕ) → length wires + length ws ≤ n → (at : ℕ) → at ≡ 130 + (m + length wires)
+module _ (m n : ℕ) (head records wires : List ℕ) (head-whole : length head ≡ recordsOffset) where
+  parts-wires : (ws : List ℕ) → length wires + length ws ≤ n → (at : ℕ) → at ≡ recordsOffset + (m + length wires)
       → written at ws (parts m n head records wires) ≡ parts m n head records (wires ++ ws)
   unfolding parts
   parts-wires ws h at e =
@@ -93,7 +94,7 @@ module _ (m n : ℕ) (head records wires : List ℕ) (head-130 : length head ≡
       (written-past (padded m 0 records) (padded n 0 wires) ws (length wires) (m + length wires) (rw length-padded refl)
       ∙ ap (λ (l : List ℕ). padded m 0 records ++ l) (padded-more n wires ws h (length wires) refl))
 
-  parts-record : (r : List ℕ) → length records + length r ≤ m → (at : ℕ) → at ≡ 130 + length records
+  parts-record : (r : List ℕ) → length records + length r ≤ m → (at : ℕ) → at ≡ recordsOffset + length records
       → written at r (parts m n head records wires) ≡ parts m n head (records ++ r) wires
   unfolding parts
   parts-record r h at e =
@@ -113,14 +114,14 @@ parts-none m n k head e =
     ∙ ap (λ (l : List ℕ). replicate m 0 ++ l) (padded-append n 0 [] (omega arith) ∙ ap (λ (i : ℕ). replicate i 0) (z n))))
 
 -- a table with no state yet
-pub no-states : (head : List ℕ) (k : ℕ) → k ≡ 13504 → head ++ replicate k 0 ≡ withStates head []
+pub no-states : (head : List ℕ) (k : ℕ) → k ≡ machineWords - recordsOffset → head ++ replicate k 0 ≡ withStates head []
 unfolding withStates parts recordsOf wiresOf concatMap
-no-states head k e = parts-none 1216 12288 k head e
+no-states head k e = parts-none allRecordWords allWireWords k head e
 
 -- the wires and then the record of a state put into a table of the states before it
-module _ (head : List ℕ) (qs : List State) (q : State) (head-130 : length head ≡ 130) (few : length qs < 64) (room : wireCount qs + length (q .wires) ≤ 3072) where
+module _ (head : List ℕ) (qs : List State) (q : State) (head-whole : length head ≡ recordsOffset) (few : length qs < maxStates) (room : wireCount qs + length (q .wires) ≤ maxWires) where
   pub state-written : (t : List ℕ) → t ≡ withStates head qs
-      → written (130 + 19 * length qs) (recordOf (wireCount qs) q) (written (1346 + 4 * wireCount qs) (concatMap wireWordsOf (q .wires)) t)
+      → written (recordOffset (length qs)) (recordOf (wireCount qs) q) (written (wireOffset (wireCount qs)) (concatMap wireWordsOf (q .wires)) t)
       ≡ withStates head (qs ++ (q ∷ []))
   unfolding withStates parts
   state-written t e =
@@ -129,9 +130,9 @@ module _ (head : List ℕ) (qs : List State) (q : State) (head-130 : length head
       let b = length-wordsOf (q .wires) in
       let c = length-recordsOf 0 qs in
       let r = length-recordOf (wireCount qs) q in
-      ap (λ (l : List ℕ). written (130 + 19 * length qs) (recordOf (wireCount qs) q) (written (1346 + 4 * wireCount qs) w l)) e
-      ∙ ap (λ (l : List ℕ). written (130 + 19 * length qs) (recordOf (wireCount qs) q) l)
-      (parts-wires 1216 12288 head (recordsOf 0 qs) (wiresOf qs) head-130 w (omega arith) (1346 + 4 * wireCount qs) (omega arith))
-      ∙ parts-record 1216 12288 head (recordsOf 0 qs) (wiresOf qs ++ w) head-130 (recordOf (wireCount qs) q) (omega arith) (130 + 19 * length qs) (omega arith)
-      ∙ ap (λ (l : List ℕ). parts 1216 12288 head l (wiresOf qs ++ w)) (sym (records-more 0 qs q ∙ ap (λ (i : ℕ). recordsOf 0 qs ++ recordOf i q) (omega arith)))
-      ∙ ap (λ (l : List ℕ). parts 1216 12288 head (recordsOf 0 (qs ++ (q ∷ []))) l) (sym (wires-more qs q))
+      ap (λ (l : List ℕ). written (recordOffset (length qs)) (recordOf (wireCount qs) q) (written (wireOffset (wireCount qs)) w l)) e
+      ∙ ap (λ (l : List ℕ). written (recordOffset (length qs)) (recordOf (wireCount qs) q) l)
+      (parts-wires allRecordWords allWireWords head (recordsOf 0 qs) (wiresOf qs) head-whole w (omega arith) (wireOffset (wireCount qs)) (omega arith))
+      ∙ parts-record allRecordWords allWireWords head (recordsOf 0 qs) (wiresOf qs ++ w) head-whole (recordOf (wireCount qs) q) (omega arith) (recordOffset (length qs)) (omega arith)
+      ∙ ap (λ (l : List ℕ). parts allRecordWords allWireWords head l (wiresOf qs ++ w)) (sym (records-more 0 qs q ∙ ap (λ (i : ℕ). recordsOf 0 qs ++ recordOf i q) (omega arith)))
+      ∙ ap (λ (l : List ℕ). parts allRecordWords allWireWords head (recordsOf 0 (qs ++ (q ∷ []))) l) (sym (wires-more qs q))

@@ -9,6 +9,7 @@ use mathlib.Core.List.{List, [], _∷_, _++_, append-assoc, append-nil}
 use lib.Dec.{eqb}
 use lib.ListN.{length, getD, take, drop, replicate, set, length-append, length-replicate, length-set, length-drop, getD-replicate, replicate-append-replicate, take-append-drop, drop-of-length-le}
 use lib.Seq.{take-at, drop-at, take-suc, take-all, take-length, drop-drop, drop-append-le, length-take-le, paste, paste-zero, paste-suc, length-paste, sets-eq}
+use Rattle.fsmd.specs.Layout.{maxStates, maxBlocks, startersOffset, blockStatesOffset, machineWords}
 use Rattle.runs.specs.Lists.{mem}
 use Rattle.placement.specs.PlacementBytes.{marked}
 use Rattle.synthesis.specs.StateWords.{written, withStates}
@@ -49,20 +50,20 @@ cleared d =
 
 -- ---- the head
 
-head-from : (a b c r : ℕ) (x y old older z : List ℕ) → length old ≡ length x → length older ≡ length y → length x ≡ 64
-    → written 66 y (written 2 x (set (set ((a ∷ b ∷ []) ++ (old ++ (older ++ z))) 0 c) 1 r)) ≡ (c ∷ r ∷ (x ++ y)) ++ z
+head-from : (a b c r : ℕ) (x y old older z : List ℕ) → length old ≡ length x → length older ≡ length y → length x ≡ maxStates
+    → written blockStatesOffset y (written startersOffset x (set (set ((a ∷ b ∷ []) ++ (old ++ (older ++ z))) 0 c) 1 r)) ≡ (c ∷ r ∷ (x ++ y)) ++ z
 head-from a b c r x y old older z e f g =
-    ap (written 66 y) (written-over (c ∷ r ∷ []) old (older ++ z) x 2 refl e)
-    ∙ ap (written 66 y) (sym (append-assoc (c ∷ r ∷ []) x (older ++ z)))
-    ∙ written-over ((c ∷ r ∷ []) ++ x) older z y 66 (omega arith) f
+    ap (written blockStatesOffset y) (written-over (c ∷ r ∷ []) old (older ++ z) x startersOffset refl e)
+    ∙ ap (written blockStatesOffset y) (sym (append-assoc (c ∷ r ∷ []) x (older ++ z)))
+    ∙ written-over ((c ∷ r ∷ []) ++ x) older z y blockStatesOffset (omega arith) f
     ∙ sym (append-assoc ((c ∷ r ∷ []) ++ x) y z)
 
-pub head-written : (n c r : ℕ) (x y : List ℕ) → n ≡ 13634 → length x ≡ 64 → length y ≡ 64
-    → written 66 y (written 2 x (set (set (replicate n 0) 0 c) 1 r)) ≡ withStates (c ∷ r ∷ (x ++ y)) []
+pub head-written : (n c r : ℕ) (x y : List ℕ) → n ≡ machineWords → length x ≡ maxStates → length y ≡ maxBlocks
+    → written blockStatesOffset y (written startersOffset x (set (set (replicate n 0) 0 c) 1 r)) ≡ withStates (c ∷ r ∷ (x ++ y)) []
 head-written n c r x y e g h =
     let k = n - (2 + (length x + length y)) in
     let m : n ≡ 2 + (length x + (length y + k)) = omega arith in
-    ap (λ (l : List ℕ). written 66 y (written 2 x (set (set l 0 c) 1 r))) (ap (λ (i : ℕ). replicate {A = ℕ} i 0) m ∙ split (length x) (length y) k)
+    ap (λ (l : List ℕ). written blockStatesOffset y (written startersOffset x (set (set l 0 c) 1 r))) (ap (λ (i : ℕ). replicate {A = ℕ} i 0) m ∙ split (length x) (length y) k)
     ∙ head-from 0 0 c r x y (replicate (length x) 0) (replicate (length y) 0) (replicate k 0) (length-replicate {A = ℕ} (length x) 0) (length-replicate {A = ℕ} (length y) 0) g
     ∙ no-states (c ∷ r ∷ (x ++ y)) k (omega arith)
   where
@@ -92,11 +93,11 @@ record-written w s at a b c h =
 -- ---- the starters' marks
 
 pub record Marking (starters marks : List ℕ) (i : ℕ) : Type 0 where
-  pub size : length marks ≡ 64
+  pub size : length marks ≡ maxBlocks
   pub far : i ≤ length starters
   pub each : (x : ℕ) → marked marks x ≡ mem x (take i starters)
 
-pub marking-none : (starters : List ℕ) → Marking starters (replicate 64 0) 0
+pub marking-none : (starters : List ℕ) → Marking starters (replicate maxBlocks 0) 0
 marking-none starters = record { size = refl; far = omega arith; each = no-marks }
 
 mem-snoc : (x y : ℕ) (l : List ℕ) → mem x (l ++ (y ∷ [])) ≡ eqb x y || mem x l
@@ -109,7 +110,7 @@ mem-snoc x y (z ∷ l) = ap (λ (b : Bool). eqb x z || b) (mem-snoc x y l) ∙ s
     swap false true c = refl
     swap false false c = refl
 
-pub marking-on : (starters marks : List ℕ) (i : ℕ) → Marking starters marks i → i < length starters → (x : ℕ) → x ≡ getD starters i 0 → x < 64
+pub marking-on : (starters marks : List ℕ) (i : ℕ) → Marking starters marks i → i < length starters → (x : ℕ) → x ≡ getD starters i 0 → x < maxBlocks
     → Marking starters (set marks x 1) (i + 1)
 marking-on starters marks i m l x e h =
     record {

@@ -14,6 +14,7 @@ use Rattle.cfg.specs.declared.Ending.{Ending}
 use Rattle.cfg.specs.declared.Ending.the-variants.{Goto, Ite, Halt}
 use Rattle.cfg.specs.declared.Block.{Block}
 use Rattle.cfg.specs.Graph.{codeOf, executeAll, holds, leave, runBlock}
+use Rattle.fsmd.specs.Layout.{maxRegisters}
 use Rattle.fsmd.specs.declared.Wire.{Wire}
 use Rattle.fsmd.specs.Machine.{worked}
 use Rattle.grouping.specs.Grouping.{Groups}
@@ -93,7 +94,7 @@ or-none : (s : Bool) → (s || false) ≡ s
 or-none true = refl
 or-none false = refl
 
-module _ (rs : List ℕ) (size : length rs ≡ 16) (R : ℕ) where
+module _ (rs : List ℕ) (size : length rs ≡ maxRegisters) (R : ℕ) where
   join-grow : (e : Edge) (p : Point) → Grows (worked rs (p .wires)) (worked rs (join e p .wires))
   unfolding join
   join-grow e p = wires-grow rs (p .wires) _
@@ -130,7 +131,7 @@ module _ (rs : List ℕ) (size : length rs ≡ 16) (R : ℕ) where
   arrive-grow [] ws = wires-grow rs ws (set-wire 0 ∷ [])
   arrive-grow (e ∷ es) ws = joins-grow es (record { arrival = e .taken; values = e .values; wires = ws })
 
-  pub arrive-none : R ≤ 16 → (es : List Edge) (ws : List Wire) → NoneTaken R (drop R rs) (worked rs ws) es → (q : List ℕ) × PointReads rs R (arrive R es ws) 0 q
+  pub arrive-none : R ≤ maxRegisters → (es : List Edge) (ws : List Wire) → NoneTaken R (drop R rs) (worked rs ws) es → (q : List ℕ) × PointReads rs R (arrive R es ws) 0 q
   unfolding arrive
   arrive-none r [] ws n = (rs, start-reads rs size R ws 0 r)
   arrive-none r (e ∷ es) ws n = (n .0 .0, joins-none es (record { arrival = e .taken; values = e .values; wires = ws }) false (n .1) (n .0 .1))
@@ -198,7 +199,7 @@ module _ (rs : List ℕ) (size : length rs ≡ 16) (R : ℕ) where
 abbrev pub blockMade : Block → Point → Build
 blockMade b p = close (b .ending) (assigns (codeOf b) p)
 
-module _ (rs : List ℕ) (size : length rs ≡ 16) (R : ℕ) (b : Block) (f : BlockFits R b) where
+module _ (rs : List ℕ) (size : length rs ≡ maxRegisters) (R : ℕ) (b : Block) (f : BlockFits R b) where
   made-grow : (p : Point) → Grows (worked rs (p .wires)) (worked rs (blockMade b p .wires))
   made-grow p =
       grows-trans (worked rs (p .wires)) (worked rs (assigns (codeOf b) p .wires)) (worked rs (blockMade b p .wires))
@@ -224,7 +225,7 @@ module _ (rs : List ℕ) (size : length rs ≡ 16) (R : ℕ) (b : Block) (f : Bl
 
 -- ---- the exits
 
-module _ (rs : List ℕ) (size : length rs ≡ 16) (R : ℕ) (s : Groups) where
+module _ (rs : List ℕ) (size : length rs ≡ maxRegisters) (R : ℕ) (s : Groups) where
   exit-grow : (e : Edge) (p : Point) → Grows (worked rs (p .wires)) (worked rs (exit s e p .wires))
   unfolding exit
   exit-grow e p = wires-grow rs (p .wires) _

@@ -17,7 +17,7 @@ use Rattle.cfg.specs.declared.Ending.the-variants.{Goto, Ite, Halt}
 use Rattle.cfg.specs.Graph.{CFG, blockOf, codeOf}
 use Rattle.fsmd.specs.declared.Wire.{Wire}
 use Rattle.fsmd.specs.Machine.{wireCount}
-use Rattle.fsmd.specs.Layout.{none}
+use Rattle.fsmd.specs.Layout.{maxRegisters, maxWires, none}
 use Rattle.grouping.specs.Grouping.{Groups}
 use Rattle.placement.specs.Placement.{members, order}
 use Rattle.synthesis.specs.Synthesis.{machineFor}
@@ -31,9 +31,9 @@ use Rattle.synthesis.proofs.StateValidity.{EdgesValid, BuildValid, edge
 -- edges of at most 16 registers
 abbrev Narrow : List Edge → Type 0
 Narrow [] = Unit {0}
-Narrow (e ∷ es) = (length (e .values) ≤ 16) × Narrow es
+Narrow (e ∷ es) = (length (e .values) ≤ maxRegisters) × Narrow es
 
-narrow-valid : (R n : ℕ) (es : List Edge) → R ≤ 16 → EdgesValid R n es → Narrow es
+narrow-valid : (R n : ℕ) (es : List Edge) → R ≤ maxRegisters → EdgesValid R n es → Narrow es
 narrow-valid R n [] r a = tt
 narrow-valid R n (e ∷ es) r a = (let c = a .0 .count in omega arith, narrow-valid R n es r (a .1))
 
@@ -57,7 +57,7 @@ parted p (e ∷ es) = go (p (e .target)) (parted p es)
 
 -- ---- a block: 1 for the starter's `set`, 8 for instructions, 3 for an ite, and 18 for each edge out of it, paid before it is joined or left
 
-join-count : (e : Edge) (p : Point) → length (e .values) ≤ 16 → length (join e p .wires) ≤ length (p .wires) + 17
+join-count : (e : Edge) (p : Point) → length (e .values) ≤ maxRegisters → length (join e p .wires) ≤ length (p .wires) + 17
 unfolding join
 join-count e p h =
     omega (arith, length-append (p .wires) (or-wire (p .arrival) (e .taken) ∷ selects (e .taken) (e .values) (p .values)), selects-short (e .taken) (e .values) (p .values))
@@ -199,7 +199,7 @@ module _ (g : CFG) (s : Groups) (f : GraphFits g) where
   count-from a (suc n) = omega (arith, state-count g s f a, count-from (suc a) n)
 
   -- the whole machine: synthesis never lacks space
-  pub machine-count : wireCount (machineFor g s .states) ≤ 3072
+  pub machine-count : wireCount (machineFor g s .states) ≤ maxWires
   unfolding machineFor
   machine-count =
       let b = f .fewBlocks in

@@ -16,6 +16,7 @@ use Rattle.runs.specs.Lists.{upFrom, every}
 use Rattle.runs.proofs.ListLaws.{and-left, and-right, and-both}
 use Rattle.cfg.specs.declared.Instruction.{Instruction}
 use Rattle.cfg.proofs.Admitted.{ValidInstruction}
+use Rattle.fsmd.specs.Layout.{maxRegisters}
 use Rattle.fsmd.specs.declared.Wire.{Wire}
 use Rattle.fsmd.specs.Table.{validReference, validWire, validWires}
 use Rattle.state.specs.Wires.{wire, set-wire, select-wire, selects}
@@ -25,7 +26,7 @@ use Rattle.synthesis.proofs.GraphFacts.{two-operands}
 -- ---- references, where the next wire is number n
 
 abbrev pub Reference : ℕ → ℕ → ℕ → Type 0
-Reference R n x = (x < R) ⊎ ((16 ≤ x) × (x < 16 + n))
+Reference R n x = (x < R) ⊎ ((maxRegisters ≤ x) × (x < maxRegisters + n))
 
 abbrev pub References : ℕ → ℕ → List ℕ → Type 0
 References R n [] = Unit {0}
@@ -49,7 +50,7 @@ references-set R n [] i x a h = tt
 references-set R n (v ∷ vs) zero x a h = (h, a .1)
 references-set R n (v ∷ vs) (suc i) x a h = (a .0, references-set R n vs i x (a .1) h)
 
-pub new-references : (R n a k : ℕ) → 16 ≤ a → a + k ≤ 16 + n → References R n (upFrom a k)
+pub new-references : (R n a k : ℕ) → maxRegisters ≤ a → a + k ≤ maxRegisters + n → References R n (upFrom a k)
 new-references R n a zero h l = tt
 new-references R n a (suc k) h l = (inr (h, omega arith), new-references R n (suc a) k (omega arith) (omega arith))
 
@@ -59,7 +60,7 @@ register-references R n a (suc k) l = (inl (omega arith), register-references R 
 
 pub reference-valid : (R n x : ℕ) → Reference R n x → validReference R n x ≡ true
 reference-valid R n x (inl a) = rw (lt-ltb x R a)
-reference-valid R n x (inr a) = rw (le-leb 16 x (a .0), lt-ltb x (16 + n) (a .1)) (or-true (ltb x R))
+reference-valid R n x (inr a) = rw (le-leb maxRegisters x (a .0), lt-ltb x (maxRegisters + n) (a .1)) (or-true (ltb x R))
   where
     or-true : (b : Bool) → (b || true) ≡ true
     or-true true = refl

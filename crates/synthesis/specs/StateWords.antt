@@ -1,5 +1,5 @@
 -- A machine table of which some states are written, which the contracts of the table code cite. Assumes nothing.
-use Prim.Native.Nat.{ℕ, _+_, _*_}
+use Prim.Native.Nat.{ℕ, _+_}
 use mathlib.Core.Path.{_≡_}
 use mathlib.Core.Bool.{true}
 use mathlib.Core.List.{List, _++_, map}
@@ -7,7 +7,7 @@ use lib.ListN.{length, take, drop}
 use Rattle.runs.specs.Lists.{upFrom, mem, padded}
 use Rattle.cfg.specs.Graph.{successors}
 use Rattle.cfg.specs.Table.{graphOf, admitted}
-use Rattle.fsmd.specs.Layout.{maxStates, maxWires, wireWords, recordWords, recordsOffset, machineWords}
+use Rattle.fsmd.specs.Layout.{allRecordWords, allWireWords, recordsOffset, machineWords}
 use Rattle.fsmd.specs.Machine.{State, wireCount}
 use Rattle.fsmd.specs.Table.{recordsOf, wiresOf}
 use Rattle.grouping.specs.Grouping.{groups}
@@ -22,7 +22,7 @@ written at s t = take at t ++ (s ++ drop (at + length s) t)
 -- a table whose words before the records are `head`, with the records and wires of the states qs and no others
 unfoldable pub withStates : List ℕ → List State → List ℕ
 unfolding recordsOf wiresOf
-withStates head qs = head ++ (padded (maxStates * recordWords) 0 (recordsOf 0 qs) ++ padded (maxWires * wireWords) 0 (wiresOf qs))
+withStates head qs = head ++ (padded allRecordWords 0 (recordsOf 0 qs) ++ padded allWireWords 0 (wiresOf qs))
 
 -- the first k states of the machine of a graph table
 unfoldable pub firstStates : List ℕ → ℕ → List State

@@ -91,11 +91,11 @@ fn write_record(
 }
 
 // A mark at each starter.
-fn starter_marks(starters: &[u8]) -> [u8; 64]
+fn starter_marks(starters: &[u8]) -> [u8; Graph::BLOCKS]
     requires { ⌜ ((i : ℕ) → i < length (now starters) → getD (now starters) i 0 < maxBlocks) ⌝ }
     ensures { λ r. ⌜ ((x : ℕ) → marked r x ≡ mem x (now (starters .entry))) ⌝ }
 {
-    let mut marks = [0u8; 64];
+    let mut marks = [0u8; Graph::BLOCKS];
     let mut i = 0;
     while i < starters.len() {
         marks[edges::wide(starters[i])] = 1;
@@ -126,7 +126,7 @@ fn one_state(
     let count = order.count;
     let blocks = order.blocks;
     let registers = graph[1] as usize;
-    let mut values = [0u32; 16];
+    let mut values = [0u32; Machine::REGISTERS];
     let at = Machine::WIRE_WORDS + Wire::WORDS * first;
     let made = state::make(
         graph,

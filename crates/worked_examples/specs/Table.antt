@@ -63,6 +63,7 @@ rows =
     ∷ row "P7 starters" (same (groups P7 .starters) (0 ∷ 1 ∷ []))
     ∷ row "P7 blocks by state" (same (groups P7 .states) (0 ∷ 1 ∷ 1 ∷ 1 ∷ 1 ∷ 1 ∷ []))
     ∷ row "P7 wires by state" (same (wireCounts P7) (2 ∷ 18 ∷ []))
+    ∷ row "P7 words of the graph" (eqb (length (graphTable P7)) 2562)
     ∷ row "P7 words of the machine" (eqb (length (machineTable (machine P7))) 13634)
     ∷ row "P7 its tables are admitted" (graphAdmitted (graphTable P7) && machineAdmitted (machineTable (machine P7)))
     ∷ row "P8 blocks" (same (fields (runGraph (graphTable P7) (regs 12 18) 0 1000)) (0 ∷ 1 ∷ 9 ∷ 255 ∷ []))

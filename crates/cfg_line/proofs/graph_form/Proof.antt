@@ -3,6 +3,7 @@ use Prim.Native.Nat.{ℕ, _+_, _-_, _^_}
 use native.Mathlib.Omega.{arith}
 use lib.ListN.{drop, getD, drop-of-length-le}
 use denote.Ref.{now}
+use Rattle.cfg.specs.Layout.{maxBlocks, maxRegisters}
 use Rattle.cfg_line.specs.Number.{numberOf, literalOf, atMost}
 use Rattle.cfg_line.specs.Form.{number, field, end, graphLine, instruction, iteLine, formOf}
 use Rattle.cfg_line.specs.Cursor.{fieldAt, parsed}
@@ -54,7 +55,7 @@ returns-4 c =
     let r = c .before .before .before .before .r .given .0 .0 in
     let n = c .before .before .before .before .r .given .0 .1 .0 in
     let f = last numberOf t p (graphLine b) (sym (c .before .before .before .before .before .before .number2 .ensures) ∙ c .before .before .before .before .r .given .1) in
-    c .no-form4 .ensures ∙ sym (e ∙ f ∙ rw (le-leb 1 b (c .before .before .if1 .left), lt-leb b 64 (c .before .if2 .taken)))
+    c .no-form4 .ensures ∙ sym (e ∙ f ∙ rw (le-leb 1 b (c .before .before .if1 .left), lt-leb b maxBlocks (c .before .if2 .taken)))
 
 returns-5 : tie.Need-returns-5
 unfolding formOf
@@ -67,7 +68,7 @@ returns-5 c =
     let r = c .before .before .before .before .before .r .given .0 .0 in
     let n = c .before .before .before .before .before .r .given .0 .1 .0 in
     let f = last numberOf t p (graphLine b) (sym (c .before .before .before .before .before .before .before .number2 .ensures) ∙ c .before .before .before .before .before .r .given .1) in
-    c .no-form5 .ensures ∙ sym (e ∙ f ∙ rw (le-leb 1 b (c .before .before .before .if1 .left), le-leb b 64 (c .before .before .if2 .left), lt-leb 1 r (c .before .if3 .taken)))
+    c .no-form5 .ensures ∙ sym (e ∙ f ∙ rw (le-leb 1 b (c .before .before .before .if1 .left), le-leb b maxBlocks (c .before .before .if2 .left), lt-leb 1 r (c .before .if3 .taken)))
 
 returns-6 : tie.Need-returns-6
 unfolding formOf
@@ -80,7 +81,7 @@ returns-6 c =
     let r = c .before .before .before .before .before .before .r .given .0 .0 in
     let n = c .before .before .before .before .before .before .r .given .0 .1 .0 in
     let f = last numberOf t p (graphLine b) (sym (c .before .before .before .before .before .before .before .before .number2 .ensures) ∙ c .before .before .before .before .before .before .r .given .1) in
-    c .no-form6 .ensures ∙ sym (e ∙ f ∙ rw (le-leb 1 b (c .before .before .before .before .if1 .left), le-leb b 64 (c .before .before .before .if2 .left), le-leb 1 r (c .before .before .if3 .left), lt-leb r 16 (c .before .if4 .taken)))
+    c .no-form6 .ensures ∙ sym (e ∙ f ∙ rw (le-leb 1 b (c .before .before .before .before .if1 .left), le-leb b maxBlocks (c .before .before .before .if2 .left), le-leb 1 r (c .before .before .if3 .left), lt-leb r maxRegisters (c .before .if4 .taken)))
 
 returns-7 : tie.Need-returns-7
 unfolding formOf
@@ -93,7 +94,7 @@ returns-7 c =
     let r = c .before .before .before .before .before .r .given .0 .0 in
     let n = c .before .before .before .before .before .r .given .0 .1 .0 in
     let f = last numberOf t p (graphLine b) (sym (c .before .before .before .before .before .before .before .number2 .ensures) ∙ c .before .before .before .before .before .r .given .1) in
-    sym (e ∙ f ∙ rw (le-leb 1 b (c .before .before .before .if1 .left), le-leb b 64 (c .before .before .if2 .left), le-leb 1 r (c .before .if3 .left), le-leb r 16 (c .if4 .left)))
+    sym (e ∙ f ∙ rw (le-leb 1 b (c .before .before .before .if1 .left), le-leb b maxBlocks (c .before .before .if2 .left), le-leb 1 r (c .before .if3 .left), le-leb r maxRegisters (c .if4 .left)))
 
 pub graph-form-spec : {M : Type 1} → statement M
 graph-form-spec =

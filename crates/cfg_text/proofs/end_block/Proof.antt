@@ -7,6 +7,7 @@ use lib.ListN.{length, drop, set, length-set}
 use lib.Dec.{eqb, ltb}
 use denote.Ref.{now}
 use borrow.Author.Tests.{eq-eqb, ne-eqb, lt-ltb, le-ltb}
+use Rattle.cfg.specs.Layout.{endingOffset, blockOffset}
 use Rattle.cfg_line.specs.declared.Line.the-variants as line
 use Rattle.cfg_text.specs.Walk.{Progress, start, between, inside, next}
 use Rattle.cfg_text.specs.Place.{Stands, Agrees, Answers}
@@ -28,7 +29,7 @@ same-length c = simp length-set (c .before .before .before .put-four .kept .0 �
 
 returns : tie.Need-returns
 returns c =
-    let at = 2 + 40 * c .before .before .before .before .before .before .before .args .p .done + 33 in
+    let at = blockOffset (c .before .before .before .before .before .before .before .args .p .done) + endingOffset in
     let e4 : at + 4 ≡ suc (suc (suc (suc at))) = omega arith in
     let e5 : at + 5 ≡ suc (suc (suc (suc (suc at)))) = omega arith in
     (refl, rw (c .before .before .before .put-four .ensures, e4, e5))

@@ -1,6 +1,7 @@
 use Prim.Native.Nat.{_+_, _*_}
 use native.Mathlib.Omega.{arith}
 use mathlib.Core.Path.{ap}
+use Rattle.cfg.specs.Layout.{endingOffset, blockOffset}
 use Rattle.cfg.specs.declared.Ending.{Ending}
 use Rattle.cfg.specs.Table.{endingAt, blockAt}
 use Rattle.cfg_write.specs.Write.{endingLine, blockLines, lineText}
@@ -17,7 +18,7 @@ returns c =
     let t = k .args .table .now in
     let n = k .args .n in
     let e = ap (λ (x : Ending). lineText (endingLine x)) (c .before .before .before .before .ending-at .ensures) in
-    let end = put-as 64 (lineText (endingLine (endingAt t (2 + 40 * n + 33)))) (omega arith) e (c .before .before .put-ending .ensures) in
+    let end = put-as 64 (lineText (endingLine (endingAt t (blockOffset n + endingOffset)))) (omega arith) e (c .before .before .put-ending .ensures) in
     put-as 640 (linesText (blockLines n (blockAt t n))) (omega arith) (block-lines t n (k .pre .3))
     (put-then (c .before .before .before .before .before .before .before .before .before .before .before .put-numbered .ensures) (put-then (c .before .before .before .before .before .before .before .put-code .ensures) end))
 

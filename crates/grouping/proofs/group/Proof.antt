@@ -4,6 +4,7 @@ use Prim.Native.Nat.{_-_, _<_}
 use native.Mathlib.Omega.{arith}
 use denote.Ref.{now}
 use lib.ListN.{length}
+use Rattle.cfg.specs.Layout.{maxBlocks}
 use Rattle.cfg.specs.Table.{graphOf}
 use Rattle.grouping.specs.Answer.{groupingOf}
 use Rattle.grouping.specs.Bytes.{startersOf, population}
@@ -17,7 +18,7 @@ abbrev Inv-loop : tie.InvT-loop
 Inv-loop table edges starters₀ states₀ starters states = Round (graphOf table) starters × (states ≡ population edges (startersOf starters))
 
 abbrev μ-loop : tie.MeasureT-loop
-μ-loop table edges starters₀ states₀ starters states = 64 - length (startersOf starters)
+μ-loop table edges starters₀ states₀ starters states = maxBlocks - length (startersOf starters)
 
 -- an illegal edge leads to the next round
 on : (c : tie.After-with Inv-loop μ-loop) → Round (graphOf (now (c .before .before .before .before .before .before .before .before .before .before .before .before .before .before .args .table))) (c .with .result) × (length (startersOf (c .before .before .before .before .before .before .before .loop .starters)) < length (startersOf (c .with .result)))

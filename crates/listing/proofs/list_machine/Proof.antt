@@ -5,13 +5,13 @@ use mathlib.Core.List.{List}
 use mathlib.Core.Path.{ap, _∙_}
 use lib.ListN.{length, replicate, length-replicate}
 use Rattle.listing.proofs.Puts.{put-few, put-taken, put-front}
-use Rattle.listing.specs.Listing.{answerFor, outputFor}
+use Rattle.listing.specs.Listing.{maxListing, answerFor, outputFor}
 use borrow.Author.Needs.{needs}
 use Rattle.listing.proofs.list_machine.Statement.{statement}
 use Rattle.listing.proofs.list_machine.Tie as tie
 
-room : (c : tie.After-put-listing) → c .put-listing .result ≤ length (replicate {A = ℕ} 4096 0)
-room c = rw (length-replicate 4096) (omega (arith, c .put-listing .ensures .near))
+room : (c : tie.After-put-listing) → c .put-listing .result ≤ length (replicate {A = ℕ} maxListing 0)
+room c = rw (length-replicate maxListing) (omega (arith, c .put-listing .ensures .near))
 
 slice-aggregate-hand-over : tie.Need-slice-aggregate-hand-over
 slice-aggregate-hand-over c = put-taken (c .before .before .put-listing .ensures) (room (c .before .before))

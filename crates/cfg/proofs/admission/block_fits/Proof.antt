@@ -5,7 +5,7 @@ use mathlib.Core.Path.{_≡_, sym, _∙_}
 use lib.ListN.{getD}
 use borrow.Author.Tests.{not-true, not-false}
 use borrow.Author.Needs.{needs}
-use Rattle.cfg.specs.Layout.{blockOffset}
+use Rattle.cfg.specs.Layout.{maxInstructions, instructionWords, codeOffset, endingOffset, blockOffset}
 use Rattle.cfg.proofs.Words.{block-many, block-few}
 use Rattle.cfg.proofs.admission.block_fits.Statement.{statement}
 use Rattle.cfg.proofs.admission.block_fits.Tie as tie
@@ -40,7 +40,7 @@ returns-3 c =
     let h = c .before .before .before .before .if1 .left in
     let p = k .pre in
     let few = block-few (k .args .head .blocks) (k .args .head .registers) t n (omega arith) h in
-    let e : (o + 33) - (o + 1 + 4 * m) ≡ 4 * (8 - m) = omega arith in
+    let e : (o + endingOffset) - (o + codeOffset + instructionWords * m) ≡ instructionWords * (maxInstructions - m) = omega arith in
     let z = rw e at (c .before .all-zero .ensures) in
     sym (few ∙ rw (← c .before .before .before .code-valid .ensures, ← z, not-false (c .before .before .before .code-valid .result) (c .before .before .if2 .left), not-true (c .before .all-zero .result) (c .if3 .taken)))
 
@@ -54,7 +54,7 @@ returns-4 c =
     let h = c .before .before .before .before .before .before .if1 .left in
     let p = k .pre in
     let few = block-few (k .args .head .blocks) (k .args .head .registers) t n (omega arith) h in
-    let e : (o + 33) - (o + 1 + 4 * m) ≡ 4 * (8 - m) = omega arith in
+    let e : (o + endingOffset) - (o + codeOffset + instructionWords * m) ≡ instructionWords * (maxInstructions - m) = omega arith in
     let z = rw e at (c .before .before .before .all-zero .ensures) in
     sym (few ∙ rw (← c .before .before .before .before .before .code-valid .ensures, ← z, ← c .before .ending-fits .ensures, not-false (c .before .before .before .before .before .code-valid .result) (c .before .before .before .before .if2 .left), not-false (c .before .before .before .all-zero .result) (c .before .before .if3 .left), not-true (c .before .ending-fits .result) (c .if4 .taken)))
 
@@ -68,7 +68,7 @@ returns-5 c =
     let h = c .before .before .before .before .before .before .before .if1 .left in
     let p = k .pre in
     let few = block-few (k .args .head .blocks) (k .args .head .registers) t n (omega arith) h in
-    let e : (o + 33) - (o + 1 + 4 * m) ≡ 4 * (8 - m) = omega arith in
+    let e : (o + endingOffset) - (o + codeOffset + instructionWords * m) ≡ instructionWords * (maxInstructions - m) = omega arith in
     let z = rw e at (c .before .before .before .before .all-zero .ensures) in
     sym (few ∙ rw (← c .before .before .before .before .before .before .code-valid .ensures, ← z, ← c .before .before .ending-fits .ensures, not-false (c .before .before .before .before .before .before .code-valid .result) (c .before .before .before .before .before .if2 .left), not-false (c .before .before .before .before .all-zero .result) (c .before .before .before .if3 .left), not-false (c .before .before .ending-fits .result) (c .before .if4 .left)))
 

@@ -5,6 +5,7 @@ use mathlib.Core.Path.{_≡_, sym, _∙_}
 use lib.ListN.{getD}
 use borrow.Author.Tests.{not-true, not-false}
 use borrow.Author.Needs.{needs}
+use Rattle.cfg.specs.Layout.{blockWords, allBlockWords, graphWords, blockOffset}
 use Rattle.cfg.proofs.Words.{no-block, many-blocks, no-register, many-registers, by-blocks}
 use Rattle.cfg.proofs.admission.is_admitted.Statement.{statement}
 use Rattle.cfg.proofs.admission.is_admitted.Tie as tie
@@ -50,7 +51,7 @@ returns-6 c =
     let q = by-blocks t p (omega (arith, c .before .before .before .before .before .before)) (omega (arith, c .before .before .before .before .before)) (omega (arith, c .before .before .before .before)) (omega (arith, c .before .before .before)) in
     let f = rw (e .0, e .1) at (c .before .before .blocks-fit .ensures) in
     let z = rw (e .0) at (c .all-zero .ensures) in
-    let n : 2562 - (2 + 40 * getD t 0 0) ≡ 2560 - 40 * getD t 0 0 = omega arith in
+    let n : graphWords - blockOffset (getD t 0 0) ≡ allBlockWords - blockWords * getD t 0 0 = omega arith in
     sym (q ∙ rw (← f, ← n, ← z, not-false (c .before .before .blocks-fit .result) (c .before .if5 .left)))
 
 pub is-admitted-spec : {M : Type 1} → statement M

@@ -8,6 +8,7 @@ use borrow.Author.Needs.{needs}
 use borrow.Author.Tests.{leb-true}
 use Rattle.runs.proofs.Every.{below-fails, below-passes, below-done, below-at}
 use Rattle.runs.specs.Lists.{upFrom, every}
+use Rattle.fsmd.specs.Layout.{maxWires}
 use Rattle.fsmd.specs.Table.{validState, stateAt, within, firstWireAt, wireCountAt}
 use Rattle.fsmd.proofs.admission.all_valid.Statement.{statement}
 use Rattle.fsmd.proofs.admission.all_valid.Tie as tie
@@ -26,7 +27,7 @@ valid-state-requires c κs =
     let b = c .before in
     let a = b .before .before .args in
     let t = now (a .table) in
-    let h = leb-true (firstWireAt t (b .loop .k) + wireCountAt t (b .loop .k)) 3072 (below-at (within t) (a .states) (b .loop .k) (b .before .before .pre .1 .1 .0) (c .loop-test .taken)) in
+    let h = leb-true (firstWireAt t (b .loop .k) + wireCountAt t (b .loop .k)) maxWires (below-at (within t) (a .states) (b .loop .k) (b .before .before .pre .1 .1 .0) (c .loop-test .taken)) in
     search needs
 
 returns : tie.Need-returns Inv-loop μ-loop

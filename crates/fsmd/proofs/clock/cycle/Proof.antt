@@ -10,6 +10,7 @@ use denote.Ref.{now}
 use borrow.Author.Needs.{needs}
 use Rattle.runs.specs.Lists.{every}
 use Rattle.runs.proofs.ListLaws.{and-left}
+use Rattle.fsmd.specs.Layout.{maxRegisters, nextStateOffset, nextRegistersOffset}
 use Rattle.fsmd.specs.Machine.{worked}
 use Rattle.fsmd.specs.Table.{validReference, validWires}
 use Rattle.fsmd.proofs.Environment.{clocked}
@@ -29,8 +30,8 @@ work-requires c κs =
     let p = c .before .before .before .before .before .before .before .«record» in
     let h = k .pre .0 in
     let v = validWires r 0 (wiresFrom t (f .result) (n .result)) in
-    let q = validReference r (n .result) (getD t (p .result + 2) 0) in
-    let e = every (validReference r (n .result)) (take r (drop (p .result + 3) t)) in
+    let q = validReference r (n .result) (getD t (p .result + nextStateOffset) 0) in
+    let e = every (validReference r (n .result)) (take r (drop (p .result + nextRegistersOffset) t)) in
     let whole = sym (valid-state-is t r (k .args .k) (f .result) (n .result) (p .result) (f .ensures .0) (n .ensures .0) (p .ensures) refl) ∙ h .valid in
     (h .whole, (omega (arith, f .ensures .0, n .ensures .0, h .wires), (h .registers, (and-left v q (and-left (v && q) e whole), c .before .before .before .before .store .kept .0 ∙ k .pre .1))))
 
@@ -47,10 +48,10 @@ returns c =
     let n = l .before .before .wire-count in
     let p = l .before .before .before .«record» in
     let m = c .before .wide in
-    let h : length rs ≡ 16 = omega (arith, s .pre .1, l .store .kept .0, ap length (l .store .ensures), length-append rs (drop 16 ws), length-drop 16 ws) in
+    let h : length rs ≡ maxRegisters = omega (arith, s .pre .1, l .store .kept .0, ap length (l .store .ensures), length-append rs (drop maxRegisters ws), length-drop maxRegisters ws) in
     clocked t (a .k) (f .result) (n .result) (p .result) (m .result) (f .ensures .0) (n .ensures .0) (p .ensures) (m .ensures .0) rs
-    (take (16 + n .result) (b .work .last .0)) (c .taken .result .words) (c .before .before .before .before .read .result)
-    (b .work .ensures ∙ ap (λ (v : List ℕ). worked v (wiresFrom t (f .result) (n .result))) (ap (take 16) (l .store .ensures) ∙ take-at rs (drop 16 ws) 16 h))
+    (take (maxRegisters + n .result) (b .work .last .0)) (c .taken .result .words) (c .before .before .before .before .read .result)
+    (b .work .ensures ∙ ap (λ (v : List ℕ). worked v (wiresFrom t (f .result) (n .result))) (ap (take maxRegisters) (l .store .ensures) ∙ take-at rs (drop maxRegisters ws) maxRegisters h))
     (c .before .before .before .before .read .ensures)
     (c .taken .ensures)
 

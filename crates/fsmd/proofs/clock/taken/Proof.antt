@@ -8,6 +8,7 @@ use lib.Seq.{take-all}
 use denote.Ref.{now}
 use borrow.Author.Needs.{needs}
 use Rattle.runs.proofs.ListLaws.{getD-map, copied-more}
+use Rattle.fsmd.specs.Layout.{maxRegisters}
 use Rattle.fsmd.proofs.Windows.{window-length, window-at}
 use Rattle.fsmd.proofs.clock.taken.Statement.{statement}
 use Rattle.fsmd.proofs.clock.taken.Tie as tie
@@ -36,7 +37,7 @@ loop-again c =
     let q = c .before .before .loop-test .taken in
     let e : length s ≡ a .count = window-length t (a .at) (a .count) (search needs) in
     let k : length (map f s) ≡ a .count = length-map s f ∙ e in
-    let l : length (a .registers .words) ≡ 16 = search needs in (
+    let l : length (a .registers .words) ≡ maxRegisters = search needs in (
       omega arith,
       ap₂ (λ (l : List ℕ) (x : ℕ). set l i x) (b .loop .inv .1) (c .read .ensures ∙ ap f (sym (window-at t (a .at) (a .count) i q)) ∙ sym (getD-map f s i 0 0 (omega arith)))
           ∙ copied-more (a .registers .words) (map f s) i (omega arith) (omega arith),

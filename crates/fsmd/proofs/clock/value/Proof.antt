@@ -5,6 +5,7 @@ use lib.ListN.{getD}
 use denote.Ref.{now}
 use borrow.Author.Needs.{needs}
 use Rattle.word.specs.Word.{evalOf}
+use Rattle.fsmd.specs.Layout.{roomWords}
 use Rattle.fsmd.proofs.Environment.{value-set, value-other}
 use Rattle.fsmd.proofs.clock.value.Statement.{statement}
 use Rattle.fsmd.proofs.clock.value.Tie as tie
@@ -12,12 +13,12 @@ use Rattle.fsmd.proofs.clock.value.Tie as tie
 returns : tie.Need-returns
 returns c =
     let a = c .before .before .before .args in
-    value-set (λ x. getD (now (a .words)) (x % 4096) 0) (a .w) (c .if1 .taken)
+    value-set (λ x. getD (now (a .words)) (x % roomWords) 0) (a .w) (c .if1 .taken)
 
 returns-2 : tie.Need-returns-2
 returns-2 c =
     let a = c .before .before .before .before .before .before .before .before .before .before .args in
-    let at : ℕ → ℕ = λ x. getD (now (a .words)) (x % 4096) 0 in
+    let at : ℕ → ℕ = λ x. getD (now (a .words)) (x % roomWords) 0 in
     let k = a .w .code in
     let x = c .before .before .before .before .before .before .wide in
     let y = c .before .before .before .before .before .wide2 in

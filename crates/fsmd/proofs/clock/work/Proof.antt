@@ -6,6 +6,7 @@ use mathlib.Core.Path.{_≡_, refl, sym, ap, _∙_}
 use lib.ListN.{length, take, drop, length-set, getD}
 use denote.Ref.{now}
 use borrow.Author.Needs.{needs}
+use Rattle.fsmd.specs.Layout.{maxRegisters, roomWords}
 use Rattle.fsmd.specs.Machine.{worked, wireValue}
 use Rattle.fsmd.specs.Table.{wireAt, validWires}
 use Rattle.fsmd.proofs.Environment.{value-within, work-next, work-done}
@@ -18,7 +19,7 @@ Inv-loop words₀ table first count n₀ words n =
     (n ≤ count)
     × (length words ≡ length words₀)
     × (validWires (getD table 1 0) n (drop n (wiresFrom table first count)) ≡ true)
-    × (worked (take (16 + n) words) (drop n (wiresFrom table first count)) ≡ worked (take 16 words₀) (wiresFrom table first count))
+    × (worked (take (maxRegisters + n) words) (drop n (wiresFrom table first count)) ≡ worked (take maxRegisters words₀) (wiresFrom table first count))
 
 abbrev μ-loop : tie.MeasureT-loop
 μ-loop words₀ table first count n₀ words n = count - n
@@ -40,9 +41,9 @@ loop-again c =
     let w = wireAt t (a .first + n) in
     let below = c .before .before .before .loop-test .taken in
     let v = wire-valid t (a .first) (a .count) r n below (b .loop .inv .2) in
-    let f : ℕ → ℕ = λ x. getD (b .loop .words) (x % 4096) 0 in (
+    let f : ℕ → ℕ = λ x. getD (b .loop .words) (x % roomWords) 0 in (
       omega arith,
-      length-set (b .loop .words) (16 + n) (c .value .result) ∙ b .loop .inv .1,
+      length-set (b .loop .words) (maxRegisters + n) (c .value .result) ∙ b .loop .inv .1,
       sym (wires-pass t (a .first) (a .count) r n below v) ∙ b .loop .inv .2,
       sym (work-next t (a .first) (a .count) n (b .loop .words) (c .value .result) below (omega arith)
           (c .value .ensures ∙ ap (wireValue f) (c .before .wire .ensures) ∙ value-within (b .loop .words) r n w (omega arith) (omega arith) v))
@@ -54,8 +55,8 @@ returns c =
     let b = c .before in
     let a = b .before .before .before .args in
     let e : b .loop .n ≡ a .count = omega arith in
-    ap (λ (i : ℕ). take (16 + i) (b .loop .words)) (sym e)
-    ∙ sym (work-done (now (a .table)) (a .first) (a .count) (b .loop .n) (take (16 + b .loop .n) (b .loop .words)) (omega arith)) ∙ b .loop .inv .3
+    ap (λ (i : ℕ). take (maxRegisters + i) (b .loop .words)) (sym e)
+    ∙ sym (work-done (now (a .table)) (a .first) (a .count) (b .loop .n) (take (maxRegisters + b .loop .n) (b .loop .words)) (omega arith)) ∙ b .loop .inv .3
 
 pub work-spec : {M : Type 1} → statement M
 work-spec =

@@ -7,6 +7,7 @@ use denote.Ref.{now}
 use borrow.Author.Needs.{needs}
 use Rattle.runs.proofs.RunLaws.{Reached, reached-start, reached-spent, registers-spent, reached-halted, registers-halted}
 use Rattle.runs.specs.Runs.{Configuration, startAt}
+use Rattle.fsmd.specs.Layout.{roomWords}
 use Rattle.fsmd.specs.Clock.{after}
 use Rattle.fsmd.specs.Machine.{clock, cycle}
 use Rattle.fsmd.specs.Table.{machineOf, stateAt}
@@ -18,7 +19,7 @@ use Rattle.fsmd.proofs.run.run.Tie as tie
 abbrev Inv-loop : tie.InvT-loop
 Inv-loop table start budget states words₀ file₀ state₀ count₀ words file state count =
     (state < getD table 0 0)
-    × (length words ≡ 4096)
+    × (length words ≡ roomWords)
     × Reached (cycle (machineOf table)) budget (startAt start (file₀ .words)) count (startAt state (file .words))
 
 abbrev μ-loop : tie.MeasureT-loop
@@ -28,7 +29,7 @@ loop-holds : tie.Need-loop-holds Inv-loop μ-loop
 loop-holds c =
     let a = c .before .before .args in (
       c .before .before .pre .1 .1,
-      length-replicate {A = ℕ} 4096 0,
+      length-replicate {A = ℕ} roomWords 0,
       reached-start (cycle (machineOf (now (a .table)))) (a .budget) (startAt (a .start) (a .registers .words)),
     )
 

@@ -7,6 +7,7 @@ use denote.Ref.{now}
 use borrow.Author.Needs.{needs}
 use borrow.Author.Tests.{not-true, not-false}
 use Rattle.runs.specs.Runs.{startAt, answer, registersAfter}
+use Rattle.fsmd.specs.Layout.{maxRegisters}
 use Rattle.fsmd.specs.Machine.{cycle}
 use Rattle.fsmd.specs.Table.{machineOf}
 use Rattle.fsmd.proofs.Steps.{refused-answer, refused-registers, run-answer, run-registers, refuse-table, refuse-registers, refuse-machine, refuse-start, refuse-none}
@@ -59,7 +60,7 @@ returns-5 c =
     let l = c .before .before .before .before .before .before .load .ensures in (
       r .0 ∙ ap (λ (x : List ℕ). answer m (a .budget) (startAt (a .start) x)) l ∙ sym (run-answer t rs (a .start) (a .budget) e),
       c .before .before .store .ensures
-          ∙ ap (λ (x : List ℕ). x ++ drop 16 rs) (r .1 ∙ ap (λ (x : List ℕ). registersAfter m (a .budget) (startAt (a .start) x)) l)
+          ∙ ap (λ (x : List ℕ). x ++ drop maxRegisters rs) (r .1 ∙ ap (λ (x : List ℕ). registersAfter m (a .budget) (startAt (a .start) x)) l)
           ∙ sym (run-registers t rs (a .start) (a .budget) e),
     )
 

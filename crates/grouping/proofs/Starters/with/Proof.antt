@@ -4,6 +4,7 @@ use mathlib.Core.Path.{_≡_}
 use native.Mathlib.Omega.{arith}
 use lib.ListN.{getD}
 use borrow.Author.Needs.{needs}
+use Rattle.cfg.specs.Layout.{maxBlocks}
 use Rattle.grouping.proofs.StarterLaws.{with-known, with-room, with-listed, with-more}
 use Rattle.grouping.proofs.Starters.with.Statement.{statement}
 use Rattle.grouping.proofs.Starters.with.Tie as tie
@@ -11,7 +12,7 @@ use Rattle.grouping.proofs.Starters.with.Tie as tie
 new : (c : tie.Then1) → getD (c .before .before .before .args .t1 .marks) (c .before .before .before .args .block) 0 ≡ 0
 new c = rw (c .before .before .wide .ensures .0) at (c .if1 .taken)
 
-room : (c : tie.Then1) → c .before .before .before .args .t1 .count < 64
+room : (c : tie.Then1) → c .before .before .before .args .t1 .count < maxBlocks
 room c =
     let k = c .before .before .before in
     with-room (k .args .t1) (k .pre .0) (k .args .block) (k .pre .1) (new c)

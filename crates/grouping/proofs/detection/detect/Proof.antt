@@ -9,6 +9,7 @@ use Rattle.grouping.specs.Bytes.{used}
 use Rattle.grouping.proofs.ByteStack.{shallow}
 use Rattle.grouping.proofs.DetectionSearch.{DetectVisit, DetectEdges, detect-begins, detect-ends, detect-enters, detect-pops, detect-none, detect-stops, detect-room, detect-falls, detect-pushes, detect-known}
 use borrow.Author.Needs.{needs}
+use Rattle.cfg.specs.Layout.{maxBlocks}
 use Rattle.grouping.proofs.detection.detect.Statement.{statement}
 use Rattle.grouping.proofs.detection.detect.Tie as tie
 
@@ -24,10 +25,10 @@ Inv-visit edges states starters seen₀ stack₀ passed₀ depth₀ found₀ see
     DetectVisit edges starters states seen stack passed depth × (found ≡ Legal)
 
 abbrev μ-visit : tie.MeasureT-visit
-μ-visit edges states starters seen₀ stack₀ passed₀ depth₀ found₀ seen stack passed depth found = 2 * (64 - used 0 seen) + depth
+μ-visit edges states starters seen₀ stack₀ passed₀ depth₀ found₀ seen stack passed depth found = 2 * (maxBlocks - used 0 seen) + depth
 
 -- a block that is not visited yet finds room on the stack
-room : (c : tie.Then3 Inv-edges μ-edges Inv-visit μ-visit) → c .before .before .before .before .before .before .before .edges .depth < 64
+room : (c : tie.Then3 Inv-edges μ-edges Inv-visit μ-visit) → c .before .before .before .before .before .before .before .edges .depth < maxBlocks
 room c =
     let a = c .before .before .before .before .before in
     detect-room (a .before .before .edges .inv .0) (a .at .result) (c .before .before .before .before .wide3 .result) (c .before .before .before .before .wide3 .ensures .0) (a .at .ensures) (a .before .edges-test .taken) (c .before .before .before .if1 .taken) (c .if3 .taken)

@@ -4,6 +4,7 @@ use mathlib.Core.Logic.{⊎-elim}
 use Prim.Native.Nat.{_-_, _<_}
 use native.Mathlib.Omega.{arith}
 use denote.Ref.{now}
+use Rattle.cfg.specs.Layout.{maxBlocks}
 use Rattle.cfg.proofs.Admitted.{Admitted, admitted-facts}
 use Rattle.grouping.proofs.EdgeBytes.{Copied, copied-none, copied-all, goto-low, ite-low, copied-halt, copied-goto, copied-ite}
 use borrow.Author.Needs.{needs}
@@ -17,7 +18,7 @@ abbrev μ-loop : tie.MeasureT-loop
 μ-loop table edges₀ blocks n₀ edges n = blocks - n
 
 -- the block is one, and its number is small
-inside : (c : tie.In-loop Inv-loop μ-loop) → Admitted (now (c .before .before .before .before .args .table)) × (c .before .loop .n < 64)
+inside : (c : tie.In-loop Inv-loop μ-loop) → Admitted (now (c .before .before .before .before .args .table)) × (c .before .loop .n < maxBlocks)
 inside c = let a = admitted-facts (now (c .before .before .before .before .args .table)) (c .before .before .before .before .pre) in (a, omega (arith, a .fewBlocks, c .loop-test .taken))
 
 shared-slice-read-blocks : tie.Need-shared-slice-read-blocks Inv-loop μ-loop

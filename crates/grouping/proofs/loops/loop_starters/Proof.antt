@@ -9,6 +9,7 @@ use Rattle.grouping.proofs.Marks.{used-more}
 use Rattle.grouping.proofs.ByteStack.{shallow}
 use Rattle.grouping.proofs.LoopSearch.{LoopVisit, LoopEdges, loop-begins, loop-ends, loop-enters, loop-pops, loop-none, loop-room, loop-falls, loop-pushes, loop-again, loop-known}
 use borrow.Author.Needs.{needs}
+use Rattle.cfg.specs.Layout.{maxBlocks}
 use Rattle.grouping.proofs.loops.loop_starters.Statement.{statement}
 use Rattle.grouping.proofs.loops.loop_starters.Tie as tie
 
@@ -23,10 +24,10 @@ abbrev Inv-visit : tie.InvT-visit
 Inv-visit edges starters₀ marks₀ stack₀ passed₀ depth₀ starters marks stack passed depth = LoopVisit edges starters marks stack passed depth
 
 abbrev μ-visit : tie.MeasureT-visit
-μ-visit edges starters₀ marks₀ stack₀ passed₀ depth₀ starters marks stack passed depth = 2 * (64 - used 0 marks) + depth
+μ-visit edges starters₀ marks₀ stack₀ passed₀ depth₀ starters marks stack passed depth = 2 * (maxBlocks - used 0 marks) + depth
 
 -- a block that is met for the first time finds room on the stack
-room : (c : tie.Then2 Inv-edges μ-edges Inv-visit μ-visit) → c .before .before .before .before .before .edges .depth < 64
+room : (c : tie.Then2 Inv-edges μ-edges Inv-visit μ-visit) → c .before .before .before .before .before .edges .depth < maxBlocks
 room c =
     let a = c .before .before .before in
     loop-room (a .before .before .edges .inv .0) (a .at .result) (c .before .before .wide3 .result) (c .before .before .wide3 .ensures .0) (a .at .ensures) (a .before .edges-test .taken) (c .before .if1 .taken) (c .if2 .taken)

@@ -7,6 +7,7 @@ use Rattle.grouping.specs.Bytes.{taken}
 use Rattle.grouping.proofs.StarterLaws.{starters-few}
 use Rattle.grouping.proofs.PopulationSearch.{Populating, populating-begins, populating-on, populating-ends}
 use borrow.Author.Needs.{needs}
+use Rattle.cfg.specs.Layout.{maxBlocks}
 use Rattle.grouping.proofs.population.populate.Statement.{statement}
 use Rattle.grouping.proofs.population.populate.Tie as tie
 
@@ -20,7 +21,7 @@ abbrev μ-loop : tie.MeasureT-loop
 more : (c : tie.Then1 Inv-loop μ-loop) → c .before .before .before .loop .k < c .before .before .before .before .before .args .starters .count
 more c = omega (arith, c .if1 .taken, c .before .before .wide .ensures .0)
 
-few : (c : tie.Start Inv-loop μ-loop) → c .args .starters .count ≤ 64
+few : (c : tie.Start Inv-loop μ-loop) → c .args .starters .count ≤ maxBlocks
 few c = starters-few (c .args .starters) (c .pre)
 
 loop-holds : tie.Need-loop-holds Inv-loop μ-loop

@@ -11,6 +11,7 @@ use Rattle.grouping.proofs.ByteStack.{shallow}
 use Rattle.grouping.proofs.StarterLaws.{starters-few}
 use Rattle.grouping.proofs.PopulationSearch.{takeRest, TakeVisit, TakeEdges, take-nothing, take-begins, take-whole, take-ends, take-onward, take-enters, take-pops, take-none, take-known, take-starter, take-room, take-falls, take-pushes}
 use borrow.Author.Needs.{needs}
+use Rattle.cfg.specs.Layout.{maxBlocks}
 use Rattle.grouping.proofs.population.take_state.Statement.{statement}
 use Rattle.grouping.proofs.population.take_state.Tie as tie
 
@@ -26,20 +27,20 @@ Inv-visit edges k states₀ starters number first root stack₀ passed₀ depth�
     TakeVisit edges starters root k (takeRest edges starters root k states₀ stack₀ passed₀ depth₀) states stack passed depth
 
 abbrev μ-visit : tie.MeasureT-visit
-μ-visit edges k states₀ starters number first root stack₀ passed₀ depth₀ states stack passed depth = 2 * (64 - used none states) + depth
+μ-visit edges k states₀ starters number first root stack₀ passed₀ depth₀ states stack passed depth = 2 * (maxBlocks - used none states) + depth
 
-few : (c : tie.After-wide Inv-edges μ-edges Inv-visit μ-visit) → c .before .before .before .args .k < 64
+few : (c : tie.After-wide Inv-edges μ-edges Inv-visit μ-visit) → c .before .before .before .args .k < maxBlocks
 few c = let a = c .before .before .before in omega (arith, a .pre .1, starters-few (a .args .t2) (a .pre .0))
 
 -- the starter's byte, and that it is a block
 first-is : (c : tie.After-wide2 Inv-edges μ-edges Inv-visit μ-visit) → c .wide2 .result ≡ getD (c .before .before .before .before .before .args .t2 .list) (c .before .before .before .before .before .args .k) 0
 first-is c = c .wide2 .ensures .0 ∙ ap (λ (n : ℕ). getD (c .before .before .before .before .before .args .t2 .list) n 0) (c .before .before .wide .ensures .0)
 
-root-low : (c : tie.After-wide2 Inv-edges μ-edges Inv-visit μ-visit) → c .wide2 .result < 64
+root-low : (c : tie.After-wide2 Inv-edges μ-edges Inv-visit μ-visit) → c .wide2 .result < maxBlocks
 root-low c = rw (first-is c) (c .before .before .before .before .before .pre .0 .blocks (c .before .before .before .before .before .args .k) (c .before .before .before .before .before .pre .1))
 
 -- a block that is not taken yet finds room on the stack
-room : (c : tie.Then4 Inv-edges μ-edges Inv-visit μ-visit) → c .before .before .before .before .before .before .before .before .edges .depth < 64
+room : (c : tie.Then4 Inv-edges μ-edges Inv-visit μ-visit) → c .before .before .before .before .before .before .before .before .edges .depth < maxBlocks
 room c =
     let a = c .before .before .before .before .before .before in
     take-room (a .before .before .edges .inv .0) (a .at .result) (c .before .before .before .before .before .wide5 .result) (c .before .before .before .before .before .wide5 .ensures .0) (a .at .ensures) (a .before .edges-test .taken) (c .before .before .before .before .if2 .taken) (c .before .before .if3 .taken)

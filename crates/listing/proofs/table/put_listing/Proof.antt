@@ -2,6 +2,7 @@
 use native.Mathlib.Omega.{arith}
 use mathlib.Core.Path.{refl}
 use Rattle.cfg_write.proofs.PutLaws.{put-then, put-as}
+use Rattle.listing.specs.Listing.{maxListing}
 use Rattle.listing.specs.Words.{tableListing, headLineAt}
 use borrow.Author.Needs.{needs}
 use Rattle.listing.proofs.table.put_listing.Statement.{statement}
@@ -11,7 +12,7 @@ returns : tie.Need-returns
 unfolding tableListing headLineAt
 returns c =
     let head = rw (c .before .before .before .before .before .before .before .wires-of .ensures) at (c .before .before .before .before .before .before .put-head .ensures) in
-    put-as 4096 (tableListing (c .before .before .before .before .before .before .before .before .before .before .before .before .args .machine .now)) (omega arith) refl (put-then head (c .before .before .put-lines .ensures))
+    put-as maxListing (tableListing (c .before .before .before .before .before .before .before .before .before .before .before .before .args .machine .now)) (omega arith) refl (put-then head (c .before .before .put-lines .ensures))
 
 pub put-listing-spec : {M : Type 1} → statement M
 put-listing-spec =

@@ -3,6 +3,7 @@ use Rattle.replay.proofs.Parts.{part}
 use Prim.Native.Nat.{ℕ}
 use native.Mathlib.Omega.{arith}
 use lib.ListN.{length-replicate}
+use Rattle.listing.specs.Listing.{maxListing}
 use borrow.Author.Needs.{needs}
 use Rattle.replay.proofs.steps.list.Statement.{statement}
 use Rattle.replay.proofs.steps.list.Tie as tie
@@ -11,7 +12,7 @@ slice-aggregate-of-bytes : tie.Need-slice-aggregate-of-bytes
 slice-aggregate-of-bytes c =
     let called = c .before .before .before .before .before .before .before .before .before .before .before in
     let test = c .before .before .before .before .before .before in
-    part _ _ (omega (arith, test .if1 .taken, called .list .kept .1 .0, length-replicate {A = ℕ} 4096 0))
+    part _ _ (omega (arith, test .if1 .taken, called .list .kept .1 .0, length-replicate {A = ℕ} maxListing 0))
 
 pub list-spec : {M : Type 1} → statement M
 list-spec =

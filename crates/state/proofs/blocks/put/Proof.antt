@@ -6,6 +6,7 @@ use lib.ListN.{length}
 use Rattle.cfg.specs.Table.{blockAt}
 use Rattle.state.proofs.PutLaws.{enter-fits, entered-fits, assigns-fit, assigned-fits, close-fits, put-made}
 use borrow.Author.Needs.{needs}
+use Rattle.fsmd.specs.Layout.{maxRegisters}
 use Rattle.state.proofs.blocks.put.Statement.{statement}
 use Rattle.state.proofs.blocks.put.Tie as tie
 use Rattle.state.proofs.blocks.put.Reads as reads
@@ -54,7 +55,7 @@ close-requires c κs =
     let p = c .before .before .before .before .before .before .before .before .before .before .before .before .before .before .before .before .before .before .before .before .before .before .before .before .before .before .before .before .before .pre in
     let e = c .before .before .before .before .before .before .before .before .before .before .before .before .before .before .before .before .before .before .before .enter in
     let s = c .before .before .before .before .before .before .before .before .before .before .before .before .assign-all in
-    let few : length (s .last .1 .1 .1 .0) ≤ 16 = omega (arith, s .kept .1 .1 .1 .0, e .kept .1 .0, p .1 .1 .0 .0) in (
+    let few : length (s .last .1 .1 .1 .0) ≤ maxRegisters = omega (arith, s .kept .1 .1 .1 .0, e .kept .1 .0, p .1 .1 .0 .0) in (
       (p .0 .known, p .0 .whole, few, p .0 .aims),
       (
         record { all = c .before .before .before .before .before .before .use-up .kept .0 ∙ p .1 .0 .all; each = p .1 .0 .each; few = p .1 .0 .few },

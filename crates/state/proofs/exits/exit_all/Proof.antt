@@ -6,7 +6,7 @@ use denote.Ref.{now}
 use lib.ListN.{length, getD, take, drop, length-drop}
 use lib.Seq.{length-take-le}
 use Rattle.state.specs.Wires.{Edge, Point, exit, exits, leaves, towards}
-use Rattle.state.specs.Making.{pointIn, Held, along, edgeTo, edgesIn, groupsIn, exitTo}
+use Rattle.state.specs.Making.{pointIn, Held, along, edgeTo, edgesIn, rowWords, groupsIn, exitTo}
 use Rattle.state.proofs.ExitLaws.{length-exit, grow-exit, exits-fold, exit-along}
 use Rattle.state.proofs.WalkLaws.{Walking, walking-start, walking-room, walking-next, walking-done, onward}
 use borrow.Author.Needs.{needs}
@@ -102,10 +102,10 @@ exit-requires c κs =
     let p = c .before .before .before .before .before .before .before .before .before .before .before .before .before .before .before .pre in
     let rows = now (a .rows) in
     let g = groupsIn (now (a .starters)) (now (a .states)) in
-    let e : 17 * l .i + 1 + length (l .values) - (17 * l .i + 1) ≡ length (l .values) = omega arith in
+    let e : rowWords * l .i + 1 + length (l .values) - (rowWords * l .i + 1) ≡ length (l .values) = omega arith in
     let s = l .inv .sized in (
-      ap (λ (k : ℕ). length (take k (drop (17 * l .i + 1) rows))) e
-          ∙ length-take-le (length (l .values)) (drop (17 * l .i + 1) rows) (omega (arith, length-drop (17 * l .i + 1) rows, s, p .0, p .1 .1 .0)),
+      ap (λ (k : ℕ). length (take k (drop (rowWords * l .i + 1) rows))) e
+          ∙ length-take-le (length (l .values)) (drop (rowWords * l .i + 1) rows) (omega (arith, length-drop (rowWords * l .i + 1) rows, s, p .0, p .1 .1 .0)),
       walking-room (length (now (a .values))) (now (a .targets)) rows (leaves g) (a .count) (p .1 .1 .0 .1) (omega (arith, p .0, p .1 .1 .0)) (exit g) 2 (length-exit g) (grow-exit g) (l .inv) (c .before .before .before .before .before .before .loop-test .taken) (p .1 .1 .1),
     )
 
@@ -131,10 +131,10 @@ loop-again c =
     let rows = now (a .rows) in
     let r = length (now (a .values)) in
     let g = groupsIn (now (a .starters)) (now (a .states)) in
-    let e : 17 * l .i + 1 + length (l .values) - (17 * l .i + 1) ≡ r = omega (arith, l .inv .sized) in
+    let e : rowWords * l .i + 1 + length (l .values) - (rowWords * l .i + 1) ≡ r = omega (arith, l .inv .sized) in
     let q = pointIn (l .made .arrival) (l .values) (l .made .wires) (l .wires) in
-    let k : Held (exit g (edgeTo (getD (now (a .targets)) (l .i) 0) (getD rows (17 * l .i) 0) (take r (drop (17 * l .i + 1) rows))) q) (l .wires) (j .result .arrival) (j .last .1 .0) (j .result .wires) (j .last .0) =
-    rw (exit-along g (c .before .before .before .before .before .before .before .before .before .before .next-state .result) (getD (now (a .targets)) (l .i) 0) (getD rows (17 * l .i) 0) (take (17 * l .i + 1 + length (l .values) - (17 * l .i + 1)) (drop (17 * l .i + 1) rows)) (take r (drop (17 * l .i + 1) rows)) q (c .before .before .before .before .before .before .before .before .before .before .next-state .ensures) (ap (λ (m : ℕ). take m (drop (17 * l .i + 1) rows)) e)) at (j .ensures) in
+    let k : Held (exit g (edgeTo (getD (now (a .targets)) (l .i) 0) (getD rows (rowWords * l .i) 0) (take r (drop (rowWords * l .i + 1) rows))) q) (l .wires) (j .result .arrival) (j .last .1 .0) (j .result .wires) (j .last .0) =
+    rw (exit-along g (c .before .before .before .before .before .before .before .before .before .before .next-state .result) (getD (now (a .targets)) (l .i) 0) (getD rows (rowWords * l .i) 0) (take (rowWords * l .i + 1 + length (l .values) - (rowWords * l .i + 1)) (drop (rowWords * l .i + 1) rows)) (take r (drop (rowWords * l .i + 1) rows)) q (c .before .before .before .before .before .before .before .before .before .before .next-state .ensures) (ap (λ (m : ℕ). take m (drop (rowWords * l .i + 1) rows)) e)) at (j .ensures) in
     walking-next r (now (a .targets)) rows (leaves g) (a .count) (p .1 .1 .0 .1) (omega (arith, p .0, p .1 .1 .0)) (exit g) 2 (length-exit g) (grow-exit g) (l .inv)
     (j .result .arrival) (j .last .1 .0) (j .result .wires) (j .last .0) (c .next-exit2 .result)
     (c .before .before .before .before .before .before .before .before .before .before .before .before .loop-test .taken) k (c .next-exit2 .ensures) (j .kept .1 .0) (j .kept .0)

@@ -9,9 +9,10 @@ use mathlib.Core.List.{List, [], _∷_}
 use denote.Ref.{now}
 use lib.ListN.{length, getD, take, drop}
 use lib.Seq.{take-length}
+use Rattle.fsmd.specs.Layout.{maxRegisters}
 use Rattle.fsmd.specs.declared.Wire.{Wire}
 use Rattle.state.specs.Wires.{Point, closeState, exits, leaves, towards}
-use Rattle.state.specs.Making.{Room, wiresIn, pointIn, Held, pending, appended, groupsIn}
+use Rattle.state.specs.Making.{Room, wiresIn, pointIn, Held, pending, rowWords, appended, groupsIn}
 use Rattle.state.proofs.EnterLaws.{paste-whole, source-length}
 use Rattle.state.proofs.StarterLaws.{used-no-starter}
 use Rattle.state.proofs.ExitLaws.{leave-none, leave-some, leave-fits}
@@ -55,11 +56,11 @@ further c =
     let g = groupsIn (now (a .starters)) (now (a .states)) in
     let i = c .before .before .before .before .before .before .before .before .before .before .before .before .before .before .next-exit .result in
     let lt : i < a .made .edges = omega (arith, c .before .before .before .before .before .before .before .before .before .before .before .before .before .before .next-exit .ensures .high, c .before .before .before .before .before .before .before .before .before .before .before .before .before .if1 .left) in
-    let e : 17 * i + 1 + r - (17 * i + 1) ≡ r = omega arith in
+    let e : rowWords * i + 1 + r - (rowWords * i + 1) ≡ r = omega arith in
     let l = source-length r i (a .made .edges) rows (p .1 .1 .0 .0) lt (omega (arith, p .0)) in
-    let es : take (17 * i + 1 + r - (17 * i + 1)) (drop (17 * i + 1) rows) ≡ take r (drop (17 * i + 1) rows) = ap (λ (k : ℕ). take k (drop (17 * i + 1) rows)) e in
-    let ev : c .before .before .before .before .before .before .before .before .before .before .copy .last .0 ≡ take r (drop (17 * i + 1) rows) =
-    c .before .before .before .before .before .before .before .before .before .before .copy .ensures ∙ paste-whole vs (take (17 * i + 1 + r - (17 * i + 1)) (drop (17 * i + 1) rows)) (ap length es ∙ l) ∙ es in
+    let es : take (rowWords * i + 1 + r - (rowWords * i + 1)) (drop (rowWords * i + 1) rows) ≡ take r (drop (rowWords * i + 1) rows) = ap (λ (k : ℕ). take k (drop (rowWords * i + 1) rows)) e in
+    let ev : c .before .before .before .before .before .before .before .before .before .before .copy .last .0 ≡ take r (drop (rowWords * i + 1) rows) =
+    c .before .before .before .before .before .before .before .before .before .before .copy .ensures ∙ paste-whole vs (take (rowWords * i + 1 + r - (rowWords * i + 1)) (drop (rowWords * i + 1) rows)) (ap length es ∙ l) ∙ es in
     leave-some g r (now (a .targets)) rows (a .made .edges) (a .made .wires) (now (a .wires)) (used-no-starter (now (a .starters)) (now (a .states)) (p .1 .0))
     i (c .before .before .before .before .before .before .before .before .before .before .before .before .before .before .next-exit .ensures) lt (c .before .before .before .before .before .before .before .before .before .before .copy .last .0) (c .before .before .before .before .before .next-state .result) (c .reference .result) (c .before .before .before .emit .last .0) ev (ap length ev ∙ l)
     (c .before .before .before .before .before .next-state .ensures)
@@ -161,7 +162,7 @@ exit-all-requires c κs =
     let l = c .before .before .before .before .before .emit .kept .0 in
     let high = c .before .before .before .before .before .before .before .before .before .before .before .before .before .before .before .before .next-exit .ensures .high in
     let lt : c .before .before .before .before .before .before .before .before .before .before .before .before .before .before .before .before .next-exit .result + 1 ≤ a .made .edges = omega (arith, c .before .before .before .before .before .before .before .before .before .before .before .before .before .before .before .if1 .left) in
-    let few : length (c .before .before .before .before .before .before .before .before .before .before .before .before .copy .last .0) ≤ 16 = omega (arith, c .before .before .before .before .before .before .before .before .before .before .before .before .copy .kept .0, p .1 .1 .0 .0) in
+    let few : length (c .before .before .before .before .before .before .before .before .before .before .before .before .copy .last .0) ≤ maxRegisters = omega (arith, c .before .before .before .before .before .before .before .before .before .before .before .before .copy .kept .0, p .1 .1 .0 .0) in
     let room = subst (λ (q : Point). Room (length (q .wires)) (now (a .wires))) e (p .1 .1 .1) in
     (p .0, (p .1 .0, ((lt, few, record { fits = omega (arith, r .fits); few = r .few }), record { fits = omega (arith, room .fits); few = room .few })))
 

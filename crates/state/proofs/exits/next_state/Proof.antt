@@ -1,5 +1,6 @@
 use borrow.Author.Tests.{eq-eqb, ne-eqb}
 use borrow.Author.Needs.{needs}
+use Rattle.fsmd.specs.Layout.{none}
 use Rattle.state.proofs.exits.next_state.Statement.{statement}
 use Rattle.state.proofs.exits.next_state.Tie as tie
 use Rattle.state.proofs.exits.next_state.Reads as reads
@@ -16,7 +17,7 @@ entry-requires c κs = search needs
 
 -- src/exits.rt:27:1
 returns-2 : tie.Need-returns-2
-returns-2 c = rw (ne-eqb (c .before .before .before .before .args .target) 255 (c .before .if1 .left)) (c .entry .ensures)
+returns-2 c = rw (ne-eqb (c .before .before .before .before .args .target) none (c .before .if1 .left)) (c .entry .ensures)
 
 pub next-state-spec : {M : Type 1} → statement M
 next-state-spec = tie.close (tie.spec returns entry-requires returns-2)

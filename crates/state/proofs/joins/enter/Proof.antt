@@ -1,5 +1,4 @@
 use Rattle.state.specs.Wires.{joins}
-use Rattle.state.specs.Making.{pointIn}
 use Rattle.state.proofs.JoinLaws.{incoming}
 use Prim.Native.Nat.{ℕ, _+_, _-_, _*_, _≤_, _<_}
 use native.Mathlib.Omega.{arith}
@@ -9,7 +8,7 @@ use mathlib.Core.Bool.{Bool, true, false}
 use denote.Ref.{now}
 use lib.ListN.{length, getD, take, drop}
 use Rattle.state.specs.Wires.{Point, enter}
-use Rattle.state.specs.Making.{Room, Held, buildIn}
+use Rattle.state.specs.Making.{Room, pointIn, Held, rowWords, buildIn}
 use Rattle.state.proofs.EnterLaws.{enter-start, enter-start-length, enter-none, enter-none-length, enter-first, paste-whole, source-length}
 use borrow.Author.Needs.{needs}
 use Rattle.state.proofs.joins.enter.Statement.{statement}
@@ -25,7 +24,7 @@ use Rattle.state.proofs.joins.join_all.Reads as join-all-reads
 further : (c : tie.After-copy)
     → enter (length (now (c .before .before .before .before .before .before .before .before .before .before .args .values))) false (c .before .before .before .before .before .before .before .before .before .before .args .x) (buildIn (length (now (c .before .before .before .before .before .before .before .before .before .before .args .values))) (now (c .before .before .before .before .before .before .before .before .before .before .args .targets)) (now (c .before .before .before .before .before .before .before .before .before .before .args .rows)) (c .before .before .before .before .before .before .before .before .before .before .args .made .edges) (c .before .before .before .before .before .before .before .before .before .before .args .made .wires) (now (c .before .before .before .before .before .before .before .before .before .before .args .wires)))
     ≡ joins (incoming (length (c .copy .last .0)) (now (c .before .before .before .before .before .before .before .before .before .before .args .targets)) (now (c .before .before .before .before .before .before .before .before .before .before .args .rows)) (c .before .before .before .before .before .before .before .before .before .before .args .x) (c .before .before .before .before .before .before .before .before .before .before .args .made .edges) (c .before .before .before .before .next-edge .result + 1))
-    (pointIn (getD (now (c .before .before .before .before .before .before .before .before .before .before .args .rows)) (17 * c .before .before .before .before .next-edge .result) 0) (c .copy .last .0) (c .before .before .before .before .before .before .before .before .before .before .args .made .wires) (now (c .before .before .before .before .before .before .before .before .before .before .args .wires)))
+    (pointIn (getD (now (c .before .before .before .before .before .before .before .before .before .before .args .rows)) (rowWords * c .before .before .before .before .next-edge .result) 0) (c .copy .last .0) (c .before .before .before .before .before .before .before .before .before .before .args .made .wires) (now (c .before .before .before .before .before .before .before .before .before .before .args .wires)))
 further c =
     let a = c .before .before .before .before .before .before .before .before .before .before .args in
     let p = c .before .before .before .before .before .before .before .before .before .before .pre in
@@ -35,11 +34,11 @@ further c =
     let i = c .before .before .before .before .next-edge .result in
     let high = c .before .before .before .before .next-edge .ensures .high in
     let lt : i < a .made .edges = omega (arith, c .before .before .before .if2 .left) in
-    let e : 17 * i + 1 + r - (17 * i + 1) ≡ r = omega arith in
+    let e : rowWords * i + 1 + r - (rowWords * i + 1) ≡ r = omega arith in
     let l = source-length r i (a .made .edges) rows (p .1 .0 .0) lt (omega (arith, p .0)) in
-    let es : take (17 * i + 1 + r - (17 * i + 1)) (drop (17 * i + 1) rows) ≡ take r (drop (17 * i + 1) rows) = ap (λ (k : ℕ). take k (drop (17 * i + 1) rows)) e in
-    let ev : c .copy .last .0 ≡ take r (drop (17 * i + 1) rows) =
-    c .copy .ensures ∙ paste-whole vs (take (17 * i + 1 + r - (17 * i + 1)) (drop (17 * i + 1) rows)) (ap length es ∙ l) ∙ es in
+    let es : take (rowWords * i + 1 + r - (rowWords * i + 1)) (drop (rowWords * i + 1) rows) ≡ take r (drop (rowWords * i + 1) rows) = ap (λ (k : ℕ). take k (drop (rowWords * i + 1) rows)) e in
+    let ev : c .copy .last .0 ≡ take r (drop (rowWords * i + 1) rows) =
+    c .copy .ensures ∙ paste-whole vs (take (rowWords * i + 1 + r - (rowWords * i + 1)) (drop (rowWords * i + 1) rows)) (ap length es ∙ l) ∙ es in
     enter-first r (now (a .targets)) rows (a .made .edges) (a .x) (a .made .wires) (now (a .wires)) i (p .1 .0 .1) (c .before .before .before .before .next-edge .ensures) lt (c .copy .last .0) ev (ap length ev ∙ l)
 
 -- src/joins.rt:88:9

@@ -89,10 +89,10 @@ join-requires c κs =
     let a = c .before .before .before .before .before .before .before .before .before .before .before .args in
     let p = c .before .before .before .before .before .before .before .before .before .before .before .pre in
     let rows = now (a .rows) in
-    let e : 17 * l .i + 1 + length (l .values) - (17 * l .i + 1) ≡ length (l .values) = omega arith in
+    let e : rowWords * l .i + 1 + length (l .values) - (rowWords * l .i + 1) ≡ length (l .values) = omega arith in
     let s = l .inv .sized in (
-      ap (λ (k : ℕ). length (take k (drop (17 * l .i + 1) rows))) e
-          ∙ length-take-le (length (l .values)) (drop (17 * l .i + 1) rows) (omega (arith, length-drop (17 * l .i + 1) rows, s, p .0, p .1 .0)),
+      ap (λ (k : ℕ). length (take k (drop (rowWords * l .i + 1) rows))) e
+          ∙ length-take-le (length (l .values)) (drop (rowWords * l .i + 1) rows) (omega (arith, length-drop (rowWords * l .i + 1) rows, s, p .0, p .1 .0)),
       walking-room (length (now (a .values))) (now (a .targets)) rows (leadsTo (a .x)) (a .count) (p .1 .0 .1) (omega (arith, p .0, p .1 .0)) join 1 length-join grow-join (l .inv) (c .before .before .before .before .loop-test .taken) (p .1 .1 .1),
     )
 
@@ -118,8 +118,8 @@ loop-again c =
     let j = c .before .before .before .before .before .join in
     let rows = now (a .rows) in
     let r = length (now (a .values)) in
-    let e : 17 * l .i + 1 + length (l .values) - (17 * l .i + 1) ≡ r = omega (arith, l .inv .sized) in
-    let k : Held (join (edgeTo (getD (now (a .targets)) (l .i) 0) (getD rows (17 * l .i) 0) (take r (drop (17 * l .i + 1) rows))) (pointIn (l .made .arrival) (l .values) (l .made .wires) (l .wires))) (l .wires) (j .result .arrival) (j .last .1 .0) (j .result .wires) (j .last .0) =
+    let e : rowWords * l .i + 1 + length (l .values) - (rowWords * l .i + 1) ≡ r = omega (arith, l .inv .sized) in
+    let k : Held (join (edgeTo (getD (now (a .targets)) (l .i) 0) (getD rows (rowWords * l .i) 0) (take r (drop (rowWords * l .i + 1) rows))) (pointIn (l .made .arrival) (l .values) (l .made .wires) (l .wires))) (l .wires) (j .result .arrival) (j .last .1 .0) (j .result .wires) (j .last .0) =
     rw e at (j .ensures) in
     walking-next r (now (a .targets)) rows (leadsTo (a .x)) (a .count) (p .1 .0 .1) (omega (arith, p .0, p .1 .0)) join 1 length-join grow-join (l .inv)
     (j .result .arrival) (j .last .1 .0) (j .result .wires) (j .last .0) (c .next-edge2 .result)

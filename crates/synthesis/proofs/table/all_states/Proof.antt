@@ -6,6 +6,7 @@ use native.Mathlib.Omega.{arith}
 use denote.Ref.{now}
 use lib.ListN.{length, take, set, length-set}
 use borrow.Author.Needs.{needs}
+use Rattle.fsmd.specs.Layout.{recordsOffset}
 use Rattle.synthesis.specs.StateWords.{written, withStates, firstStates, Filled}
 use Rattle.state.specs.Making.{Edged}
 use Rattle.synthesis.proofs.MachineTable.{filled-on}
@@ -14,7 +15,7 @@ use Rattle.synthesis.proofs.table.all_states.Tie as tie
 
 abbrev Inv-loop : tie.InvT-loop
 Inv-loop graph edges starts starters states table₀ targets₀ rows₀ k₀ first₀ table targets rows k first =
-    Filled graph table k first × (take 130 table ≡ take 130 table₀) × (k ≤ length starters) × Edged targets rows 0
+    Filled graph table k first × (take recordsOffset table ≡ take recordsOffset table₀) × (k ≤ length starters) × Edged targets rows 0
 
 abbrev μ-loop : tie.MeasureT-loop
 μ-loop graph edges starts starters states table₀ targets₀ rows₀ k₀ first₀ table targets rows k first = length starters - k
@@ -42,7 +43,7 @@ returns c =
     let a = c .before .before .before .before .before .before .before .before .before .before .args in
     let l = c .before .loop in
     let e : l .k ≡ length (now (a .starters)) = omega (arith, c .loop-test .left, l .inv .2) in
-    l .inv .0 .words ∙ ap (λ (h : List ℕ). withStates h (firstStates (now (a .graph)) (l .k))) (l .inv .1) ∙ ap (λ (n : ℕ). withStates (take 130 (now (a .table))) (firstStates (now (a .graph)) n)) e
+    l .inv .0 .words ∙ ap (λ (h : List ℕ). withStates h (firstStates (now (a .graph)) (l .k))) (l .inv .1) ∙ ap (λ (n : ℕ). withStates (take recordsOffset (now (a .table))) (firstStates (now (a .graph)) n)) e
 
 pub all-states-spec : {M : Type 1} → statement M
 all-states-spec =

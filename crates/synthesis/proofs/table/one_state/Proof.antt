@@ -8,6 +8,8 @@ use lib.ListN.{length, getD, take, drop, replicate, length-append, length-drop}
 use lib.Seq.{length-take-le}
 use borrow.Author.Needs.{needs}
 use borrow.Rule.Slice.PartMut.{same-len-mid, putMid}
+use Rattle.fsmd.specs.Layout.{maxStates, maxBlocks, maxRegisters, maxWires, machineWords, wireOffset}
+use Rattle.cfg.specs.Layout.{graphWords}
 use Rattle.cfg.specs.Table.{graphOf}
 use Rattle.grouping.specs.Grouping.{groups}
 use Rattle.grouping.proofs.Reach.{admitted-closed}
@@ -24,11 +26,11 @@ use Rattle.synthesis.proofs.table.one_state.Tie as tie
 
 -- small numbers at entry
 record Small (t table : List ℕ) (k first : ℕ) : Type 0 where
-  state : k < 64
-  wire : first ≤ 3072
-  registers : getD t 1 0 ≤ 16
-  long : 2562 ≤ length t
-  all : length table ≡ 13634
+  state : k < maxStates
+  wire : first ≤ maxWires
+  registers : getD t 1 0 ≤ maxRegisters
+  long : graphWords ≤ length t
+  all : length table ≡ machineWords
 
 small : (c : tie.Start) → Small (now (c .args .graph)) (now (c .args .table)) (c .args .k) (c .args .first)
 small c =
@@ -43,8 +45,8 @@ small c =
     }
 
 -- the 16 zeros' first registers
-zeros-length : (c : tie.Start) → length (take (getD (now (c .args .graph)) 1 0) (replicate {A = ℕ} 16 0)) ≡ getD (now (c .args .graph)) 1 0
-zeros-length c = length-take-le (getD (now (c .args .graph)) 1 0) (replicate {A = ℕ} 16 0) (small c .registers)
+zeros-length : (c : tie.Start) → length (take (getD (now (c .args .graph)) 1 0) (replicate {A = ℕ} maxRegisters 0)) ≡ getD (now (c .args .graph)) 1 0
+zeros-length c = length-take-le (getD (now (c .args .graph)) 1 0) (replicate {A = ℕ} maxRegisters 0) (small c .registers)
 
 -- the blocks in order
 ordered : (c : tie.After-place) → take (c .place .result .count) (c .place .result .blocks) ≡ order (graphOf (now (c .before .before .before .before .before .before .before .before .before .args .graph))) (groups (graphOf (now (c .before .before .before .before .before .before .before .before .before .args .graph)))) (c .before .before .before .before .before .before .before .before .before .args .k)
@@ -52,7 +54,7 @@ ordered c =
     let a = c .before .before .before .before .before .before .before .before .before .args in
     let p = c .before .before .before .before .before .before .before .before .before .pre in
     c .place .ensures .2
-    ∙ ap (λ (x : List ℕ). placeIn (now (a .edges)) (now (a .starts)) (membersIn x (a .k)) 64 []) (p .0 .its-states)
+    ∙ ap (λ (x : List ℕ). placeIn (now (a .edges)) (now (a .starts)) (membersIn x (a .k)) maxBlocks []) (p .0 .its-states)
     ∙ placed-order (graphOf (now (a .graph))) (admitted-closed (now (a .graph)) (p .0 .admits)) (a .k) (below (now (a .graph)) (now (a .edges)) (now (a .starts)) (now (a .starters)) (now (a .states)) (p .0) (now (a .table)) (a .k) (a .first) (p .1 .0 .1) (p .1 .0 .0)) (now (a .edges)) (now (a .starts)) (p .0 .leading) (p .0 .starting)
 
 blocks-length : (c : tie.After-place) → c .place .result .count ≡ length (take (c .place .result .count) (c .place .result .blocks))
@@ -61,14 +63,14 @@ blocks-length c = sym (length-take-le (c .place .result .count) (c .place .resul
 abbrev end : tie.After-place → Point
 end c =
     let a = c .before .before .before .before .before .before .before .before .before .args in
-    stateBlocks (length (take (getD (now (a .graph)) 1 0) (replicate {A = ℕ} 16 0))) (now (a .graph)) (now (a .starters)) (now (a .states)) (take (c .place .result .count) (c .place .result .blocks))
+    stateBlocks (length (take (getD (now (a .graph)) 1 0) (replicate {A = ℕ} maxRegisters 0))) (now (a .graph)) (now (a .starters)) (now (a .states)) (take (c .place .result .count) (c .place .result .blocks))
 
 end-is : (c : tie.After-place) → end c ≡ pointOf (nth (now (c .before .before .before .before .before .before .before .before .before .args .graph)) (c .before .before .before .before .before .before .before .before .before .args .k))
 end-is c =
     let a = c .before .before .before .before .before .before .before .before .before .args in
     let p = c .before .before .before .before .before .before .before .before .before .pre in
     state-is (now (a .graph)) (p .0 .admits) (a .k) (below (now (a .graph)) (now (a .edges)) (now (a .starts)) (now (a .starters)) (now (a .states)) (p .0) (now (a .table)) (a .k) (a .first) (p .1 .0 .1) (p .1 .0 .0))
-    (length (take (getD (now (a .graph)) 1 0) (replicate {A = ℕ} 16 0))) (now (a .starters)) (now (a .states)) (take (c .place .result .count) (c .place .result .blocks))
+    (length (take (getD (now (a .graph)) 1 0) (replicate {A = ℕ} maxRegisters 0))) (now (a .starters)) (now (a .states)) (take (c .place .result .count) (c .place .result .blocks))
     (zeros-length (c .before .before .before .before .before .before .before .before .before)) (p .0 .its-starters) (p .0 .its-states) (ordered c)
 
 cast-place : tie.Need-cast-place
@@ -127,23 +129,23 @@ values-length c = c .make .kept .1 .1 .1 .1 .1 .0 ∙ zeros-length (c .before .b
 few-registers : (c : tie.After-make) → c .make .result .registers ≤ getD (now (c .before .before .before .before .before .before .before .before .before .before .before .before .before .before .before .before .before .args .graph)) 1 0
 few-registers c = omega (arith, c .make .ensures .1, zeros-length (c .before .before .before .before .before .before .before .before .before .before .before .before .before .before .before .before .before))
 
-made-few : (c : tie.After-make) → c .before .before .before .before .before .before .before .before .before .before .before .before .before .before .before .before .before .args .first + c .make .result .wires ≤ 3072
+made-few : (c : tie.After-make) → c .before .before .before .before .before .before .before .before .before .before .before .before .before .before .before .before .before .args .first + c .make .result .wires ≤ maxWires
 made-few c =
     let a = c .before .before .before .before .before .before .before .before .before .before .before .before .before .before .before .before .before .args in
     let p = c .before .before .before .before .before .before .before .before .before .before .before .before .before .before .before .before .before .pre in
     made-low (now (a .graph)) (now (a .edges)) (now (a .starts)) (now (a .starters)) (now (a .states)) (p .0) (now (a .table)) (a .k) (a .first) (p .1 .0 .1) (p .1 .0 .0)
     (end (c .before .before .before .before .before .before .before .before)) (end-is (c .before .before .before .before .before .before .before .before)) (wires-of c) (values-of c) (c .make .result .registers) (c .make .result .wires) (c .make .result .next) (c .make .ensures .0) (values-length c) (few-registers c)
 
-table-length : (c : tie.After-make) → length (putMid (1346 + 4 * c .before .before .before .before .before .before .before .before .before .before .before .before .before .before .before .before .before .args .first) (length (now (c .before .before .before .before .before .before .before .before .before .before .before .before .before .before .before .before .before .args .table)) - (1346 + 4 * c .before .before .before .before .before .before .before .before .before .before .before .before .before .before .before .before .before .args .first)) (now (c .before .before .before .before .before .before .before .before .before .before .before .before .before .before .before .before .before .args .table)) (wires-of c)) ≡ 13634
+table-length : (c : tie.After-make) → length (putMid (wireOffset (c .before .before .before .before .before .before .before .before .before .before .before .before .before .before .before .before .before .args .first)) (length (now (c .before .before .before .before .before .before .before .before .before .before .before .before .before .before .before .before .before .args .table)) - (wireOffset (c .before .before .before .before .before .before .before .before .before .before .before .before .before .before .before .before .before .args .first))) (now (c .before .before .before .before .before .before .before .before .before .before .before .before .before .before .before .before .before .args .table)) (wires-of c)) ≡ machineWords
 table-length c =
     let a = c .before .before .before .before .before .before .before .before .before .before .before .before .before .before .before .before .before .args in
-    same-len-mid (1346 + 4 * a .first) (length (now (a .table)) - (1346 + 4 * a .first)) (now (a .table)) (wires-of c) (c .make .kept .1 .1 .1 .1 .0) ∙ small (c .before .before .before .before .before .before .before .before .before .before .before .before .before .before .before .before .before) .all
+    same-len-mid (wireOffset (a .first)) (length (now (a .table)) - (wireOffset (a .first))) (now (a .table)) (wires-of c) (c .make .kept .1 .1 .1 .1 .0) ∙ small (c .before .before .before .before .before .before .before .before .before .before .before .before .before .before .before .before .before) .all
 
-registers-length : (c : tie.After-make) → length (values-of c ++ drop (getD (now (c .before .before .before .before .before .before .before .before .before .before .before .before .before .before .before .before .before .args .graph)) 1 0) (replicate {A = ℕ} 16 0)) ≡ 16
+registers-length : (c : tie.After-make) → length (values-of c ++ drop (getD (now (c .before .before .before .before .before .before .before .before .before .before .before .before .before .before .before .before .before .args .graph)) 1 0) (replicate {A = ℕ} maxRegisters 0)) ≡ maxRegisters
 registers-length c =
     let r = getD (now (c .before .before .before .before .before .before .before .before .before .before .before .before .before .before .before .before .before .args .graph)) 1 0 in
     let s = small (c .before .before .before .before .before .before .before .before .before .before .before .before .before .before .before .before .before) in
-    omega (arith, length-append (values-of c) (drop r (replicate {A = ℕ} 16 0)), length-drop r (replicate {A = ℕ} 16 0), values-length c, s .registers)
+    omega (arith, length-append (values-of c) (drop r (replicate {A = ℕ} maxRegisters 0)), length-drop r (replicate {A = ℕ} maxRegisters 0), values-length c, s .registers)
 
 mul-write-record : tie.Need-mul-write-record
 mul-write-record c = let s = small (c .before .before .before .before .before .before .before .before .before .before .before .before .before .before .before .before .before .before .before .before .before .before .before .before .before) in omega (arith, s .state)
@@ -172,11 +174,11 @@ returns c =
     let r = d .make .result in (
       made-words (now (a .graph)) (now (a .edges)) (now (a .starts)) (now (a .starters)) (now (a .states)) (p .0) (now (a .table)) (a .k) (a .first) (p .1 .0 .1) (p .1 .0 .0)
           (end e) (end-is e) (wires-of d) (values-of d) (r .registers) (r .wires) (r .next) (d .make .ensures .0) (values-length d) (few-registers d)
-          (drop (getD (now (a .graph)) 1 0) (replicate {A = ℕ} 16 0))
-          (putMid (1346 + 4 * a .first) (length (now (a .table)) - (1346 + 4 * a .first)) (now (a .table)) (wires-of d))
+          (drop (getD (now (a .graph)) 1 0) (replicate {A = ℕ} maxRegisters 0))
+          (putMid (wireOffset (a .first)) (length (now (a .table)) - (wireOffset (a .first))) (now (a .table)) (wires-of d))
           (c .before .before .before .write-record .last .0)
-          (drop-zeros (getD (now (a .graph)) 1 0) 16 (small (c .before .before .before .before .before .before .before .before .before .before .before .before .before .before .before .before .before .before .before .before .before .before .before .before .before .before .before .before .before .before) .registers))
-          (ap (λ (x : List ℕ). take (1346 + 4 * a .first) (now (a .table)) ++ x) (made-table (now (a .graph)) (now (a .edges)) (now (a .starts)) (now (a .starters)) (now (a .states)) (p .0) (now (a .table)) (a .k) (a .first) (p .1 .0 .1) (p .1 .0 .0)
+          (drop-zeros (getD (now (a .graph)) 1 0) maxRegisters (small (c .before .before .before .before .before .before .before .before .before .before .before .before .before .before .before .before .before .before .before .before .before .before .before .before .before .before .before .before .before .before) .registers))
+          (ap (λ (x : List ℕ). take (wireOffset (a .first)) (now (a .table)) ++ x) (made-table (now (a .graph)) (now (a .edges)) (now (a .starts)) (now (a .starters)) (now (a .states)) (p .0) (now (a .table)) (a .k) (a .first) (p .1 .0 .1) (p .1 .0 .0)
           (end e) (end-is e) (wires-of d) (values-of d) (r .registers) (r .wires) (r .next) (d .make .ensures .0) (values-length d) (few-registers d)))
           (c .before .before .before .write-record .ensures),
       made-count (now (a .graph)) (now (a .edges)) (now (a .starts)) (now (a .starters)) (now (a .states)) (p .0) (now (a .table)) (a .k) (a .first) (p .1 .0 .1) (p .1 .0 .0)

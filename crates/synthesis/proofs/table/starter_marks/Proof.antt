@@ -5,6 +5,7 @@ use native.Mathlib.Omega.{arith}
 use denote.Ref.{now}
 use lib.ListN.{length, getD, replicate, length-replicate, getD-replicate}
 use borrow.Author.Needs.{needs, scaled-fits}
+use Rattle.fsmd.specs.Layout.{maxBlocks}
 use Rattle.synthesis.proofs.TableWrites.{Marking, marking-none, marking-on, marking-all}
 use Rattle.synthesis.proofs.table.starter_marks.Statement.{statement}
 use Rattle.synthesis.proofs.table.starter_marks.Tie as tie
@@ -18,7 +19,7 @@ abbrev μ-loop : tie.MeasureT-loop
 loop-holds : tie.Need-loop-holds Inv-loop μ-loop
 loop-holds c = marking-none (now (c .before .args .starters))
 
-below : (c : tie.After-wide Inv-loop μ-loop) → c .wide .result < 64
+below : (c : tie.After-wide Inv-loop μ-loop) → c .wide .result < maxBlocks
 below c =
     let h = c .before .before .before .before .before .pre (c .before .before .before .loop .i) (c .before .before .loop-test .taken) in
     omega (arith, c .wide .ensures .0)

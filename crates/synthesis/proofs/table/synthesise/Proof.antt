@@ -7,6 +7,7 @@ use lib.ListN.{length, take}
 use lib.Seq.{length-take-le}
 use borrow.Author.Needs.{needs}
 use borrow.Author.Tests.{not-true, not-false}
+use Rattle.fsmd.specs.Layout.{machineWords}
 use Rattle.cfg.specs.Table.{admitted}
 use Rattle.synthesis.proofs.TableFilled.{short-graph, short-machine, not-admitted, machine-made}
 use Rattle.synthesis.proofs.table.synthesise.Statement.{statement}
@@ -24,10 +25,10 @@ returns-3 c =
     not-admitted (now (a .graph)) (now (a .machine)) (c .before .before .before .if1 .left) (c .before .before .if2 .left) (sym (c .before .is-admitted .ensures) ∙ not-true (c .before .is-admitted .result) (c .if3 .taken))
 
 slice-aggregate-fill : tie.Need-slice-aggregate-fill
-slice-aggregate-fill c = sym (length-take-le 13634 (now (c .before .before .before .before .before .before .before .args .machine)) (c .before .before .before .if2 .left))
+slice-aggregate-fill c = sym (length-take-le machineWords (now (c .before .before .before .before .before .before .before .args .machine)) (c .before .before .before .if2 .left))
 
 fill-requires : tie.Need-fill-requires
-fill-requires c κs = (sym (c .before .before .is-admitted .ensures) ∙ not-false (c .before .before .is-admitted .result) (c .before .if3 .left), length-take-le 13634 (now (c .before .before .before .before .before .before .before .args .machine)) (c .before .before .before .if2 .left))
+fill-requires c κs = (sym (c .before .before .is-admitted .ensures) ∙ not-false (c .before .before .is-admitted .result) (c .before .if3 .left), length-take-le machineWords (now (c .before .before .before .before .before .before .before .args .machine)) (c .before .before .before .if2 .left))
 
 returns-4 : tie.Need-returns-4
 returns-4 c =

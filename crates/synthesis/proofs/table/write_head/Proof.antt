@@ -6,6 +6,7 @@ use native.Mathlib.Omega.{arith}
 use denote.Ref.{now}
 use lib.ListN.{length, take, set, length-set}
 use borrow.Author.Needs.{needs}
+use Rattle.fsmd.specs.Layout.{startersOffset, blockStatesOffset}
 use Rattle.synthesis.specs.StateWords.{written, withStates, firstStates, Filled}
 use Rattle.synthesis.proofs.TableWrites.{head-written}
 use Rattle.synthesis.proofs.table.write_head.Statement.{statement}
@@ -28,7 +29,7 @@ returns c =
     let a = c .before .before .before .before .before .before .before .before .before .before .before .before .before .before .before .args in
     let p = c .before .before .before .before .before .before .before .before .before .before .before .before .before .before .before .pre in
     c .before .before .copy-bytes2 .ensures
-    ∙ ap (written 66 (now (a .states))) (c .before .before .before .before .before .before .copy-bytes .ensures ∙ ap (λ (l : List ℕ). written 2 (now (a .starters)) (set (set l 0 (a .count)) 1 (a .registers))) (c .before .before .before .before .before .before .before .before .before .before .clear .ensures))
+    ∙ ap (written blockStatesOffset (now (a .states))) (c .before .before .before .before .before .before .copy-bytes .ensures ∙ ap (λ (l : List ℕ). written startersOffset (now (a .starters)) (set (set l 0 (a .count)) 1 (a .registers))) (c .before .before .before .before .before .before .before .before .before .before .clear .ensures))
     ∙ head-written (length (now (a .table))) (a .count) (a .registers) (now (a .starters)) (now (a .states)) (p .0) (p .1) (p .2)
 
 pub write-head-spec : {M : Type 1} → statement M

@@ -67,20 +67,19 @@ fn holds_back(edges: &[u8], left: &[u8], x: u8, u: usize) -> bool
     }
 }
 
-// Whether no block that is left leads to x. Without a way out, the loop tests many at once.
+// Whether no block that is left leads to x.
 fn is_freed(edges: &[u8], left: &[u8], x: u8) -> bool
     requires { ⌜ x < maxBlocks ⌝ }
     ensures { λ r. ⌜ r ≡ freed (now (edges .entry)) (now (left .entry)) x ⌝ }
 {
-    let mut free = true;
     let mut u: usize = 0;
     while u < Graph::BLOCKS {
         if holds_back(edges, left, x, u) {
-            free = false;
+            return false;
         }
         u += 1;
     }
-    free
+    true
 }
 
 // Whether x is left to place and ready.

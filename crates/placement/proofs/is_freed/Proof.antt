@@ -1,7 +1,6 @@
--- `placement::is_freed` meets its contract: what is free so far, and what is left to test. Assumes nothing.
-use mathlib.Core.Bool.{Bool, true, false, not, _&&_}
-use mathlib.Core.Logic.{⊎-elim}
-use mathlib.Core.Path.{_≡_, refl, sym, ap, _∙_}
+-- `placement::is_freed` meets its contract: the blocks passed do not hold it back. Assumes nothing.
+use mathlib.Core.Bool.{Bool, not}
+use mathlib.Core.Path.{_≡_, sym, ap, _∙_}
 use Prim.Native.Nat.{ℕ, _-_}
 use denote.Ref.{now}
 use borrow.Author.Needs.{needs}
@@ -12,37 +11,35 @@ use Rattle.placement.proofs.is_freed.Statement.{statement}
 use Rattle.placement.proofs.is_freed.Tie as tie
 
 abbrev Inv-loop : tie.InvT-loop
-Inv-loop edges left x free₀ u₀ free u = freed edges left x ≡ (free && every (λ v. not (holdsBack edges left x v)) (upFrom u (64 - u)))
+Inv-loop edges left x u₀ u = freed edges left x ≡ every (λ v. not (holdsBack edges left x v)) (upFrom u (64 - u))
 
 abbrev μ-loop : tie.MeasureT-loop
-μ-loop edges left x free₀ u₀ free u = 64 - u
+μ-loop edges left x u₀ u = 64 - u
 
-and-no : (b : Bool) → b && false ≡ false
-and-no true = refl
-and-no false = refl
+loop-holds : tie.Need-loop-holds Inv-loop μ-loop
+loop-holds c = let a = c .before .before .args in freed-opens (now (a .edges)) (now (a .left)) (a .x)
 
-and-yes : (b : Bool) → b && true ≡ b
-and-yes true = refl
-and-yes false = refl
+returns : tie.Need-returns Inv-loop μ-loop
+returns c =
+    let a = c .before .before .before .before .before .before .args in
+    let l = c .before .before .before .loop in
+    let p : ℕ → Bool = λ v. not (holdsBack (now (a .edges)) (now (a .left)) (a .x) v) in
+    sym (l .inv ∙ every-fails p (l .u) (c .before .before .loop-test .taken) (ap not (sym (c .before .holds-back .ensures) ∙ c .if1 .taken)))
 
 loop-again : tie.Need-loop-again Inv-loop μ-loop
 loop-again c =
     let a = c .before .before .before .before .before .before .args in
     let l = c .before .before .before .loop in
     let p : ℕ → Bool = λ v. not (holdsBack (now (a .edges)) (now (a .left)) (a .x) v) in
-    let below = c .before .before .loop-test .taken in
-    let h = c .before .holds-back .ensures in
-    ⊎-elim
-    (λ w. rw (w .1) (l .inv ∙ (ap (λ (z : Bool). l .free && z) (every-fails p (l .u) below (ap not (sym h ∙ w .0 .taken))) ∙ and-no (l .free))))
-    (λ w. rw (w .1) (l .inv ∙ ap (λ (z : Bool). l .free && z) (every-on p (l .u) below (ap not (sym h ∙ w .0 .left)))))
-    (c .if1 .came)
+    l .inv ∙ every-on p (l .u) (c .before .before .loop-test .taken) (ap not (sym (c .before .holds-back .ensures) ∙ c .if1 .left))
 
-returns : tie.Need-returns Inv-loop μ-loop
-returns c =
+returns-2 : tie.Need-returns-2 Inv-loop μ-loop
+returns-2 c =
     let a = c .before .before .before .before .args in
     let l = c .before .loop in
     let p : ℕ → Bool = λ v. not (holdsBack (now (a .edges)) (now (a .left)) (a .x) v) in
-    sym (l .inv ∙ (ap (λ (z : Bool). l .free && z) (every-done p (l .u) (c .loop-test .left)) ∙ and-yes (l .free)))
+    sym (l .inv ∙ every-done p (l .u) (c .loop-test .left))
 
 pub is-freed-spec : {M : Type 1} → statement M
-is-freed-spec = tie.close (tie.spec Inv-loop μ-loop (λ c. let a = c .before .before .args in freed-opens (now (a .edges)) (now (a .left)) (a .x)) (λ c κs. search needs) (λ c. search needs) (λ c. search needs) loop-again returns)
+is-freed-spec =
+    tie.close (tie.spec Inv-loop μ-loop loop-holds (λ c κs. search needs) returns (λ c. search needs) (λ c. search needs) loop-again returns-2)

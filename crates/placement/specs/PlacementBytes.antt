@@ -42,7 +42,24 @@ placeIn edges starts blocks zero placed = []
 placeIn edges starts blocks (suc n) placed =
     placeNext (first (nextIn edges starts blocks (λ x. mem x placed)) blocks) (λ x. placeIn edges starts blocks n (x ∷ placed))
 
+-- ---- where `left` marks the blocks of the state that are left to place
+
+-- u is left to place, and leads to x
+abbrev pub holdsBack : List ℕ → List ℕ → ℕ → ℕ → Bool
+holdsBack edges left x u = marked left u && mem x (edgesIn edges u)
+
+unfoldable pub freed : List ℕ → List ℕ → ℕ → Bool
+freed edges left x = every (λ u. not (holdsBack edges left x u)) (upFrom 0 maxBlocks)
+
+-- x is left to place, and is a starter or held back by none
+abbrev pub dueIn : List ℕ → List ℕ → List ℕ → ℕ → Bool
+dueIn edges starts left x = marked left x && (marked starts x || freed edges left x)
+
 -- a block's number, or 64 for none
 abbrev pub blockOr64 : Option ℕ → ℕ
 blockOr64 Option.none = maxBlocks
 blockOr64 (Option.some x) = x
+
+-- the lowest-numbered block that is due
+unfoldable pub nextDue : List ℕ → List ℕ → List ℕ → ℕ
+nextDue edges starts left = blockOr64 (first (dueIn edges starts left) (upFrom 0 maxBlocks))

@@ -2,14 +2,13 @@
 use cfg::Graph;
 use grouping::edges;
 ghost use mathlib.Core.Path.{_≡_};
-ghost use mathlib.Core.Bool.{not, _&&_};
 ghost use mathlib.Core.List.{[]};
-ghost use Prim.Native.Nat.{_<_, _≤_};
+ghost use Prim.Native.Nat.{ℕ, _<_, _≤_};
 ghost use lib.ListN.{length, take};
-ghost use Rattle.runs.specs.Lists.{mem, every, first};
+ghost use Rattle.runs.specs.Lists.{mem};
 ghost use Rattle.fsmd.specs.Layout.{maxBlocks};
 ghost use Rattle.grouping.specs.Bytes.{edgesIn};
-ghost use Rattle.placement.specs.PlacementBytes.{marked, ofState, membersIn, passes, nextIn, placeIn, blockOr64};
+ghost use Rattle.placement.specs.PlacementBytes.{marked, ofState, membersIn, placeIn, holdsBack, freed, dueIn, nextDue};
 
 // The first `count` are the blocks in order.
 pub struct Order {
@@ -40,30 +39,42 @@ fn leads(edges: &[u8], u: usize, x: u8) -> bool
     }
 }
 
-// Whether u is a block of state k that leads to x and is not placed.
-fn awaits(edges: &[u8], states: &[u8], placed: &[u8], k: u8, x: u8, u: usize) -> bool
-    requires { ⌜ (u < maxBlocks) × (x < maxBlocks) ⌝ }
-    ensures { λ r. ⌜ r ≡ ofState (now (states .entry)) k u && not (passes (now (edges .entry)) (marked (now (placed .entry))) x u) ⌝ }
+// A mark at each block of state k.
+fn members(states: &[u8], k: u8) -> [u8; Graph::BLOCKS]
+    requires { ⌜ (length (now states) ≤ maxBlocks) × (k < maxBlocks) ⌝ }
+    ensures { λ r. ⌜ (length r ≡ maxBlocks) × ((x : ℕ) → marked r x ≡ ofState (now (states .entry)) k x) ⌝ }
 {
-    if edges::at(states, u) == k {
-        if mark(placed, u) {
-            false
-        } else {
-            leads(edges, u, x)
+    let mut marks = [0u8; Graph::BLOCKS];
+    let mut x: usize = 0;
+    while x < states.len() {
+        if states[x] == k {
+            marks[x] = 1;
         }
+        x += 1;
+    }
+    marks
+}
+
+// Whether u is left to place and leads to x.
+fn holds_back(edges: &[u8], left: &[u8], x: u8, u: usize) -> bool
+    requires { ⌜ (u < maxBlocks) × (x < maxBlocks) ⌝ }
+    ensures { λ r. ⌜ r ≡ holdsBack (now (edges .entry)) (now (left .entry)) x u ⌝ }
+{
+    if mark(left, u) {
+        leads(edges, u, x)
     } else {
         false
     }
 }
 
-// Whether every block of state k that leads to x is placed.
-fn entered(edges: &[u8], states: &[u8], placed: &[u8], k: u8, x: u8) -> bool
+// Whether no block that is left leads to x.
+fn is_freed(edges: &[u8], left: &[u8], x: u8) -> bool
     requires { ⌜ x < maxBlocks ⌝ }
-    ensures { λ r. ⌜ r ≡ every (passes (now (edges .entry)) (marked (now (placed .entry))) x) (membersIn (now (states .entry)) k) ⌝ }
+    ensures { λ r. ⌜ r ≡ freed (now (edges .entry)) (now (left .entry)) x ⌝ }
 {
     let mut u: usize = 0;
     while u < Graph::BLOCKS {
-        if awaits(edges, states, placed, k, x, u) {
+        if holds_back(edges, left, x, u) {
             return false;
         }
         u += 1;
@@ -71,37 +82,33 @@ fn entered(edges: &[u8], states: &[u8], placed: &[u8], k: u8, x: u8) -> bool
     true
 }
 
-// Whether x is a block of state k that is not placed and is ready.
-fn due(edges: &[u8], states: &[u8], starts: &[u8], placed: &[u8], k: u8, x: u8) -> bool
+// Whether x is left to place and ready.
+fn due(edges: &[u8], starts: &[u8], left: &[u8], x: u8) -> bool
     requires { ⌜ x < maxBlocks ⌝ }
-    ensures { λ r. ⌜ r ≡ ofState (now (states .entry)) k x && nextIn (now (edges .entry)) (now (starts .entry)) (membersIn (now (states .entry)) k) (marked (now (placed .entry))) x ⌝ }
+    ensures { λ r. ⌜ r ≡ dueIn (now (edges .entry)) (now (starts .entry)) (now (left .entry)) x ⌝ }
 {
     let n = edges::wide(x);
-    if edges::at(states, n) == k {
-        if mark(placed, n) {
-            false
+    if mark(left, n) {
+        if mark(starts, n) {
+            true
         } else {
-            if mark(starts, n) {
-                true
-            } else {
-                entered(edges, states, placed, k, x)
-            }
+            is_freed(edges, left, x)
         }
     } else {
         false
     }
 }
 
-// The byte past every block's.
+// A number that no block has.
 const PAST: u8 = Graph::BLOCKS as u8;
 
-// The lowest-numbered block of state k that is to be placed next, or the byte past every block's.
-fn next(edges: &[u8], states: &[u8], starts: &[u8], placed: &[u8], k: u8) -> u8
-    ensures { λ r. ⌜ r ≡ blockOr64 (first (nextIn (now (edges .entry)) (now (starts .entry)) (membersIn (now (states .entry)) k) (marked (now (placed .entry)))) (membersIn (now (states .entry)) k)) ⌝ }
+// The lowest-numbered block that is to be placed next, or 64.
+fn next(edges: &[u8], starts: &[u8], left: &[u8]) -> u8
+    ensures { λ r. ⌜ r ≡ nextDue (now (edges .entry)) (now (starts .entry)) (now (left .entry)) ⌝ }
 {
     let mut x: u8 = 0;
     while x < PAST {
-        if due(edges, states, starts, placed, k, x) {
+        if due(edges, starts, left, x) {
             return x;
         }
         x += 1;
@@ -111,17 +118,18 @@ fn next(edges: &[u8], states: &[u8], starts: &[u8], placed: &[u8], k: u8) -> u8
 
 // The blocks of state k, always the lowest-numbered that is ready.
 pub fn place(edges: &[u8], states: &[u8], starts: &[u8], k: u8) -> Order
+    requires { ⌜ (length (now states) ≤ maxBlocks) × (k < maxBlocks) ⌝ }
     ensures { λ r. ⌜ (r .count ≤ maxBlocks) × (length (r .blocks) ≡ maxBlocks) × (take (r .count) (r .blocks) ≡ placeIn (now (edges .entry)) (now (starts .entry)) (membersIn (now (states .entry)) k) maxBlocks []) ⌝ }
 {
-    let mut placed = [0u8; Graph::BLOCKS];
+    let mut left = members(states, k);
     let mut blocks = [0u8; Graph::BLOCKS];
     let mut count: usize = 0;
     while count < Graph::BLOCKS {
-        let x = next(edges, states, starts, &placed, k);
+        let x = next(edges, starts, &left);
         if PAST <= x {
             break;
         }
-        placed[edges::wide(x)] = 1;
+        left[edges::wide(x)] = 0;
         blocks[count] = x;
         count += 1;
     }

@@ -76,6 +76,12 @@ end-is c =
 cast-place : tie.Need-cast-place
 cast-place c = let s = small (c .before .before .before .before .before .before .before .before) in omega (arith, s .state)
 
+place-requires : tie.Need-place-requires
+place-requires c κs =
+    let b = c .before .before .before .before .before .before .before .before in
+    let a = b .args in
+    (groups-held (now (a .graph)) (now (a .edges)) (now (a .starts)) (now (a .starters)) (now (a .states)) (b .pre .0) .known, small b .state)
+
 shared-slice-read-registers : tie.Need-shared-slice-read-registers
 shared-slice-read-registers c = let s = small (c .before .before .before .before .before .before .before .before .before .before .before) in omega (arith, s .long)
 
@@ -190,7 +196,7 @@ one-state-spec =
     tie.close
     (tie.spec
     cast-place
-    (λ c κs. search needs)
+    place-requires
     shared-slice-read-registers
     cast-registers
     mul-at

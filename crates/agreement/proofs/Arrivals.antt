@@ -11,15 +11,12 @@ use Rattle.word.specs.Word.{truth}
 use Rattle.runs.specs.Lists.{mem}
 use Rattle.runs.specs.Runs.{Place, standing, halted, Configuration, startAt, times}
 use Rattle.runs.proofs.RunLaws.{never-both, times-zero, times-add, times-last, times-halted}
+use Rattle.cfg.proofs.Running.{halted-stays}
 use Rattle.cfg.specs.Graph.{CFG, blockOf, runBlock, step}
 use Rattle.agreement.specs.Agreement.{haltedWith, graphAfter, atStarter, moves, arrivals, Arrival, HaltBefore}
 use Rattle.synthesis.proofs.OneCycle.{Trace, first, next}
 
 -- ---- one step
-
-pub step-halted : (g : CFG) (c : Configuration) → c .place ≡ halted → step g c ≡ c
-unfolding step
-step-halted g c h = rw h
 
 step-standing : (g : CFG) (c : Configuration) (x : ℕ) → c .place ≡ standing x → step g c ≡ runBlock (blockOf g x) (c .registers)
 unfolding step
@@ -56,7 +53,7 @@ module _ (g : CFG) (st : List ℕ) where
   stays : (c : Configuration) (n m : ℕ) → n ≤ m → times (step g) n c .place ≡ halted → times (step g) m c ≡ times (step g) n c
   stays c n m l h =
       let e : m ≡ n + (m - n) = omega arith in
-      rw e (times-add (step g) n (m - n) c ∙ times-halted (step g) (step-halted g) (m - n) (times (step g) n c) h)
+      rw e (times-add (step g) n (m - n) c ∙ times-halted (step g) (halted-stays g) (m - n) (times (step g) n c) h)
 
   -- ---- a trace from block b with registers r, as a part of the run
 

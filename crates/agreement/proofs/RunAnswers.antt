@@ -11,12 +11,12 @@ use borrow.Author.Tests.{lt-ltb, le-ltb}
 use Rattle.runs.specs.Runs.{Place, standing, halted, Configuration, startAt, times, stepsRun, outcome, answer, registersAfter, numberOf, haltedOf, countOf, nextOf}
 use Rattle.runs.specs.declared.RunAnswer.the-variants.{Refused}
 use Rattle.runs.proofs.RunLaws.{never-both, times-zero, times-suc, stepsRun-zero, stepsRun-standing, stepsRun-halted, stepsRun-all}
+use Rattle.fsmd.proofs.Steps.{cycle-stays}
 use Rattle.fsmd.specs.Layout.{maxRegisters, machineWords}
 use Rattle.fsmd.specs.Machine.{cycle}
 use Rattle.fsmd.specs.Table.{machineOf, admitted}
 use Rattle.fsmd.specs.Run.{refusal, runAnswer, runRegisters}
 use Rattle.agreement.specs.Agreement.{machineAfter, stoodIn, RunAgrees}
-use Rattle.agreement.proofs.WholeRun.{cycle-halted}
 
 -- ---- the steps that are run, of any run
 
@@ -114,7 +114,7 @@ module _ (t : List ℕ) (long : machineWords ≤ length t) (ok : admitted t ≡ 
           next = ap nextOf e ∙ outcome-next place count;
           spent = λ d.
               let p = outcome-standing place count (sym (ap haltedOf e) ∙ d) in
-              ap countOf e ∙ outcome-count place count ∙ stepsRun-all (cycle (machineOf t)) (cycle-halted (machineOf t)) k (p .0) (startAt 0 rs) (p .1);
+              ap countOf e ∙ outcome-count place count ∙ stepsRun-all (cycle (machineOf t)) (cycle-stays (machineOf t)) k (p .0) (startAt 0 rs) (p .1);
           ended = λ d. rw (ap countOf e ∙ outcome-count place count) (record {
             running = running-before (cycle (machineOf t)) k (startAt 0 rs);
             stopped = halted-with (cycle (machineOf t)) k (startAt 0 rs) (outcome-halted place count (sym (ap haltedOf e) ∙ d));

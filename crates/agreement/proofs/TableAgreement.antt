@@ -7,12 +7,11 @@ use mathlib.Core.List.{List, _++_}
 use lib.ListN.{length, drop, length-append}
 use lib.Dec.{ltb}
 use Rattle.word.specs.Word.{choose}
-use Rattle.runs.specs.Runs.{Configuration}
-use Rattle.runs.proofs.ListLaws.{length-padded}
 use Rattle.cfg.specs.Layout.{graphWords}
 use Rattle.cfg.specs.Graph.{CFG}
 use Rattle.cfg.specs.Table.{graphOf, admitted}
 use Rattle.cfg.proofs.Admitted.{valid-graph, admitted-halves}
+use Rattle.fsmd.proofs.Steps.{cycle-stays}
 use Rattle.fsmd.specs.Layout.{machineWords}
 use Rattle.fsmd.specs.Machine.{FSMD, cycle}
 use Rattle.fsmd.specs.Table.{tableOf, machineOf, admitted as admittedMachine}
@@ -28,7 +27,7 @@ use Rattle.synthesis.proofs.GraphFacts.{graph-fits}
 use Rattle.placement.proofs.StateOrder.{groups-arranged}
 use Rattle.synthesis.proofs.SynthesisedMachine.{machine-is, machine-fits}
 use Rattle.agreement.specs.Agreement.{AgreeAfter, Agreement}
-use Rattle.agreement.proofs.WholeRun.{cycle-halted, agree-after}
+use Rattle.agreement.proofs.WholeRun.{agree-after}
 use Rattle.agreement.proofs.RunAnswers.{run-agrees}
 
 agree-same : (g : CFG) (s : Groups) (m n : FSMD) (rs : List ℕ) (k : ℕ) → cycle m ≡ cycle n → AgreeAfter g s n rs k → AgreeAfter g s m rs k
@@ -54,7 +53,7 @@ agreement t rest ok =
     record {
       agree = λ rs size k.
           agree-same g s (machineOf table) (machineFor g s) rs k same (agree-after g s (graph-fits g v) (groups-arranged g (valid-closed g v)) rs size k);
-      idle = cycle-halted (machineOf table);
+      idle = cycle-stays (machineOf table);
       wires = λ k l.
           let z = states-length table in
           rw (registers-is table, state-is table k (omega arith)) (h .valid k (omega arith));

@@ -12,6 +12,7 @@ use Rattle.runs.specs.Lists.{mem}
 use Rattle.runs.specs.Runs.{Place, standing, halted, Configuration, startAt, times}
 use Rattle.runs.proofs.RunLaws.{never-both, times-zero, times-add, times-last}
 use Rattle.cfg.specs.Graph.{CFG, step}
+use Rattle.fsmd.proofs.Steps.{cycle-stays}
 use Rattle.fsmd.specs.Layout.{maxRegisters, none}
 use Rattle.fsmd.specs.Machine.{State, FSMD, stateOf as stateAt, worked, toState, clock, cycle}
 use Rattle.grouping.specs.Grouping.{Groups}
@@ -37,10 +38,6 @@ clock-reads m q rs v qs l = λ i. record { place = toState (length (m .states)) 
 cycle-clock : (m : FSMD) (k : ℕ) (rs : List ℕ) → cycle m (startAt k rs) ≡ clock m (stateAt m k) rs
 unfolding cycle
 cycle-clock m k rs = refl
-
-pub cycle-halted : (m : FSMD) (c : Configuration) → c .place ≡ halted → cycle m c ≡ c
-unfolding cycle
-cycle-halted m c h = rw h
 
 module _ (g : CFG) (s : Groups) where
   cycle-reads : (k : ℕ) (rs : List ℕ) (v : ℕ) (qs : List ℕ) → k < length (s .starters) → StateReads g (stateOf g s k) rs v qs
@@ -145,7 +142,7 @@ module _ (g : CFG) (s : Groups) (f : GraphFits g) (a : Arranged g s) (rs : List 
     registers = r .registers;
     graph = r .graph;
     counted = let c = r .counted in omega arith;
-    machine = times-last (cycle (machineFor g s)) k (startAt 0 rs) ∙ ap (cycle (machineFor g s)) (r .machine) ∙ cycle-halted (machineFor g s) (haltedWith (r .registers)) refl;
+    machine = times-last (cycle (machineFor g s)) k (startAt 0 rs) ∙ ap (cycle (machineFor g s)) (r .machine) ∙ cycle-stays (machineFor g s) (haltedWith (r .registers)) refl;
   }
 
   next-cycle : (k : ℕ) → Arrived g s rs k ⊎ Stopped g s rs k → Arrived g s rs (suc k) ⊎ Stopped g s rs (suc k)

@@ -1,5 +1,5 @@
 -- What is known of an admitted graph table, as facts of numbers. Assumes nothing.
-use Prim.Native.Nat.{ℕ, suc, _+_, _-_, _≤_, _<_}
+use Prim.Native.Nat.{ℕ, _+_, _-_, _≤_, _<_}
 use native.Mathlib.Omega.{arith}
 use mathlib.Core.Path.{_≡_, refl, sym, ap, _∙_}
 use mathlib.Core.Bool.{Bool, true, false, _&&_, _||_}
@@ -8,17 +8,18 @@ use lib.Dec.{eqb, leb, ltb}
 use lib.ListN.{length, getD, take, drop, length-take, length-drop, length-map, List·getD-eq-default}
 use lib.Seq.{getD-take, getD-drop}
 use borrow.Author.Tests.{leb-true, ltb-true, ltb-false, eqb-true, ne-eqb, eq-eqb, lt-ltb}
+use Rattle.cfg.proofs.Lengths.{table-length}
 use Rattle.word.specs.Word.{choose, arity}
-use Rattle.runs.specs.Lists.{upFrom, mem, same, every, concatMap}
-use Rattle.runs.proofs.ListLaws.{and-left, and-right, and-both, every-at, same-eq, length-upFrom, length-padded, getD-map-upFrom}
+use Rattle.runs.specs.Lists.{upFrom, mem, same, every}
+use Rattle.runs.proofs.ListLaws.{and-left, and-right, and-both, every-at, same-eq, length-upFrom, getD-map-upFrom}
 use Rattle.cfg.specs.declared.Instruction.{Instruction}
 use Rattle.cfg.specs.declared.Condition.{Condition}
 use Rattle.cfg.specs.declared.Ending.{Ending}
 use Rattle.cfg.specs.declared.Ending.the-variants.{Goto, Ite, Halt}
 use Rattle.cfg.specs.declared.Block.{Block}
-use Rattle.cfg.specs.Layout.{maxBlocks, maxRegisters, maxInstructions, headWords, graphWords}
+use Rattle.cfg.specs.Layout.{maxBlocks, maxRegisters, maxInstructions, graphWords}
 use Rattle.cfg.specs.Graph.{CFG, noInstruction, emptyBlock, blockOf, codeOf, targets, successors, validInstruction, validEnding, unused, validBlock, validGraph}
-use Rattle.cfg.specs.Table.{blockWordsOf, tableOf, blockAt, graphOf, admitted}
+use Rattle.cfg.specs.Table.{tableOf, blockAt, graphOf, admitted}
 
 -- ---- the blocks of a table
 
@@ -206,10 +207,6 @@ pub record Admitted (t : List ℕ) : Type 0 where
   pub fewRegisters : getD t 1 0 ≤ maxRegisters
   pub block : (n : ℕ) → n < getD t 0 0 → ValidBlock (getD t 0 0) (getD t 1 0) (blockAt t n)
   pub words : tableOf (graphOf t) ≡ take graphWords t
-
-table-length : (g : CFG) → length (tableOf g) ≡ graphWords
-unfolding tableOf
-table-length g = ap (λ (n : ℕ). suc (suc n)) (length-padded {A = ℕ} (graphWords - headWords) 0 (concatMap blockWordsOf (g .blocks)))
 
 -- the two halves of the test
 pub admitted-halves : (t : List ℕ) → admitted t ≡ true → (validGraph (graphOf t) ≡ true) × (tableOf (graphOf t) ≡ take graphWords t)

@@ -14,13 +14,13 @@ use Rattle.word.specs.Word.{codeOf as comparisonCode}
 use Rattle.runs.specs.Lists.{upFrom, same, every, padded, concatMap}
 use Rattle.runs.proofs.ListLaws.{eqb-sym, same-front, same-append, same-zeros, every-and, every-map, padded-append, take-map-upFrom, drop-map-upFrom}
 use Rattle.cfg.specs.declared.Instruction.{Instruction}
-use Rattle.cfg.specs.declared.Ending.{Ending}
-use Rattle.cfg.specs.declared.Ending.the-variants.{Goto, Ite, Halt}
+use Rattle.cfg.specs.declared.Ending.the-variants.{Ite}
 use Rattle.cfg.specs.declared.Block.{Block}
 use Rattle.cfg.specs.Layout.{maxBlocks, maxRegisters, maxInstructions, headWords, instructionWords, codeWords, endingWords, codeOffset, endingOffset, lastOffset, blockWords, allBlockWords, graphWords, blockOffset}
 use Rattle.cfg.specs.Graph.{CFG, unused, codeOf, validInstruction, validEnding, validBlock, validGraph}
 use Rattle.cfg.specs.Table.{instructionWordsOf, endingWordsOf, blockWordsOf, tableOf, comparisonAt, instructionAt, endingAt, blockAt, graphOf, admitted}
 use Rattle.cfg.specs.Fits.{zeros, endingFits, blockFits}
+use Rattle.cfg.proofs.Lengths.{ending-length, block-length}
 use Rattle.cfg.proofs.Blocks.{count-at, ending-of, ending-goto, ending-ite, ending-halt}
 use Rattle.cfg.proofs.Admitted.{blocks-length, registers-are}
 
@@ -79,11 +79,6 @@ instructions-are : (t : List ℕ) (n : ℕ) → blockAt t n .instructions ≡ ma
 unfolding blockAt
 instructions-are t n = refl
 
-six : (e : Ending) → length (endingWordsOf e) ≡ endingWords
-six (Goto t) = refl
-six (Ite c t f) = refl
-six Halt = refl
-
 block-list : (t : List ℕ) (o : ℕ) → o + blockWords ≤ length t
     → take blockWords (drop o t)
     ≡ getD t o 0 ∷ (take codeWords (drop (o + codeOffset) t) ++ (take endingWords (drop (o + endingOffset) t) ++ (getD t (o + lastOffset) 0 ∷ [])))
@@ -103,7 +98,7 @@ pub block-words : (t : List ℕ) (n : ℕ) → blockOffset n + blockWords ≤ le
 block-words t n h =
     let o = blockOffset n in
     let z : o + codeOffset + instructionWords * 0 ≡ o + codeOffset = omega arith in
-    rw (words-of (blockAt t n), count-at t n, ending-of t n, instructions-are t n, code-words t o 0 maxInstructions (omega arith), z, block-list t o h, eq-eqb (getD t o 0) (getD t o 0) refl, same-front (take codeWords (drop (o + codeOffset) t)) (endingWordsOf (endingAt t (o + endingOffset)) ++ (0 ∷ [])) (take endingWords (drop (o + endingOffset) t) ++ (getD t (o + lastOffset) 0 ∷ [])), same-append (endingWordsOf (endingAt t (o + endingOffset))) (0 ∷ []) (take endingWords (drop (o + endingOffset) t)) (getD t (o + lastOffset) 0 ∷ []) (six (endingAt t (o + endingOffset)) ∙ sym (length-take-le endingWords (drop (o + endingOffset) t) (rw length-drop (omega arith)))), eqb-sym 0 (getD t (o + lastOffset) 0), and-true (eqb (getD t (o + lastOffset) 0) 0))
+    rw (words-of (blockAt t n), count-at t n, ending-of t n, instructions-are t n, code-words t o 0 maxInstructions (omega arith), z, block-list t o h, eq-eqb (getD t o 0) (getD t o 0) refl, same-front (take codeWords (drop (o + codeOffset) t)) (endingWordsOf (endingAt t (o + endingOffset)) ++ (0 ∷ [])) (take endingWords (drop (o + endingOffset) t) ++ (getD t (o + lastOffset) 0 ∷ [])), same-append (endingWordsOf (endingAt t (o + endingOffset))) (0 ∷ []) (take endingWords (drop (o + endingOffset) t)) (getD t (o + lastOffset) 0 ∷ []) (ending-length (endingAt t (o + endingOffset)) ∙ sym (length-take-le endingWords (drop (o + endingOffset) t) (rw length-drop (omega arith)))), eqb-sym 0 (getD t (o + lastOffset) 0), and-true (eqb (getD t (o + lastOffset) 0) 0))
 
 -- ---- an ending fits
 
@@ -215,9 +210,8 @@ module _ (b r : ℕ) (t : List ℕ) (n : ℕ) where
 
 -- ---- all blocks, and what follows them
 
-block-length : (t : List ℕ) (n : ℕ) → length (blockWordsOf (blockAt t n)) ≡ blockWords
-unfolding blockWordsOf blockAt
-block-length t n = rw (length-append (endingWordsOf (endingAt t (blockOffset n + endingOffset))) (0 ∷ []), six (endingAt t (blockOffset n + endingOffset)))
+its-length : (t : List ℕ) (n : ℕ) → length (blockWordsOf (blockAt t n)) ≡ blockWords
+its-length t n = block-length (blockAt t n) (ap length (instructions-are t n))
 
 own : List ℕ → ℕ → Bool
 own t j = same (blockWordsOf (blockAt t j)) (take blockWords (drop (blockOffset j) t))
@@ -237,12 +231,12 @@ blocks-words t m k (suc n) h =
     let e : blockWords * suc n + m ≡ blockWords + (blockWords * n + m) = omega arith in
     let p : blockOffset k + blockWords ≡ blockOffset (suc k) = omega arith in
     let q : blockWords * (suc k + n) ≡ blockWords * (k + suc n) = omega arith in
-    let s = same-append w (rest ++ replicate m 0) (take blockWords (drop (blockOffset k) t)) (take (blockWords * n + m) (drop (blockOffset (suc k)) t)) (block-length t k ∙ sym (length-take-le blockWords (drop (blockOffset k) t) (rw length-drop (omega arith)))) in
+    let s = same-append w (rest ++ replicate m 0) (take blockWords (drop (blockOffset k) t)) (take (blockWords * n + m) (drop (blockOffset (suc k)) t)) (its-length t k ∙ sym (length-take-le blockWords (drop (blockOffset k) t) (rw length-drop (omega arith)))) in
     rw (append-assoc w rest (replicate m 0), e, take-words t (blockOffset k) blockWords (blockWords * n + m), p, s, i, q, and-assoc (same w (take blockWords (drop (blockOffset k) t))) (every (own t) (upFrom (suc k) n)) (zeros t (blockOffset (k + suc n)) m))
 
 -- ---- the whole table
 
-admitted-is : (t : List ℕ) → admitted t ≡ validGraph (graphOf t) && same (tableOf (graphOf t)) (take graphWords t)
+pub admitted-is : (t : List ℕ) → admitted t ≡ validGraph (graphOf t) && same (tableOf (graphOf t)) (take graphWords t)
 unfolding admitted
 admitted-is t = refl
 
@@ -253,7 +247,7 @@ graph-is : (g : CFG)
 unfolding validGraph
 graph-is g = refl
 
-table-is : (g : CFG) → tableOf g ≡ length (g .blocks) ∷ g .registers ∷ padded allBlockWords 0 (concatMap blockWordsOf (g .blocks))
+pub table-is : (g : CFG) → tableOf g ≡ length (g .blocks) ∷ g .registers ∷ padded allBlockWords 0 (concatMap blockWordsOf (g .blocks))
 unfolding tableOf
 table-is g = refl
 
@@ -263,7 +257,7 @@ by-rest : (m n r n′ r′ : ℕ) (all all′ ws t t′ : List ℕ) → t ≡ n�
 by-rest m n r n′ r′ all all′ ws t t′ e₁ e₂ e₃ e₄ e₅ h =
     rw (e₁, e₂, e₃, e₄, e₅, eq-eqb n n refl, eq-eqb r r refl, padded-append m 0 all h)
 
-blocks-are : (t : List ℕ) → graphOf t .blocks ≡ map (blockAt t) (upFrom 0 (getD t 0 0))
+pub blocks-are : (t : List ℕ) → graphOf t .blocks ≡ map (blockAt t) (upFrom 0 (getD t 0 0))
 unfolding graphOf
 blocks-are t = refl
 
@@ -277,7 +271,7 @@ unfolding concatMap
 all-length t k zero = refl
 all-length t k (suc n) =
     let i = all-length t (suc k) n in
-    rw (length-append (blockWordsOf (blockAt t k)) (concatMap blockWordsOf (map (blockAt t) (upFrom (suc k) n))), block-length t k) (omega arith)
+    rw (length-append (blockWordsOf (blockAt t k)) (concatMap blockWordsOf (map (blockAt t) (upFrom (suc k) n))), its-length t k) (omega arith)
 
 -- the table's words are those of its graph where each block's are, and the rest is 0
 table-words : (t : List ℕ) → graphWords ≤ length t → getD t 0 0 ≤ maxBlocks

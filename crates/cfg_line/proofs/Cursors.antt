@@ -1,29 +1,27 @@
 -- A field at the front of a text is the first field of the text's first line. Assumes nothing.
 use mathlib.Core.Path.{_≡_, _∙_, refl, sym, ap}
 use mathlib.Core.List.{List, [], _∷_, _++_}
-use mathlib.Core.Bool.{Bool, true, false, not, _&&_, _||_, false≢true}
+use mathlib.Core.Bool.{Bool, true, false, not, _||_, false≢true}
 use mathlib.Core.Option.{Option, none, some}
-use Prim.Native.Nat.{ℕ, suc, _+_}
-use native.Mathlib.Numerals.{add-one}
+use Prim.Native.Nat.{ℕ, _+_}
 use native.Mathlib.Omega.{arith}
 use lib.ListN.{length, drop, length-append}
 use lib.Seq.{drop-drop, drop-append-add}
 use lib.Dec.{eqb}
-use borrow.Author.Tests.{not-true, eqb-true, eqb-false, ne-eqb, eq-eqb}
+use borrow.Author.Tests.{not-true, eqb-true, ne-eqb}
 use Rattle.word.specs.Word.{choose}
+use Rattle.runs.proofs.Tests.{and-true as both}
 use Rattle.runs.specs.Lists.{every}
 use Rattle.cfg_line.specs.declared.Field.{Field}
 use Rattle.cfg_line.specs.declared.Field.the-variants.{Value, Bad}
 use Rattle.word.specs.declared.Comparison.{Comparison}
 use Rattle.cfg.specs.Table.{comparisonAt}
-use Rattle.cfg_line.specs.declared.Comparing.{Comparing}
 use Rattle.cfg_line.specs.declared.Comparing.the-variants.{By, Bad as NoComparison}
 use Rattle.cfg_line.specs.declared.Line.{Line}
 use Rattle.cfg_line.specs.declared.Line.the-variants.{NoForm}
-use Rattle.cfg_line.specs.declared.Parsed.{Parsed}
 use Rattle.cfg_line.specs.Form.{Fields, splitAt, field, withValue, end}
 use Rattle.cfg_line.specs.Cursor.{stops, upTo, stopOf, valued, fieldAt, compared, noForm, parsed, firstLine, parsedAt}
-use Rattle.cfg_line.proofs.Split.{both, apart, Parts, parts, split-front, split-here, split-part, split-last}
+use Rattle.cfg_line.proofs.Split.{apart, parts, split-front, split-part, split-last}
 
 -- no byte of the list ends a field
 abbrev pub whole : List ℕ → Bool

@@ -1,29 +1,24 @@
 -- The name at the front of a line. Assumes nothing.
 use mathlib.Core.Path.{_≡_, _∙_, refl, sym, ap}
 use mathlib.Core.List.{List, [], _∷_, _++_}
-use mathlib.Core.Bool.{Bool, true, false, not, _&&_, _||_, false≢true, and-false}
-use mathlib.Core.Option.{Option, none, some}
+use mathlib.Core.Bool.{Bool, true, false}
+use mathlib.Core.Option.{none}
 use mathlib.Core.Logic.{_⊎_, inl, inr, ⊎-elim}
-use Prim.Native.Nat.{ℕ, suc, _+_, _-_, _*_, _≤_, _<_, _^_}
+use Prim.Native.Nat.{ℕ, suc, _+_, _≤_, _<_, _^_}
 use native.Mathlib.Omega.{arith}
 use lib.ListN.{length, drop, getD}
 use lib.Seq.{getD-drop}
-use lib.Dec.{eqb, leb, ltb}
-use borrow.Author.Tests.{eqb-true, eqb-false, ne-eqb, eq-eqb, ltb-true, ltb-false, lt-ltb, le-ltb}
+use lib.Dec.{ltb}
+use borrow.Author.Tests.{ltb-true, ltb-false, lt-ltb}
 use Rattle.word.specs.Word.{choose}
+use Rattle.runs.proofs.Tests.{and-true as both}
 use Rattle.runs.specs.Lists.{every, same}
-use Rattle.cfg_line.specs.declared.Field.{Field}
 use Rattle.cfg_line.specs.declared.Field.the-variants as field
-use Rattle.cfg_line.specs.declared.Name.{Name}
 use Rattle.cfg_line.specs.declared.Name.the-variants.{Packed, Bad}
-use Rattle.cfg_line.specs.declared.Keyword.{Keyword}
 use Rattle.cfg_line.specs.declared.Keyword.the-variants as keyword
-use Rattle.cfg_line.specs.declared.Line.{Line}
-use Rattle.cfg_line.specs.declared.Line.the-variants as line
 use Rattle.cfg_line.specs.Name.{comparisonOf, comparisonNames, keywordOf, instructionNames, bytes, codeIn}
-use Rattle.cfg_line.specs.Form.{Fields, formOf, byName}
-use Rattle.cfg_line.specs.Cursor.{stops, upTo, stopOf, byte, packed, nameAt, fieldAt, valued, parsed, noForm, parsedAt}
-use Rattle.cfg_line.proofs.Split.{both}
+use Rattle.cfg_line.specs.Form.{formOf, byName}
+use Rattle.cfg_line.specs.Cursor.{stops, byte, packed, nameAt, fieldAt, valued, parsed, noForm, parsedAt}
 use Rattle.cfg_line.proofs.Cursors.{whole, Front, comma, feed, unended, front, up-to, stop-of, stop-none, field-at, field-none, form-comma, form-feed, form-open, form-none, behind}
 use Rattle.cfg_line.proofs.Packing.{other}
 

@@ -1,19 +1,20 @@
 -- A name is known by its packed bytes. Assumes nothing.
 use mathlib.Core.Path.{_≡_, _∙_, refl, sym, ap}
-use mathlib.Core.List.{List, [], _∷_, _++_}
-use mathlib.Core.Bool.{Bool, true, false, not, _&&_, _||_, false≢true, and-false}
-use Prim.Native.Nat.{ℕ, suc, _+_, _-_, _*_, _≤_, _<_, _^_}
+use mathlib.Core.List.{List, [], _∷_}
+use mathlib.Core.Bool.{Bool, true, false, _&&_, and-false}
+use Prim.Native.Nat.{ℕ, suc, _+_, _*_, _≤_, _<_, _^_}
 use native.Mathlib.Omega.{arith}
-use lib.ListN.{length, drop, getD}
-use lib.Dec.{eqb, leb, ltb}
-use borrow.Author.Tests.{eqb-true, eqb-false, ne-eqb, eq-eqb, ltb-true, lt-ltb, le-ltb}
+use lib.ListN.{length}
+use lib.Dec.{ltb}
+use borrow.Author.Tests.{ne-eqb, ltb-true, lt-ltb, le-ltb}
 use Rattle.word.specs.Word.{choose}
+use Rattle.runs.proofs.ListLaws.{same-eq}
+use Rattle.runs.proofs.Tests.{and-true as both}
 use Rattle.runs.specs.Lists.{every, same}
 use Rattle.cfg_line.specs.declared.Name.{Name}
 use Rattle.cfg_line.specs.declared.Name.the-variants.{Packed, Bad}
 use Rattle.cfg_line.specs.Cursor.{stops, upTo, stopOf, byte, packed, nameAt}
 use Rattle.cfg_line.specs.Name.{keywordOf}
-use Rattle.cfg_line.proofs.Split.{both}
 
 pub packed-grows : (k : ℕ) (f : List ℕ) → k ≤ packed k f
 unfolding packed
@@ -46,16 +47,6 @@ same-packed j k (b ∷ f) (c ∷ g) p q l r e =
 
 pub unpacked : (f g : List ℕ) → every byte f ≡ true → every byte g ≡ true → packed 1 f ≡ packed 1 g → f ≡ g
 unpacked f g p q e = same-packed 1 1 f g p q (omega arith) (omega arith) e .1
-
-same-eq : (f w : List ℕ) → same f w ≡ true → f ≡ w
-same-eq [] [] e = refl
-same-eq [] (y ∷ ys) e = absurd (false≢true e)
-same-eq (x ∷ xs) [] e = absurd (false≢true e)
-same-eq (x ∷ xs) (y ∷ ys) e =
-    let b = both (eqb x y) (same xs ys) e in
-    let r = same-eq xs ys (b .1) in
-    let q = eqb-true x y (b .0) in
-    (λ i. q i ∷ r i)
 
 -- a field of which the packed number is not the name's is not the name
 pub other : (f w : List ℕ) {k : ℕ} → k ≡ packed 1 f → (k ≡ packed 1 w → ⊥) → same f w ≡ false

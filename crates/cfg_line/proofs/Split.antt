@@ -1,19 +1,16 @@
 -- Parts of a list of bytes that a byte parts. Assumes nothing.
 use mathlib.Core.Path.{_≡_, _∙_, refl, sym, ap}
-use mathlib.Core.List.{List, [], _∷_, _++_}
-use mathlib.Core.Bool.{Bool, true, false, not, _&&_, _||_, false≢true}
+use mathlib.Core.List.{List, [], _∷_, _++_, append-nil}
+use mathlib.Core.Bool.{Bool, true, false, not}
 use Prim.Native.Nat.{ℕ, suc}
 use lib.Dec.{eqb}
 use lib.ListN.{length, drop}
 use native.Mathlib.Omega.{arith}
 use borrow.Author.Tests.{not-true, eq-eqb}
 use Rattle.word.specs.Word.{choose}
+use Rattle.runs.proofs.Tests.{and-true as both}
 use Rattle.runs.specs.Lists.{every}
 use Rattle.cfg_line.specs.Form.{splitAt, onto}
-
-pub both : (a b : Bool) → (a && b) ≡ true → (a ≡ true) × (b ≡ true)
-both true b h = (refl, h)
-both false b h = absurd (false≢true h)
 
 -- the byte c stands nowhere in the list
 abbrev pub apart : ℕ → List ℕ → Bool
@@ -48,10 +45,6 @@ split-front c (x ∷ g) s h e =
 pub split-here : (c : ℕ) (s : List ℕ) → splitAt c (c ∷ s) ≡ [] ∷ splitAt c s
 unfolding splitAt
 split-here c s = rw (eq-eqb c c refl)
-
-append-nil : (g : List ℕ) → g ++ [] ≡ g
-append-nil [] = refl
-append-nil (x ∷ g) = ap (λ (l : List ℕ). x ∷ l) (append-nil g)
 
 pub split-part : (c : ℕ) (g s : List ℕ) → apart c g ≡ true → splitAt c (g ++ (c ∷ s)) ≡ g ∷ splitAt c s
 split-part c g s h = split-front c g (c ∷ s) h (split-here c s) ∙ ap (λ (l : List ℕ). l ∷ splitAt c s) (append-nil g)

@@ -1,11 +1,11 @@
 -- A list that is padded to a length: storing behind its last element. Assumes nothing.
 use mathlib.Core.Path.{_≡_, _∙_, refl, sym, ap}
 use mathlib.Core.List.{List, [], _∷_, _++_, append-assoc, append-nil}
-use Prim.Native.Nat.{ℕ, zero, suc, _+_, _-_, _≤_}
+use Prim.Native.Nat.{ℕ, zero, suc}
 use native.Mathlib.Omega.{arith}
 use lib.ListN.{length, set, replicate, length-append}
 use lib.Seq.{sets}
-use Rattle.runs.specs.Lists.{padded, concatMap}
+use Rattle.runs.specs.Lists.{padded}
 
 module _ {A : Type 0} (d : A) where
   -- what pads may be written out
@@ -14,26 +14,6 @@ module _ {A : Type 0} (d : A) where
   padded-more (suc n) zero [] = refl
   padded-more (suc n) (suc k) [] = ap (λ (l : List A). d ∷ l) (padded-more n k [])
   padded-more (suc n) k (x ∷ xs) = ap (λ (l : List A). x ∷ l) (padded-more n k xs)
-
-  pub padded-none : (n : ℕ) → padded n d [] ≡ replicate n d
-  padded-none zero = refl
-  padded-none (suc n) = ap (λ (l : List A). d ∷ l) (padded-none n)
-
-  pub padded-long : (n : ℕ) (xs : List A) → length xs ≤ n → padded n d xs ≡ xs ++ replicate (n - length xs) d
-  padded-long zero [] h = refl
-  padded-long (suc n) [] h =
-      let e : suc n - 0 ≡ suc n = omega arith in
-      rw e (ap (λ (l : List A). d ∷ l) (padded-none n))
-  padded-long zero (x ∷ xs) h = absurd (omega arith)
-  padded-long (suc n) (x ∷ xs) h =
-      let e : suc n - suc (length xs) ≡ n - length xs = omega arith in
-      rw e (ap (λ (l : List A). x ∷ l) (padded-long n xs (omega arith)))
-
-  -- as many as wanted
-  pub padded-length : (n : ℕ) (xs : List A) → length (padded n d xs) ≡ n
-  padded-length zero xs = refl
-  padded-length (suc n) [] = ap suc (padded-length n [])
-  padded-length (suc n) (x ∷ xs) = ap suc (padded-length n xs)
 
   -- a store behind the last element
   pub set-next : (n : ℕ) (xs : List A) (v : A) → set (padded n d xs) (length xs) v ≡ padded n d (xs ++ (v ∷ []))
@@ -56,12 +36,3 @@ module _ {A : Type 0} (d : A) where
       ∙ ap (λ (i : ℕ). sets (padded n d (xs ++ (v ∷ []))) i vs) e
       ∙ sets-next n (xs ++ (v ∷ [])) vs
       ∙ ap (padded n d) (append-assoc xs (v ∷ []) vs)
-
-pub concat-append : {A B : Type 0} (f : B → List A) (xs ys : List B) → concatMap f (xs ++ ys) ≡ concatMap f xs ++ concatMap f ys
-unfolding concatMap
-concat-append f [] ys = refl
-concat-append f (x ∷ xs) ys = rw (concat-append f xs ys) (sym (append-assoc (f x) (concatMap f xs) (concatMap f ys)))
-
-pub concat-one : {A B : Type 0} (f : B → List A) (xs : List B) (y : B) → concatMap f (xs ++ (y ∷ [])) ≡ concatMap f xs ++ f y
-unfolding concatMap
-concat-one f xs y = concat-append f xs (y ∷ []) ∙ ap (λ (l : List _). concatMap f xs ++ l) (append-nil (f y))

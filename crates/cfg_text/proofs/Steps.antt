@@ -9,6 +9,7 @@ use lib.Seq.{sets}
 use lib.Dec.{eqb, ltb}
 use borrow.Author.Tests.{eq-eqb, ne-eqb, lt-ltb, le-ltb}
 use Rattle.word.specs.Word.{choose, arity}
+use Rattle.runs.proofs.ListLaws.{every-snoc, length-padded}
 use Rattle.runs.specs.Lists.{every, padded}
 use Rattle.cfg.specs.Layout.{maxInstructions, blockOffset, codeOffset, instructionWords}
 use Rattle.cfg.specs.Graph.{CFG, noInstruction, targets}
@@ -16,7 +17,6 @@ use Rattle.cfg.specs.Table.{instructionWordsOf, endingWordsOf, tableOf}
 use Rattle.cfg.specs.declared.Instruction.{Instruction}
 use Rattle.cfg.specs.declared.Ending.{Ending}
 use Rattle.cfg.specs.declared.Block.{Block}
-use Rattle.cfg_line.proofs.Split.{both}
 use Rattle.cfg_text.specs.declared.Due.the-variants as due
 use Rattle.cfg_text.specs.declared.Place.{Place}
 use Rattle.cfg_text.specs.declared.Moved.{Moved}
@@ -24,7 +24,6 @@ use Rattle.cfg_text.specs.declared.Moved.the-variants.{Go, Stop}
 use Rattle.cfg_text.specs.declared.ReadAnswer.the-variants.{Refused, Read}
 use Rattle.cfg_text.specs.Walk.{Progress, start, between, inside, Reading, refused, read, allBelow, instructionRegisters, endingRegisters, opened, joined, closed, blockWith, finish}
 use Rattle.cfg_text.specs.Place.{placeOf, sized, Stands, Agrees, Answers, endedAt, afterBlock}
-use Rattle.cfg_text.proofs.Padding.{padded-length}
 use Rattle.cfg_text.proofs.Stores.{opened-words, joined-words, closed-words, table-words}
 
 -- ---- which registers an instruction names
@@ -118,12 +117,6 @@ module _ (p : Place) (w : List ℕ) (b r : ℕ) (bs : List Block) (s : Stands p 
 one-more : {A : Type 0} (xs : List A) (y : A) → length xs + 1 ≡ length (xs ++ (y ∷ []))
 one-more xs y = rw length-append (omega arith)
 
-every-more : (bs : List Block) (k : Block) → every sized bs ≡ true → sized k ≡ true → every sized (bs ++ (k ∷ [])) ≡ true
-every-more [] k h e = rw e
-every-more (x ∷ bs) k h e =
-    let b = both (sized x) (every sized bs) h in
-    rw (b .0) (every-more bs k (b .1) e)
-
 module _ (p : Place) (w : List ℕ) (b r : ℕ) (bs : List Block) (is : List Instruction) (s : Stands p w (inside b r bs is)) where
   pub in-blocks : p .blocks ≡ b
   in-blocks = ap (λ (x : Place). x .blocks) (s .place)
@@ -171,7 +164,7 @@ module _ (p : Place) (w : List ℕ) (b r : ℕ) (bs : List Block) (is : List Ins
           place = ap afterBlock (s .place)
               ∙ ap (λ (n : ℕ). record { due = due.Block; blocks = b; registers = r; done = n; count = 0 }) (one-more bs (blockWith is e));
           words = ev ∙ rw (s .words, in-done, in-count) (closed-words b r bs (s .whole) is e (rw in-count at (s .few)));
-          whole = every-more bs (blockWith is e) (s .whole) (eq-eqb (length (padded maxInstructions noInstruction is)) maxInstructions (padded-length noInstruction maxInstructions is));
+          whole = every-snoc sized bs (blockWith is e) (s .whole) (eq-eqb (length (padded maxInstructions noInstruction is)) maxInstructions (length-padded maxInstructions noInstruction is));
           few = omega arith;
         })
 

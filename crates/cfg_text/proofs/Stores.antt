@@ -1,54 +1,34 @@
 -- The words that each line stores are those of the lines read so far. Assumes nothing.
 use mathlib.Core.Path.{_≡_, _∙_, refl, sym, ap}
-use mathlib.Core.List.{List, [], _∷_, _++_, append-assoc, append-nil}
-use mathlib.Core.Bool.{Bool, true, false, _&&_}
-use Prim.Native.Nat.{ℕ, zero, suc, _+_, _-_, _*_, _≤_, _<_}
+use mathlib.Core.List.{List, [], _∷_, _++_, append-assoc}
+use mathlib.Core.Bool.{true}
+use Prim.Native.Nat.{ℕ, zero, suc, _+_, _-_, _*_, _≤_}
 use native.Mathlib.Omega.{arith}
 use lib.ListN.{length, set, replicate, length-append, length-replicate}
 use lib.Seq.{sets}
-use lib.Dec.{eqb}
-use borrow.Author.Tests.{eqb-true, eq-eqb}
+use borrow.Author.Tests.{eqb-true}
+use Rattle.runs.proofs.ListLaws.{padded-append, length-padded, concat-one}
+use Rattle.runs.proofs.Tests.{and-true as both}
 use Rattle.runs.specs.Lists.{every, padded, concatMap}
-use Rattle.cfg.specs.Layout.{maxInstructions, instructionWords, codeWords, endingWords, codeOffset, endingOffset, blockWords, allBlockWords, graphWords, blockOffset}
-use Rattle.cfg.specs.Graph.{CFG, noInstruction}
+use Rattle.cfg.proofs.Lengths.{code-length, block-length}
+use Rattle.cfg.specs.Layout.{maxInstructions, instructionWords, codeWords, codeOffset, endingOffset, blockWords, allBlockWords, graphWords, blockOffset}
+use Rattle.cfg.specs.Graph.{noInstruction}
 use Rattle.cfg.specs.Table.{instructionWordsOf, endingWordsOf, blockWordsOf, tableOf}
 use Rattle.cfg.specs.declared.Instruction.{Instruction}
 use Rattle.cfg.specs.declared.Ending.{Ending}
-use Rattle.cfg.specs.declared.Ending.the-variants as ending
 use Rattle.cfg.specs.declared.Block.{Block}
-use Rattle.cfg_line.proofs.Split.{both}
 use Rattle.cfg_text.specs.Walk.{Progress, start, between, inside, blockWith}
 use Rattle.cfg_text.specs.Place.{written, filled, sized, endedAt}
-use Rattle.cfg_text.proofs.Padding.{padded-more, padded-none, padded-long, padded-length, set-next, set-at, sets-next, concat-append, concat-one}
+use Rattle.cfg_text.proofs.Padding.{padded-more, set-at, sets-next}
 
 -- ---- how many words
-
-pub code-length : (is : List Instruction) → length (concatMap instructionWordsOf is) ≡ instructionWords * length is
-unfolding concatMap
-code-length [] = refl
-code-length (i ∷ is) =
-    let h = code-length is in
-    omega arith
-
-ending-length : (e : Ending) → length (endingWordsOf e) ≡ endingWords
-ending-length (ending.Goto t) = refl
-ending-length (ending.Ite c t f) = refl
-ending-length ending.Halt = refl
-
-block-length : (k : Block) → sized k ≡ true → length (blockWordsOf k) ≡ blockWords
-unfolding blockWordsOf
-block-length k h =
-    let n = eqb-true (length (k .instructions)) maxInstructions h in
-    let c = code-length (k .instructions) in
-    let e = ending-length (k .ending) in
-    simp length-append (omega arith)
 
 pub blocks-length : (bs : List Block) → every sized bs ≡ true → length (concatMap blockWordsOf bs) ≡ blockWords * length bs
 unfolding concatMap
 blocks-length [] h = refl
 blocks-length (k ∷ bs) h =
     let b = both (sized k) (every sized bs) h in
-    let m = block-length k (b .0) in
+    let m = block-length k (eqb-true (length (k .instructions)) maxInstructions (b .0)) in
     let r = blocks-length bs (b .1) in
     simp length-append (omega arith)
 
@@ -70,7 +50,7 @@ pub code-eight :
 unfolding times4
 code-eight is h =
     let n = code-length is in
-    sym (code-padded maxInstructions is) ∙ padded-long 0 codeWords (concatMap instructionWordsOf is) (omega arith) ∙ rw n
+    sym (code-padded maxInstructions is) ∙ padded-append codeWords 0 (concatMap instructionWordsOf is) (omega arith) ∙ rw n
 
 -- ---- what each line stores
 
@@ -159,4 +139,4 @@ graph-words b r = sets-next 0 graphWords [] (b ∷ r ∷ [])
 
 pub filled-length : (q : Progress) → length (filled q) ≡ graphWords
 unfolding filled
-filled-length q = padded-length 0 graphWords (written q)
+filled-length q = length-padded graphWords 0 (written q)

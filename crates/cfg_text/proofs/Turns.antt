@@ -1,14 +1,15 @@
 -- One line more of the walk over a text, and what bounds the place reached. Assumes nothing.
 use mathlib.Core.Path.{_≡_, _∙_, refl, sym, ap, subst}
 use mathlib.Core.List.{List, [], _∷_, _++_}
-use mathlib.Core.Bool.{Bool, true, false, _&&_, false≢true}
+use mathlib.Core.Bool.{Bool, true, false, _&&_}
 use mathlib.Core.Option.{Option, none, some}
-use Prim.Native.Nat.{ℕ, zero, suc, _+_, _-_, _≤_, _<_}
+use Prim.Native.Nat.{ℕ, suc, _+_, _-_, _≤_, _<_}
 use native.Mathlib.Omega.{arith}
-use lib.ListN.{length, drop, length-drop, length-append, drop-of-length-le}
+use lib.ListN.{length, drop, length-drop, drop-of-length-le}
 use lib.Seq.{drop-drop}
 use lib.Dec.{eqb, ltb, leb}
-use borrow.Author.Tests.{eqb-true, eq-eqb, ne-eqb, ltb-true, leb-true}
+use borrow.Author.Tests.{eqb-true, ne-eqb, ltb-true, leb-true}
+use Rattle.runs.proofs.Tests.{and-true as both}
 use Rattle.word.specs.Word.{choose}
 use Rattle.cfg.specs.Layout.{maxBlocks, maxRegisters, maxInstructions}
 use Rattle.cfg.specs.Graph.{targets}
@@ -22,10 +23,9 @@ use Rattle.cfg_line.specs.declared.Line.{Line}
 use Rattle.cfg_line.specs.declared.Line.the-variants as line
 use Rattle.cfg_line.specs.Name.{keywordOf}
 use Rattle.cfg_line.specs.Form.{Fields, splitAt, withValue, field, end, graphLine, formOf, byName, lineOf}
-use Rattle.cfg_line.specs.Cursor.{noForm, parsed, firstLine, parsedAt}
-use Rattle.cfg_line.proofs.Split.{both, Parts, parts, split-rest, split-alone}
-use Rattle.cfg_text.specs.Walk.{Progress, start, between, inside, Next, go, refuse, Reading, refused, read, allBelow, instructionRegisters, endingRegisters, opened, joined, closed, blockWith, next, finish, proceed, walk}
-use Rattle.cfg_text.specs.Read.{readText}
+use Rattle.cfg_line.specs.Cursor.{parsed, firstLine, parsedAt}
+use Rattle.cfg_line.proofs.Split.{parts, split-rest, split-alone}
+use Rattle.cfg_text.specs.Walk.{Progress, start, between, inside, Next, go, refuse, Reading, allBelow, instructionRegisters, endingRegisters, opened, joined, closed, blockWith, next, finish, proceed, walk}
 
 -- ---- one line
 
@@ -173,7 +173,7 @@ Bounded start = Unit
 Bounded (between b r bs) = b ≤ maxBlocks
 Bounded (inside b r bs is) = (b ≤ maxBlocks) × (length bs < b)
 
-chosen : (t : Bool) (x : Next) (m : ℕ) (p : Progress) → choose t x (refuse m) ≡ go p → (t ≡ true) × (x ≡ go p)
+pub chosen : (t : Bool) (x : Next) (m : ℕ) (p : Progress) → choose t x (refuse m) ≡ go p → (t ≡ true) × (x ≡ go p)
 chosen true x m p e = (refl, e)
 chosen false x m p e = no-go e
 

@@ -12,7 +12,7 @@ use lib.ListN.{length, take, drop, length-append}
 use borrow.Author.Tests.{ltb-true, eqb-true, eq-eqb, ne-eqb, le-leb, lt-ltb}
 use Rattle.word.specs.Word.{choose, arity}
 use Rattle.runs.specs.Lists.{every, padded}
-use Rattle.runs.proofs.ListLaws.{and-left, and-right, and-both, length-padded}
+use Rattle.runs.proofs.ListLaws.{and-left, and-right, and-both, length-padded, every-snoc}
 use Rattle.cfg.specs.Layout.{maxBlocks, maxRegisters, maxInstructions}
 use Rattle.cfg.specs.Graph.{CFG, noInstruction, codeOf, targets, validInstruction, validEnding, unused, validBlock, validGraph}
 use Rattle.cfg.specs.declared.Instruction.{Instruction}
@@ -22,13 +22,13 @@ use Rattle.cfg.specs.declared.Block.{Block}
 use Rattle.cfg_line.specs.declared.Line.{Line}
 use Rattle.cfg_line.specs.declared.Line.the-variants as line
 use Rattle.cfg_line.specs.Form.{lineOf}
+use Rattle.cfg_text.proofs.Turns.{chosen}
 use Rattle.cfg_text.specs.Walk.{Progress, start, between, inside, Next, go, refuse, refused, read, allBelow, instructionRegisters, endingRegisters, opened, joined, blockWith, closed, next, finish, proceed, walk}
 use Rattle.cfg_write.specs.Write.{endingLine, blockLines, linesFrom, linesOf}
 use Rattle.cfg_write.proofs.NameLaws.{codes, arity-one-two}
 use Rattle.cfg_write.proofs.LineLaws.{Formed, FormedInstruction, FormedGraph}
 use Rattle.cfg_write.proofs.TextLaws.{lineBytes, LineWritten, line-written}
 use Rattle.cfg_write.proofs.Whole.{proper}
-use Rattle.cfg_write.proofs.SnocLaws.{every-snoc}
 
 -- ---- refusals lead nowhere
 
@@ -37,11 +37,6 @@ refuse-go k q e = absurd (let z : _≡_ {A = ℕ} 0 1 = cc in omega arith)
 
 refused-read : {Y : Type 0} (k n : ℕ) (g : CFG) → refused k n ≡ read g → Y
 refused-read k n g e = absurd (let z : _≡_ {A = ℕ} 0 1 = cc in omega arith)
-
--- a test that led on
-chosen : (t : Bool) (x : Next) (k : ℕ) (q : Progress) → choose t x (refuse k) ≡ go q → (t ≡ true) × (x ≡ go q)
-chosen true x k q e = (refl, e)
-chosen false x k q e = refuse-go k q e
 
 -- ---- the lines that led to where reading stands, and what is known there
 

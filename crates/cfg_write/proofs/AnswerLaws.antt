@@ -2,7 +2,7 @@
 use Prim.Native.Nat.{ℕ, zero, suc, _+_, _*_, _^_, _≤_}
 use native.Mathlib.Omega.{arith}
 use mathlib.Core.Path.{_≡_, refl, sym, ap, _∙_}
-use mathlib.Core.Bool.{Bool, true, false, not, _&&_}
+use mathlib.Core.Bool.{Bool, true, false, not}
 use mathlib.Core.List.{List, [], _∷_, _++_, map}
 use lib.Dec.{ltb}
 use lib.ListN.{length, getD, take, drop, length-append}
@@ -11,6 +11,8 @@ use borrow.Author.Tests.{le-ltb, ltb-false}
 use Rattle.word.specs.Word.{choose}
 use Rattle.runs.specs.Lists.{every, same, upFrom}
 use Rattle.runs.proofs.ListLaws.{and-left, and-right, and-both, same-refl}
+use Rattle.cfg.proofs.Lengths.{table-length}
+use Rattle.cfg.proofs.Words.{admitted-is}
 use Rattle.cfg.specs.Layout.{maxInstructions, graphWords, blockOffset}
 use Rattle.cfg.specs.declared.Instruction.{Instruction}
 use Rattle.cfg.specs.Graph.{CFG, validGraph}
@@ -22,7 +24,7 @@ use Rattle.cfg_text.specs.declared.ReadAnswer.the-variants.{Refused, Read}
 use Rattle.cfg_write.specs.Write.{textOf, bytesAfter, writeAnswer, writeBytes}
 use Rattle.cfg_write.specs.declared.WriteAnswer.the-variants as write
 use Rattle.cfg_write.proofs.Whole.{allWords, proper, Whole}
-use Rattle.cfg_write.proofs.TableLaws.{table-read, table-length}
+use Rattle.cfg_write.proofs.TableLaws.{table-read}
 
 -- ---- tables
 
@@ -54,10 +56,6 @@ table-proper t h = every-of proper (blockAt t) at (upFrom 0 (getD t 0 0))
 -- an admitted table's graph
 pub admitted-whole : (t : List ℕ) → allWords t ≡ true → admitted t ≡ true → Whole (graphOf t)
 admitted-whole t h a = record { valid = admitted-halves t a .0; properly = table-proper t h }
-
-admitted-is : (t : List ℕ) → admitted t ≡ validGraph (graphOf t) && same (tableOf (graphOf t)) (take graphWords t)
-unfolding admitted
-admitted-is t = refl
 
 -- a table that begins with a graph's words
 module _ (g : CFG) (s : List ℕ) (w : Whole g) where

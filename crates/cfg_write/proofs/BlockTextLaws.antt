@@ -1,11 +1,12 @@
 -- The text of a table's blocks, one instruction and one block after another. Assumes nothing.
 use Prim.Native.Nat.{ℕ, suc, _+_, _-_, _≤_, _<_}
 use native.Mathlib.Numerals.{add-one}
-use mathlib.Core.Path.{_≡_, refl, sym, ap, _∙_}
-use mathlib.Core.List.{List, [], _∷_, _++_, map, append-assoc, append-nil}
+use mathlib.Core.Path.{_≡_, sym, ap, _∙_}
+use mathlib.Core.List.{List, [], _∷_, _++_, map, append-nil}
 use lib.ListN.{getD}
 use Rattle.runs.specs.Lists.{upFrom, concatMap}
-use Rattle.runs.proofs.ListLaws.{upFrom-cons, upFrom-done, take-map-upFrom}
+use Rattle.runs.proofs.ListLaws.{upFrom-cons, upFrom-done, take-map-upFrom, concat-append}
+use Rattle.cfg.proofs.Words.{blocks-are}
 use Rattle.cfg.specs.Layout.{maxInstructions, endingOffset, blockOffset}
 use Rattle.cfg.specs.Graph.{codeOf}
 use Rattle.cfg.specs.Table.{instructionAt, endingAt, blockAt, graphOf}
@@ -17,12 +18,6 @@ use Rattle.cfg_line.specs.declared.Line.the-variants as line
 use Rattle.cfg_write.specs.Write.{endingLine, blockLines, linesFrom, lineText, textOf}
 use Rattle.cfg_write.specs.Put.{numbered, linesText, codeText}
 use Rattle.cfg_write.proofs.PutLaws.{block-text}
-
-lines-append : (ls ms : List Line) → linesText (ls ++ ms) ≡ linesText ls ++ linesText ms
-unfolding concatMap
-lines-append [] ms = refl
-lines-append (l ∷ ls) ms =
-    ap (λ (s : List ℕ). lineText l ++ s) (lines-append ls ms) ∙ sym (append-assoc (lineText l) (linesText ls) (linesText ms))
 
 -- ---- instructions
 
@@ -55,7 +50,7 @@ block-lines t n h =
     let code = map line.Instruction (map (instructionAt t (blockOffset n)) (upFrom 0 (getD t (blockOffset n) 0))) in
     let end = endingLine (endingAt t (blockOffset n + endingOffset)) in
     rw (block-text n, code-at t n h, ending-of t n)
-    (ap (λ (s : List ℕ). lineText (line.Block n) ++ s) (sym (lines-append code (end ∷ []) ∙ ap (λ (s : List ℕ). linesText code ++ s) (one-line end))))
+    (ap (λ (s : List ℕ). lineText (line.Block n) ++ s) (sym (concat-append lineText code (end ∷ []) ∙ ap (λ (s : List ℕ). linesText code ++ s) (one-line end))))
 
 -- ---- all blocks
 
@@ -67,17 +62,13 @@ module _ (t : List ℕ) (n b : ℕ) where
   unfolding linesFrom
   blocks-next h =
       rw (upFrom-cons n b h, add-one n)
-      (lines-append (blockLines n (blockAt t n)) (linesFrom (suc n) (map (blockAt t) (upFrom (suc n) (b - suc n)))))
+      (concat-append lineText (blockLines n (blockAt t n)) (linesFrom (suc n) (map (blockAt t) (upFrom (suc n) (b - suc n)))))
 
   pub blocks-done : b ≤ n → linesText (linesFrom n (map (blockAt t) (upFrom n (b - n)))) ≡ []
   unfolding linesFrom concatMap
   blocks-done h = rw (upFrom-done n b h)
 
 -- ---- the whole text
-
-blocks-are : (t : List ℕ) → graphOf t .blocks ≡ map (blockAt t) (upFrom 0 (getD t 0 0))
-unfolding graphOf
-blocks-are t = refl
 
 pub text-lines :
     (t : List ℕ) (b r : ℕ) → b ≡ getD t 0 0 → r ≡ getD t 1 0

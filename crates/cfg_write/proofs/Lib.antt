@@ -1,6 +1,5 @@
 pub mod Examples
 pub mod Whole
-pub mod SnocLaws
 pub mod NumberLaws
 pub mod SplitLaws
 pub mod NameLaws

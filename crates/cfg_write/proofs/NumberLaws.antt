@@ -11,12 +11,11 @@ use lib.ListN.{length, getD, List·getD-append}
 use borrow.Author.Tests.{leb-true, eqb-true, eqb-false, ne-eqb, le-leb, lt-ltb, le-ltb, not-true}
 use Rattle.word.specs.Word.{choose}
 use Rattle.runs.specs.Lists.{every}
-use Rattle.runs.proofs.ListLaws.{and-left, and-right, and-both}
+use Rattle.runs.proofs.ListLaws.{and-left, and-right, and-both, every-snoc}
 use Rattle.decimal.specs.Decimal.{decimalOf}
 use Rattle.decimal.proofs.Laws.{decimal-one, decimal-last, decimal-some, decimal-short}
 use Rattle.cfg_line.specs.Number.{digit, decimal, valueFrom, atMost, negative, literalOf}
 use Rattle.cfg_write.specs.Write.{literalText}
-use Rattle.cfg_write.proofs.SnocLaws.{every-snoc}
 
 -- an option is not both none and some
 pub none-some {ℓ} : {X : Type ℓ} {Y : Type 0} (x : X) → _≡_ {A = Option X} none (some x) → Y

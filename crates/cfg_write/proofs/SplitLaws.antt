@@ -4,30 +4,13 @@ use mathlib.Core.Path.{_≡_, refl, ap, _∙_}
 use mathlib.Core.Bool.{Bool, true, false, not}
 use mathlib.Core.List.{List, [], _∷_, _++_}
 use lib.Dec.{eqb}
-use borrow.Author.Tests.{eqb-true, eq-eqb, not-true}
+use borrow.Author.Tests.{eqb-true}
 use Rattle.word.specs.Word.{choose}
 use Rattle.runs.specs.Lists.{every}
 use Rattle.runs.proofs.ListLaws.{and-left, and-right, and-both, every-append}
+use Rattle.cfg_line.proofs.Split.{apart, split-part, split-last}
 use Rattle.cfg_line.specs.Form.{splitAt, onto}
 use Rattle.cfg_write.specs.Write.{parted}
-
--- the byte c stands nowhere in the list
-abbrev pub apart : ℕ → List ℕ → Bool
-apart c = every (λ (x : ℕ). not (eqb x c))
-
--- ---- split what was put together
-
-pub split-part : (c : ℕ) (f s : List ℕ) → apart c f ≡ true → splitAt c (f ++ (c ∷ s)) ≡ f ∷ splitAt c s
-unfolding splitAt
-split-part c [] s h = rw (eq-eqb c c refl)
-split-part c (x ∷ f) s h =
-    rw (not-true (eqb x c) (and-left (not (eqb x c)) (apart c f) h), split-part c f s (and-right (not (eqb x c)) (apart c f) h))
-
-split-last : (c : ℕ) (f : List ℕ) → apart c f ≡ true → splitAt c f ≡ f ∷ []
-unfolding splitAt
-split-last c [] h = refl
-split-last c (x ∷ f) h =
-    rw (not-true (eqb x c) (and-left (not (eqb x c)) (apart c f) h), split-last c f (and-right (not (eqb x c)) (apart c f) h))
 
 pub split-parted : (c : ℕ) (f : List ℕ) (fs : List (List ℕ)) → every (apart c) (f ∷ fs) ≡ true → splitAt c (parted c (f ∷ fs)) ≡ f ∷ fs
 unfolding parted

@@ -7,8 +7,10 @@ use mathlib.Core.List.{List, [], _∷_, _++_, map, append-assoc}
 use lib.ListN.{length, getD, replicate, length-append}
 use lib.Seq.{getD-append-add}
 use Rattle.runs.specs.Lists.{upFrom, every, padded, concatMap}
-use Rattle.runs.proofs.ListLaws.{and-left, and-right, length-padded, padded-append}
-use Rattle.cfg.specs.Layout.{maxBlocks, maxInstructions, instructionWords, endingWords, codeOffset, endingOffset, blockWords, allBlockWords, graphWords, blockOffset}
+use Rattle.runs.proofs.ListLaws.{and-left, and-right, padded-append}
+use Rattle.cfg.proofs.Words.{table-is}
+use Rattle.cfg.proofs.Lengths.{code-length, block-length}
+use Rattle.cfg.specs.Layout.{maxBlocks, maxInstructions, instructionWords, codeOffset, endingOffset, blockWords, allBlockWords, blockOffset}
 use Rattle.cfg.specs.Graph.{CFG}
 use Rattle.cfg.specs.Table.{instructionWordsOf, endingWordsOf, blockWordsOf, tableOf, instructionAt, endingAt, blockAt, graphOf}
 use Rattle.cfg.specs.declared.Instruction.{Instruction}
@@ -68,29 +70,7 @@ code-words c (i ∷ j ∷ k ∷ l ∷ m ∷ n ∷ o ∷ []) s h = absurd (omega 
 code-words c (i ∷ j ∷ k ∷ l ∷ m ∷ n ∷ o ∷ p ∷ []) s h = refl
 code-words c (i ∷ j ∷ k ∷ l ∷ m ∷ n ∷ o ∷ p ∷ q ∷ is) s h = absurd (omega arith)
 
-code-length : (is : List Instruction) → length (concatMap instructionWordsOf is) ≡ instructionWords * length is
-unfolding concatMap
-code-length [] = refl
-code-length (i ∷ is) =
-    let e = code-length is in
-    let f = length-append (instructionWordsOf i) (concatMap instructionWordsOf is) in
-    omega arith
-
-six : (e : Ending) → length (endingWordsOf e) ≡ endingWords
-six (Goto t) = refl
-six (Ite c t f) = refl
-six Halt = refl
-
 module _ (k : Block) (eight : length (k .instructions) ≡ maxInstructions) where
-  block-length : length (blockWordsOf k) ≡ blockWords
-  unfolding blockWordsOf
-  block-length =
-      let a = code-length (k .instructions) in
-      let b = six (k .ending) in
-      let c = length-append (endingWordsOf (k .ending)) (0 ∷ []) in
-      let d = length-append (concatMap instructionWordsOf (k .instructions)) (endingWordsOf (k .ending) ++ (0 ∷ [])) in
-      omega arith
-
   -- the words, with the ending behind the instructions
   block-words : (s : List ℕ) → blockWordsOf k ++ s ≡ (k .count ∷ concatMap instructionWordsOf (k .instructions)) ++ (endingWordsOf (k .ending) ++ (0 ∷ s))
   unfolding blockWordsOf
@@ -156,15 +136,7 @@ graph-padded m t g s e l p =
     (rw (e, padded-append m 0 w l, append-assoc w (replicate (m - length w) 0) s))
     p
 
-table-is : (g : CFG) → tableOf g ≡ length (g .blocks) ∷ g .registers ∷ padded allBlockWords 0 (concatMap blockWordsOf (g .blocks))
-unfolding tableOf
-table-is g = refl
-
 pub table-read : (g : CFG) (s : List ℕ) → every proper (g .blocks) ≡ true → length (g .blocks) ≤ maxBlocks → graphOf (tableOf g ++ s) ≡ g
 table-read g s p l =
     let n = blocks-length (g .blocks) p in
     graph-padded allBlockWords (tableOf g) g s (table-is g) (omega arith) p
-
-pub table-length : (g : CFG) → length (tableOf g) ≡ graphWords
-unfolding tableOf
-table-length g = ap (λ (n : ℕ). suc (suc n)) (length-padded {A = ℕ} allBlockWords 0 (concatMap blockWordsOf (g .blocks)))

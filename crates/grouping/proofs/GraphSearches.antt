@@ -1,9 +1,9 @@
 -- The three searches on a graph's edge bytes are those on the graph. Assumes nothing.
-use Prim.Native.Nat.{ℕ, zero, suc, _+_, _-_, _≤_, _<_}
+use Prim.Native.Nat.{ℕ, zero, suc, _+_, _≤_, _<_}
 use mathlib.Core.Bool.{Bool, not, _&&_, _||_}
 use mathlib.Core.Logic.{inl, inr}
 use mathlib.Core.Path.{_≡_, refl, sym, _∙_, ap, ap₂, fun-ext}
-use mathlib.Core.List.{List, [], _∷_, _++_}
+use mathlib.Core.List.{List, [], _∷_}
 use native.Mathlib.Omega.{arith}
 use lib.Dec.{eqb}
 use lib.ListN.{length, getD, set, replicate, length-set, length-replicate}
@@ -44,17 +44,6 @@ padded-blank : (n m d : ℕ) → padded n d (replicate m d) ≡ replicate n d
 padded-blank zero m d = refl
 padded-blank (suc n) zero d = ap (λ (l : List ℕ). d ∷ l) (padded-blank n zero d)
 padded-blank (suc n) (suc m) d = ap (λ (l : List ℕ). d ∷ l) (padded-blank n m d)
-
-pub padded-append : (n d : ℕ) (l : List ℕ) → length l ≤ n → padded n d l ≡ l ++ replicate (n - length l) d
-padded-append n d [] h = let e : n - 0 ≡ n = omega arith in rw e (go n)
-  where
-    go : (m : ℕ) → padded m d [] ≡ replicate m d
-    go zero = refl
-    go (suc m) = ap (λ (l : List ℕ). d ∷ l) (go m)
-padded-append zero d (y ∷ l) h = absurd (omega arith)
-padded-append (suc n) d (y ∷ l) h =
-    let e : suc n - suc (length l) ≡ n - length l = omega arith in
-    rw e (ap (λ (m : List ℕ). y ∷ m) (padded-append n d l (omega arith)))
 
 -- ---- the searches
 

@@ -6,7 +6,7 @@ use mathlib.Core.List.{List, [], _∷_, _++_}
 use native.Mathlib.Omega.{arith}
 use lib.ListN.{length, replicate, length-append, take-append-drop}
 use Rattle.runs.specs.Lists.{padded}
-use Rattle.runs.proofs.ListLaws.{length-padded}
+use Rattle.runs.proofs.ListLaws.{length-padded, padded-append}
 use Rattle.runs.proofs.Sets.{In, Distinct, Out→mem, in-left, in-append, distinct-snoc, distinct-below}
 use Rattle.cfg.specs.Layout.{maxBlocks}
 use Rattle.cfg.specs.Graph.{CFG, successors}
@@ -22,7 +22,7 @@ use Rattle.grouping.proofs.LoopLaws.{looped}
 use Rattle.grouping.proofs.PopulationLaws.{populated}
 use Rattle.grouping.proofs.DetectionLaws.{detect-illegal}
 use Rattle.grouping.proofs.StarterLaws.{starters-few, starters-length}
-use Rattle.grouping.proofs.GraphSearches.{padded-append, loops-bytes, population-bytes, detection-bytes}
+use Rattle.grouping.proofs.GraphSearches.{loops-bytes, population-bytes, detection-bytes}
 
 found-illegal : (d : Detection) (y : ℕ) → detectedOf d ≡ IllegalTo y → d ≡ illegalTo y
 found-illegal (visited seen) y e = let z : _≡_ {A = ℕ} 0 1 = cc in absurd (omega arith)

@@ -1,7 +1,7 @@
 -- Population by a stack of bytes: a block is seen where a state has taken it. Assumes nothing.
 use Prim.Native.Nat.{ℕ, suc, _+_, _-_, _*_, _≤_, _<_}
 use mathlib.Core.Path.{_≡_, refl, sym, ap, _∙_}
-use mathlib.Core.Bool.{Bool, true, false, not, _&&_}
+use mathlib.Core.Bool.{true, false, not, _&&_, and-false}
 use mathlib.Core.List.{List, [], _∷_}
 use native.Mathlib.Omega.{arith}
 use native.Mathlib.Numerals.{add-one}
@@ -47,11 +47,6 @@ module _ (starters : List ℕ) (r k : ℕ) (path : List ℕ) (x : ℕ) (states :
   free : getD states x 0 ≡ none → populating starters r k .stop path x states ≡ mem x starters && not (eqb x r)
   free e = rw (getD-any states x none 0 (omega arith), eq-eqb (getD states x 0) none e)
 
-and-no : (b : Bool) → b && false ≡ false
-and-no true = refl
-and-no false = refl
-
--- the starter's byte, and the same as an index
 module _ (bytes : List ℕ) (s : Starters) (first r k : ℕ) (index : r ≡ first) (states : List ℕ) (n : length states ≡ maxBlocks) (l : r < maxBlocks) where
   -- the starter's block is another state's already
   pub take-nothing : (getD states r 0 ≡ none → ⊥) → states ≡ taken bytes (startersOf s) first k states
@@ -63,7 +58,7 @@ module _ (bytes : List ℕ) (s : Starters) (first r k : ℕ) (index : r ≡ firs
     begun : AtVisit bytes (populating (startersOf s) r k) (visitBytes (populating (startersOf s) r k) bytes r states) none (set states r k) (set states r k) (set (replicate maxBlocks 0) 0 r) (replicate maxBlocks 0) 1
     begun =
         begins bytes (populating (startersOf s) r k) none states r (set states r k)
-        (free (startersOf s) r k [] r states n l e ∙ rw (eq-eqb r r refl) (and-no (mem r (startersOf s))))
+        (free (startersOf s) r k [] r states n l e ∙ rw (eq-eqb r r refl) (and-false (mem r (startersOf s))))
         l
         (length-set states r k ∙ n)
         (omega (arith, used-set none states r k (omega arith) e (λ f. omega arith)))

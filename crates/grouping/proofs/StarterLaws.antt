@@ -1,7 +1,7 @@
 -- The starters in bytes: block 0 alone, and one more. Assumes nothing.
 use Prim.Native.Nat.{ℕ, zero, suc, _+_, _-_, _≤_, _<_}
 use mathlib.Core.Path.{_≡_, refl, sym, ap, _∙_}
-use mathlib.Core.Bool.{Bool, true, false, not, _||_}
+use mathlib.Core.Bool.{Bool, true, false, not, _||_, or-true, or-false}
 use mathlib.Core.List.{List, [], _∷_, _++_}
 use native.Mathlib.Omega.{arith}
 use native.Mathlib.Numerals.{add-one}
@@ -47,11 +47,7 @@ pub starters-length : (s : Starters) → Listed s → length (startersOf s) ≡ 
 starters-length s i = length-take-le (s .count) (s .list) (omega (arith, i .list-64, starters-few s i))
 
 mem-snoc : (x y : ℕ) (l : List ℕ) → mem x (l ++ (y ∷ [])) ≡ mem x l || eqb x y
-mem-snoc x y [] = or-no (eqb x y)
-  where
-    or-no : (b : Bool) → b || false ≡ b
-    or-no true = refl
-    or-no false = refl
+mem-snoc x y [] = or-false (eqb x y)
 mem-snoc x y (z ∷ l) = ap (λ (b : Bool). eqb x z || b) (mem-snoc x y l) ∙ assoc (eqb x z) (mem x l) (eqb x y)
   where
     assoc : (a b c : Bool) → a || (b || c) ≡ (a || b) || c
@@ -89,17 +85,9 @@ module _ (s : Starters) (i : Listed s) (t : ℕ) (l : t < maxBlocks) where
           rest = rest;
         }
       where
-        or-yes : (b : Bool) → b || true ≡ true
-        or-yes true = refl
-        or-yes false = refl
-
-        or-no : (b : Bool) → b || false ≡ b
-        or-no true = refl
-        or-no false = refl
-
         marked : (x : ℕ) → x < maxBlocks → Compared x t → mem x (startersOf s) || eqb x t ≡ not (eqb (getD (set (s .marks) t 1) x 0) 0)
-        marked x h (same e p) = rw (e, p, getD-set-same (s .marks) t 1 0 marks-in) (or-yes (mem t (startersOf s)))
-        marked x h (other e p) = rw (e, getD-set-other (s .marks) t x 1 0 p) (or-no (mem x (startersOf s)) ∙ i .marked x h)
+        marked x h (same e p) = rw (e, p, getD-set-same (s .marks) t 1 0 marks-in) (or-true (mem t (startersOf s)))
+        marked x h (other e p) = rw (e, getD-set-other (s .marks) t x 1 0 p) (or-false (mem x (startersOf s)) ∙ i .marked x h)
 
         blocks : (k : ℕ) → k < s .count + 1 → Compared k (s .count) → getD (set (s .list) (s .count) t) k 0 < maxBlocks
         blocks k h (same e p) = rw (p, getD-set-same (s .list) (s .count) t 0 list-in) l

@@ -1,22 +1,19 @@
 -- The placement code's meaning is the order of a state's blocks. Assumes nothing.
 use Prim.Native.Nat.{ℕ, zero, suc, _+_, _-_, _≤_, _<_}
 use native.Mathlib.Omega.{arith}
-use native.Mathlib.Decide.{decLt}
-use mathlib.Core.Bool.{Bool, not, _&&_, _||_, true, false}
-use mathlib.Core.Path.{_≡_, refl, sym, _∙_, ap, fun-ext}
-use mathlib.Core.List.{List, [], _∷_, _++_}
-use mathlib.Core.Option.{Option}
-use lib.Dec.{eqb}
+use mathlib.Core.Bool.{Bool, not, _&&_, _||_, false}
+use mathlib.Core.Path.{_≡_, refl, _∙_, ap, fun-ext}
+use mathlib.Core.List.{List, [], _∷_}
 use lib.ListN.{length, getD, List·getD-eq-default}
 use borrow.Author.Tests.{ne-eqb}
-use Rattle.runs.specs.Lists.{upFrom, mem, only, keep, every, first, padded}
-use Rattle.runs.proofs.ListLaws.{getD-padded, length-padded, length-upFrom}
+use Rattle.runs.specs.Lists.{upFrom, mem, only, keep, every, first}
+use Rattle.runs.proofs.ListLaws.{length-upFrom, length-only}
 use Rattle.cfg.specs.Graph.{CFG, successors}
 use Rattle.fsmd.specs.Layout.{maxBlocks, none}
 use Rattle.grouping.specs.Grouping.{Groups, groups}
 use Rattle.grouping.specs.Bytes.{edgesIn}
 use Rattle.grouping.proofs.Reach.{Closed}
-use Rattle.grouping.proofs.GroupingLaws.{Grouped, grouped}
+use Rattle.grouping.proofs.GroupingLaws.{grouped}
 use Rattle.placement.specs.Placement.{members, ready, placeNext, place, order}
 use Rattle.placement.specs.PlacementBytes.{marked, ofState, membersIn, nextIn, placeIn}
 use Rattle.placement.proofs.PlacementLaws.{order-turns}
@@ -48,14 +45,6 @@ only-more p k (suc n) m f =
     let e : suc n + m ≡ suc (n + m) = omega arith in
     rw e (ap (keep (p k) k) (only-more p (suc k) n m (λ x h. f x (omega arith))))
 
-only-length : (p : ℕ → Bool) (l : List ℕ) → length (only p l) ≤ length l
-only-length p [] = omega arith
-only-length p (x ∷ l) = go (p x) (only-length p l)
-  where
-    go : (b : Bool) → length (only p l) ≤ length l → length (keep b x (only p l)) ≤ suc (length l)
-    go true h = omega arith
-    go false h = omega arith
-
 module _ (g : CFG) (a : Closed g) (k : ℕ) (k-in : k < length (groups g .starters)) where
   states-length : length (groups g .states) ≡ length (g .blocks)
   states-length = grouped g a .all-blocks
@@ -81,7 +70,7 @@ module _ (g : CFG) (a : Closed g) (k : ℕ) (k-in : k < length (groups g .starte
   pub members-few : length (members g (groups g) k) ≤ maxBlocks
   unfolding members
   members-few =
-      let l = only-length (ofState (groups g .states) k) (upFrom 0 (length (g .blocks))) in
+      let l = length-only (ofState (groups g .states) k) (upFrom 0 (length (g .blocks))) in
       let b = a .few-blocks in
       omega (arith, length-upFrom 0 (length (g .blocks)))
 

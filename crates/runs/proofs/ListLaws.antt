@@ -1,16 +1,16 @@
--- Laws of the lists' definitions: tests, counting up, padding. Assumes nothing.
+-- Laws of the lists' definitions: tests, selecting, counting up, joining, padding. Assumes nothing.
 use Prim.Native.Nat.{ℕ, zero, suc, _+_, _-_, _≤_, _<_}
 use native.Mathlib.Nat.{add-zero}
 use native.Mathlib.Numerals.{add-one}
 use native.Mathlib.Omega.{arith}
 use mathlib.Core.Path.{_≡_, refl, sym, ap, _∙_}
 use mathlib.Core.Bool.{Bool, true, false, _&&_, and-assoc}
-use mathlib.Core.List.{List, [], _∷_, _++_, map}
+use mathlib.Core.List.{List, [], _∷_, _++_, map, append-assoc, append-nil}
 use lib.Dec.{eqb}
 use lib.ListN.{length, getD, take, drop, set, replicate}
 use lib.Seq.{drop-cons, set-at, take-suc, append-snoc, length-take-le}
 use borrow.Author.Tests.{eqb-true, eq-eqb}
-use Rattle.runs.specs.Lists.{upFrom, same, every, padded}
+use Rattle.runs.specs.Lists.{upFrom, same, keep, only, every, padded, concatMap}
 
 -- ---- conjunctions of tests
 
@@ -123,14 +123,41 @@ module _ {A : Type 0} where
   every-map f p [] = refl
   every-map f p (x ∷ l) = ap (λ (b : Bool). p (f x) && b) (every-map f p l)
 
+  pub every-snoc : (p : A → Bool) (l : List A) (x : A) → every p l ≡ true → p x ≡ true → every p (l ++ (x ∷ [])) ≡ true
+  every-snoc p l x h k = every-append p l (x ∷ []) ∙ and-both (every p l) (every p (x ∷ [])) h (and-both (p x) true k refl)
+
+  -- ---- only
+
+  pub length-only : (p : A → Bool) (l : List A) → length (only p l) ≤ length l
+  length-only p [] = omega arith
+  length-only p (x ∷ l) = go (p x) (length-only p l)
+    where
+      go : (b : Bool) → length (only p l) ≤ length l → length (keep b x (only p l)) ≤ suc (length l)
+      go true h = omega arith
+      go false h = omega arith
+
+  -- ---- concatMap
+
+  module _ {B : Type 0} (f : B → List A) where
+    pub concat-append : (xs ys : List B) → concatMap f (xs ++ ys) ≡ concatMap f xs ++ concatMap f ys
+    unfolding concatMap
+    concat-append [] ys = refl
+    concat-append (x ∷ xs) ys = rw (concat-append xs ys) (sym (append-assoc (f x) (concatMap f xs) (concatMap f ys)))
+
+    pub concat-one : (xs : List B) (y : B) → concatMap f (xs ++ (y ∷ [])) ≡ concatMap f xs ++ f y
+    unfolding concatMap
+    concat-one xs y = concat-append xs (y ∷ []) ∙ ap (λ (l : List A). concatMap f xs ++ l) (append-nil (f y))
+
   -- ---- padded
+
+  pub padded-none : (n : ℕ) (d : A) → padded n d [] ≡ replicate n d
+  padded-none zero d = refl
+  padded-none (suc n) d = ap (λ (l : List A). d ∷ l) (padded-none n d)
 
   pub padded-append : (n : ℕ) (d : A) (l : List A) → length l ≤ n → padded n d l ≡ l ++ replicate (n - length l) d
   padded-append zero d [] h = refl
   padded-append zero d (x ∷ l) h = absurd (omega arith)
-  padded-append (suc n) d [] h =
-      let e : suc n - 0 ≡ suc (n - 0) = omega arith in
-      rw e (ap (λ (m : List A). d ∷ m) (padded-append n d [] (omega arith)))
+  padded-append (suc n) d [] h = let e : suc n - 0 ≡ suc n = omega arith in rw e (padded-none (suc n) d)
   padded-append (suc n) d (x ∷ l) h =
       let e : suc n - suc (length l) ≡ n - length l = omega arith in
       rw e (ap (λ (m : List A). x ∷ m) (padded-append n d l (omega arith)))

@@ -1,5 +1,5 @@
 -- A state's blocks placed one after another: wires are only added, and one step of it. Assumes nothing.
-use Prim.Native.Nat.{ℕ, zero, suc, _+_, _*_, _≤_, _<_}
+use Prim.Native.Nat.{ℕ, _+_, _≤_, _<_}
 use mathlib.Core.Path.{_≡_, refl, sym, ap, _∙_}
 use mathlib.Core.Bool.{Bool, true, false}
 use mathlib.Core.List.{List, [], _∷_, _++_}
@@ -12,9 +12,8 @@ use Rattle.cfg.specs.declared.Block.{Block}
 use Rattle.cfg.specs.Graph.{codeOf}
 use Rattle.cfg.specs.Table.{blockAt}
 use Rattle.fsmd.specs.declared.Wire.{Wire}
-use Rattle.fsmd.specs.Layout.{wireWords, maxWires}
 use Rattle.grouping.specs.Grouping.{Groups}
-use Rattle.state.specs.Wires.{Edge, Build, Point, fresh, leaves, nextStateOf, closeState, set-wire, join, joins, arrive, start, enter, assigns, close, after, leadsTo, towards}
+use Rattle.state.specs.Wires.{Edge, Build, Point, fresh, leaves, nextStateOf, closeState, set-wire, join, joins, arrive, start, enter, assigns, after, leadsTo, towards}
 use Rattle.state.specs.Making.{wiresIn, pending, edgesIn, stored, Room, Held, groupsIn, buildIn, Built, putBlock}
 use Rattle.state.specs.BlocksMaking.{buildBlocks, nothing, stateBlocks}
 use Rattle.state.proofs.StoredWires.{length-wiresIn, stored-again, stored-none}
@@ -24,17 +23,17 @@ use Rattle.state.proofs.CloseLaws.{grow-close}
 use Rattle.state.proofs.ExitLaws.{grow-exits}
 use Rattle.state.proofs.PutLaws.{built-count}
 
-grow-joins : (es : List Edge) (p : Point) → length (p .wires) ≤ length (joins es p .wires)
+pub grow-joins : (es : List Edge) (p : Point) → length (p .wires) ≤ length (joins es p .wires)
 unfolding joins
 grow-joins [] p = omega arith
 grow-joins (e ∷ es) p = omega (arith, grow-join e p, grow-joins es (join e p))
 
-grow-arrive : (r : ℕ) (es : List Edge) (ws : List Wire) → length ws ≤ length (arrive r es ws .wires)
+pub grow-arrive : (r : ℕ) (es : List Edge) (ws : List Wire) → length ws ≤ length (arrive r es ws .wires)
 unfolding arrive
 grow-arrive r [] ws = omega (arith, length-append ws (set-wire 0 ∷ []))
 grow-arrive r (e ∷ es) ws = grow-joins es (record { arrival = e .taken; values = e .values; wires = ws })
 
-grow-enter : (r : ℕ) (c : Bool) (x : ℕ) (b : Build) → length (b .wires) ≤ length (enter r c x b .wires)
+pub grow-enter : (r : ℕ) (c : Bool) (x : ℕ) (b : Build) → length (b .wires) ≤ length (enter r c x b .wires)
 unfolding enter start
 grow-enter r true x b = omega (arith, length-append (b .wires) (set-wire 1 ∷ []))
 grow-enter r false x b = grow-arrive r (towards (leadsTo x) (b .edges)) (b .wires)

@@ -1,16 +1,16 @@
 -- The selections of a join, register by register. Assumes nothing.
-use Prim.Native.Nat.{ℕ, zero, suc, _+_, _-_, _*_, _≤_, _<_}
-use native.Mathlib.Nat.{add-zero, add-assoc}
+use Prim.Native.Nat.{ℕ, suc, _+_, _≤_, _<_}
+use native.Mathlib.Nat.{add-assoc}
 use native.Mathlib.Numerals.{add-one}
 use native.Mathlib.Omega.{arith}
 use mathlib.Core.Path.{_≡_, refl, sym, ap, _∙_}
 use mathlib.Core.List.{List, [], _∷_, _++_, append-assoc}
-use lib.ListN.{length, getD, take, drop, set, length-append, length-set, length-drop}
+use lib.ListN.{length, getD, take, drop, set, length-append, length-set}
 use lib.Seq.{take-suc, drop-cons, getD-at, length-take-le, take-all}
 use Rattle.runs.specs.Lists.{upFrom}
 use Rattle.runs.proofs.ListLaws.{length-upFrom}
 use Rattle.fsmd.specs.declared.Wire.{Wire}
-use Rattle.fsmd.specs.Layout.{maxRegisters, wireWords}
+use Rattle.fsmd.specs.Layout.{maxRegisters}
 use Rattle.state.specs.Wires.{select-wire, selects}
 use Rattle.state.specs.Making.{wiresIn, stored, appended, Room}
 use Rattle.state.proofs.Counting.{counted-more, counted-all}
@@ -20,6 +20,11 @@ pub length-selects : (t : ℕ) (vs ss : List ℕ) → length vs ≡ length ss �
 length-selects t [] ss h = refl
 length-selects t (v ∷ vs) [] h = omega arith
 length-selects t (v ∷ vs) (s ∷ ss) h = ap suc (length-selects t vs ss (omega arith))
+
+pub selects-short : (t : ℕ) (vs ss : List ℕ) → length (selects t vs ss) ≤ length vs
+selects-short t [] ss = omega arith
+selects-short t (v ∷ vs) [] = omega arith
+selects-short t (v ∷ vs) (s ∷ ss) = omega (arith, selects-short t vs ss)
 
 selects-more : (t v s : ℕ) (vs ss : List ℕ) → length vs ≡ length ss → selects t (vs ++ (v ∷ [])) (ss ++ (s ∷ [])) ≡ selects t vs ss ++ (select-wire t v s ∷ [])
 selects-more t v s [] [] h = refl

@@ -1,28 +1,18 @@
 -- A block is a starter where it is its own state's. Assumes nothing.
-use Prim.Native.Nat.{ℕ, zero, suc, _≤_, _<_}
+use Prim.Native.Nat.{ℕ, zero, suc, _<_}
 use native.Mathlib.Omega.{arith}
 use mathlib.Core.Path.{_≡_, refl, sym, ap, _∙_}
 use mathlib.Core.Bool.{Bool, true, false, _||_, false≢true}
 use mathlib.Core.List.{List, [], _∷_}
-use mathlib.Core.Logic.{⊎-elim, inl, inr}
 use lib.ListN.{length, getD, List·getD-eq-default}
 use lib.Dec.{eqb}
 use native.Mathlib.Decide.{decLt}
-use borrow.Author.Tests.{eq-eqb, ne-eqb, eqb-true}
+use borrow.Author.Tests.{eq-eqb, eqb-true}
+use Rattle.runs.proofs.Tests.{or-right}
 use Rattle.runs.specs.Lists.{mem}
 use Rattle.runs.proofs.ListLaws.{same-test}
-use Rattle.fsmd.specs.Layout.{maxStates, maxBlocks, none}
+use Rattle.fsmd.specs.Layout.{none}
 use Rattle.state.specs.Making.{used, Grouped}
-
--- an entry that is there, whatever stands for none
-pub entry-there : (l : List ℕ) (i d e : ℕ) → i < length l → getD l i d ≡ getD l i e
-entry-there [] i d e h = absurd (omega arith)
-entry-there (x ∷ l) zero d e h = refl
-entry-there (x ∷ l) (suc i) d e h = entry-there l i d e (omega arith)
-
-or-right : (a b : Bool) → b ≡ true → (a || b) ≡ true
-or-right true b e = refl
-or-right false b e = e
 
 mem-cons : (y x : ℕ) (l : List ℕ) → (mem y l ≡ true → (k : ℕ) × (k < length l) × (getD l k none ≡ y)) → (b : Bool) → eqb y x ≡ b → (b || mem y l) ≡ true
     → (k : ℕ) × (k < length (x ∷ l)) × (getD (x ∷ l) k none ≡ y)

@@ -5,6 +5,7 @@ use mathlib.Core.Path.{_≡_, refl, sym, ap, _∙_}
 use mathlib.Core.List.{List, [], _∷_, _++_, append-assoc, append-nil}
 use lib.ListN.{length, take, drop, length-append, length-drop}
 use lib.Seq.{sets, sets-eq, drop-append-add, drop-drop, take-at}
+use Rattle.runs.proofs.ListLaws.{concat-append}
 use Rattle.runs.specs.Lists.{concatMap}
 use Rattle.fsmd.specs.declared.Wire.{Wire}
 use Rattle.fsmd.specs.Layout.{wireWords}
@@ -14,11 +15,6 @@ use Rattle.state.specs.Making.{wiresIn, stored, appended}
 
 abbrev words : List Wire → List ℕ
 words = concatMap wireWordsOf
-
-pub words-append : (ws vs : List Wire) → words (ws ++ vs) ≡ words ws ++ words vs
-unfolding concatMap
-words-append [] vs = refl
-words-append (w ∷ ws) vs = rw (words-append ws vs) (refl)
 
 pub length-wiresIn : (n : ℕ) (t : List ℕ) → length (wiresIn n t) ≡ n
 unfolding wiresIn
@@ -92,7 +88,7 @@ emitted n w t h =
     sym (ap (take (wireWords * n)) (words-wiresIn n t (omega arith)))
     ∙ take-at (words (wiresIn n t)) (drop (wireWords * n) t) (wireWords * n) (length-wordsOf (wiresIn n t) ∙ ap (λ (k : ℕ). wireWords * k) (length-wiresIn n t)) in
     sets-eq (wireWordsOf w) t (wireWords * n) (omega arith)
-    ∙ rw (front, e, words-append (wiresIn n t) (w ∷ []))
+    ∙ rw (front, e, concat-append wireWordsOf (wiresIn n t) (w ∷ []))
 
 -- past what was appended the words are those from before
 pub appended-rest : (n : ℕ) (ws : List Wire) (t t′ : List ℕ) → t′ ≡ appended n ws t → t′ ≡ stored (wiresIn (n + length ws) t′) t

@@ -4,7 +4,6 @@ pub mod Environments
 pub mod Readings
 pub mod TakenEdges
 pub mod OneCycle
-pub mod SelectionCount
 pub mod FoundEdges
 pub mod WireValidity
 pub mod StateValidity

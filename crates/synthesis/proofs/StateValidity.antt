@@ -21,10 +21,14 @@ use Rattle.fsmd.specs.declared.Wire.{Wire}
 use Rattle.fsmd.specs.Table.{validReference, validWires, validState}
 use Rattle.grouping.specs.Grouping.{Groups}
 use Rattle.placement.specs.Placement.{order}
+use Rattle.state.proofs.CloseLaws.{grow-close}
+use Rattle.state.proofs.AssignLaws.{grow-assigns}
+use Rattle.state.proofs.BlocksLaws.{grow-enter}
+use Rattle.state.proofs.JoinLaws.{grow-join}
+use Rattle.state.proofs.Selections.{length-selects}
 use Rattle.state.specs.Wires.{wire, set-wire, and-wire, or-wire, and-not-wire, select-wire, selects, Edge, Point, Build, fresh, join, joins, arrive, start}
 use Rattle.state.specs.Wires.{instructionWire, assign, assigns, close, leadsTo, towards, enter, after, put, build, leaves, nextStateOf, exit, exits, closeState, stateOf}
 use Rattle.synthesis.proofs.GraphFacts.{ValidCode, Compares, BlockFits, GraphFits}
-use Rattle.synthesis.proofs.SelectionCount.{length-selects}
 use Rattle.placement.proofs.StateOrder.{StateOrder}
 use Rattle.synthesis.proofs.FoundEdges.{exit-found}
 use Rattle.synthesis.proofs.WireValidity.{Reference, References, reference-more, references-more, reference-at, references-set, new-references, register-references, reference-valid, references-valid, set-valid, select-valid, two-valid, and-two, or-two, and-not-two, comparison-two, instruction-valid, wires-append, one-wire, cons-wires, no-wires, selects-valid}
@@ -88,20 +92,11 @@ join-valid R e p a b =
           (selects-valid R n (suc n) (e .taken) (e .values) (p .values) (omega arith) (a .takes) (a .reads) (b .reads))));
     }
 
-join-more : (e : Edge) (p : Point) → length (p .wires) ≤ length (join e p .wires)
-unfolding join
-join-more e p = omega (arith, length-append (p .wires) (or-wire (p .arrival) (e .taken) ∷ selects (e .taken) (e .values) (p .values)))
-
 joins-valid : (R : ℕ) (es : List Edge) (p : Point) → EdgesValid R (length (p .wires)) es → PointValid R p → PointValid R (joins es p)
 unfolding joins
 joins-valid R [] p a b = b
 joins-valid R (e ∷ es) p a b =
-    joins-valid R es (join e p) (edges-more R (length (p .wires)) (length (join e p .wires)) es (join-more e p) (a .1)) (join-valid R e p (a .0) b)
-
-joins-more : (es : List Edge) (p : Point) → length (p .wires) ≤ length (joins es p .wires)
-unfolding joins
-joins-more [] p = omega arith
-joins-more (e ∷ es) p = omega (arith, join-more e p, joins-more es (join e p))
+    joins-valid R es (join e p) (edges-more R (length (p .wires)) (length (join e p .wires)) es (grow-join e p) (a .1)) (join-valid R e p (a .0) b)
 
 -- a `set` and the start values
 set-point : (R : ℕ) (ws : List Wire) (k : ℕ) → validWires R 0 ws ≡ true → PointValid R (record { arrival = fresh ws; values = upFrom 0 R; wires = ws ++ (set-wire k ∷ []) })
@@ -121,21 +116,11 @@ arrive-valid R (e ∷ es) ws a b =
     joins-valid R es (record { arrival = e .taken; values = e .values; wires = ws }) (a .1)
     (record { arrives = a .0 .takes; count = a .0 .count; reads = a .0 .reads; wired = b })
 
-arrive-more : (R : ℕ) (es : List Edge) (ws : List Wire) → length ws ≤ length (arrive R es ws .wires)
-unfolding arrive
-arrive-more R [] ws = omega (arith, length-append ws (set-wire 0 ∷ []))
-arrive-more R (e ∷ es) ws = joins-more es (record { arrival = e .taken; values = e .values; wires = ws })
-
 enter-valid : (R : ℕ) (c : Bool) (x : ℕ) (b : Build) → BuildValid R b → PointValid R (enter R c x b)
 unfolding enter start
 enter-valid R true x b v = set-point R (b .wires) 1 (v .wired)
 enter-valid R false x b v =
     arrive-valid R (towards (leadsTo x) (b .edges)) (b .wires) (edges-towards R (length (b .wires)) (leadsTo x) (b .edges) (v .joined)) (v .wired)
-
-enter-more : (R : ℕ) (c : Bool) (x : ℕ) (b : Build) → length (b .wires) ≤ length (enter R c x b .wires)
-unfolding enter start
-enter-more R true x b = omega (arith, length-append (b .wires) (set-wire 1 ∷ []))
-enter-more R false x b = arrive-more R (towards (leadsTo x) (b .edges)) (b .wires)
 
 assign-valid : (R : ℕ) (i : Instruction) (p : Point) → ValidInstruction R i → PointValid R p → PointValid R (assign i p)
 unfolding assign
@@ -155,11 +140,6 @@ assigns-valid : (R : ℕ) (is : List Instruction) (p : Point) → ValidCode R is
 unfolding assigns
 assigns-valid R [] p f a = a
 assigns-valid R (i ∷ is) p f a = assigns-valid R is (assign i p) (f .1) (assign-valid R i p (f .0) a)
-
-assigns-more : (is : List Instruction) (p : Point) → length (p .wires) ≤ length (assigns is p .wires)
-unfolding assigns assign
-assigns-more [] p = omega arith
-assigns-more (i ∷ is) p = omega (arith, length-append (p .wires) (instructionWire (λ r. getD (p .values) r 0) i ∷ []), assigns-more is (assign i p))
 
 close-valid : (R : ℕ) (e : Ending) (p : Point) → Compares R e → PointValid R p → BuildValid R (close e p)
 unfolding close
@@ -189,17 +169,6 @@ close-valid R (Ite c t f) p h a =
     }
 close-valid R Halt p f a = record { wired = a .wired; joined = (record { takes = a .arrives; count = a .count; reads = a .reads }, tt) }
 
-close-more : (e : Ending) (p : Point) → length (p .wires) ≤ length (close e p .wires)
-unfolding close
-close-more (Goto t) p = omega arith
-close-more (Ite c t f) p =
-    omega (
-      arith,
-      length-append (p .wires) (wire (comparisonCode (c .comparison)) (getD (p .values) (c .a) 0) (getD (p .values) (c .b) 0) 0
-          ∷ and-wire (p .arrival) (fresh (p .wires)) ∷ and-not-wire (p .arrival) (fresh (p .wires)) ∷ []),
-    )
-close-more Halt p = omega arith
-
 pub put-valid : (g : CFG) (s : Groups) (x : ℕ) (b : Build) → BlockFits (g .registers) (blockOf g x) → BuildValid (g .registers) b → BuildValid (g .registers) (put g s x b)
 unfolding put after
 put-valid g s x b f v =
@@ -213,7 +182,7 @@ put-valid g s x b f v =
       wired = e .wired;
       joined = edges-append R (length (z .wires)) rest (z .edges)
           (edges-more R (length (b .wires)) (length (z .wires)) rest
-          (omega (arith, enter-more R (mem x (s .starters)) x b, assigns-more (codeOf (blockOf g x)) p, close-more (blockOf g x .ending) q))
+          (omega (arith, grow-enter R (mem x (s .starters)) x b, grow-assigns (codeOf (blockOf g x)) p, grow-close (blockOf g x .ending) q))
           (edges-towards R (length (b .wires)) (λ p. not (leadsTo x p)) (b .edges) (v .joined)))
           (e .joined);
     }

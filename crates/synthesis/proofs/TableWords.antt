@@ -1,12 +1,12 @@
 -- How the words of a machine table grow by a state. Assumes nothing.
-use Prim.Native.Nat.{ℕ, _+_, _-_, _*_, _≤_, _<_}
+use Prim.Native.Nat.{ℕ, _+_, _-_, _≤_, _<_}
 use native.Mathlib.Omega.{arith}
 use mathlib.Core.Path.{_≡_, refl, sym, _∙_, ap}
 use mathlib.Core.List.{List, [], _∷_, _++_, append-assoc, append-nil}
 use lib.ListN.{length, take, drop, replicate, length-append, length-replicate, replicate-append-replicate}
 use lib.Seq.{take-at, drop-at, take-append-le, drop-append-le, take-append-add, drop-append-add, drop-drop}
 use Rattle.runs.specs.Lists.{padded, concatMap}
-use Rattle.runs.proofs.ListLaws.{padded-append, length-padded}
+use Rattle.runs.proofs.ListLaws.{padded-append, length-padded, concat-one}
 use Rattle.fsmd.specs.Layout.{maxStates, maxWires, allRecordWords, allWireWords, recordsOffset, machineWords, recordOffset, wireOffset}
 use Rattle.fsmd.specs.Machine.{State, wireCount}
 use Rattle.fsmd.specs.Table.{wireWordsOf, recordOf, recordsOf, wiresOf}
@@ -57,14 +57,9 @@ padded-more n l v h at e =
 
 -- ---- one state more
 
-concatMap-more : {A : Type 0} (f : A → List ℕ) (l : List A) (x : A) → concatMap f (l ++ (x ∷ [])) ≡ concatMap f l ++ f x
-unfolding concatMap
-concatMap-more f [] x = append-nil (f x)
-concatMap-more f (y ∷ l) x = ap (λ (m : List ℕ). f y ++ m) (concatMap-more f l x) ∙ sym (append-assoc (f y) (concatMap f l) (f x))
-
 wires-more : (qs : List State) (q : State) → wiresOf (qs ++ (q ∷ [])) ≡ wiresOf qs ++ concatMap wireWordsOf (q .wires)
 unfolding wiresOf
-wires-more qs q = concatMap-more (λ (q : State). concatMap wireWordsOf (q .wires)) qs q
+wires-more qs q = concat-one (λ (q : State). concatMap wireWordsOf (q .wires)) qs q
 
 pub count-more : (qs : List State) (q : State) → wireCount (qs ++ (q ∷ [])) ≡ wireCount qs + length (q .wires)
 unfolding wireCount

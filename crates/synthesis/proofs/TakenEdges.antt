@@ -2,7 +2,7 @@
 use Prim.Native.Nat.{ℕ, _+_, _≤_, _<_}
 use mathlib.Core.Path.{_≡_, refl, ap, _∙_}
 use mathlib.Core.Logic.{_⊎_, inl, inr}
-use mathlib.Core.Bool.{Bool, true, false, not, _&&_, _||_}
+use mathlib.Core.Bool.{Bool, true, false, not, _&&_, or-false}
 use mathlib.Core.List.{List, [], _∷_, _++_}
 use lib.ListN.{length, drop}
 use Rattle.word.specs.Word.{choose, truth}
@@ -90,10 +90,6 @@ module _ (R : ℕ) (high : List ℕ) (E : List ℕ) where
 
 -- ---- a block's arrival and body
 
-or-none : (s : Bool) → (s || false) ≡ s
-or-none true = refl
-or-none false = refl
-
 module _ (rs : List ℕ) (size : length rs ≡ maxRegisters) (R : ℕ) where
   join-grow : (e : Edge) (p : Point) → Grows (worked rs (p .wires)) (worked rs (join e p .wires))
   unfolding join
@@ -107,7 +103,7 @@ module _ (rs : List ℕ) (size : length rs ≡ maxRegisters) (R : ℕ) where
 
   join-none : (e : Edge) (p : Point) (s : Bool) {q : List ℕ} → NotTaken R (drop R rs) (worked rs (p .wires)) e → PointReads rs R p (truth s) q
       → PointReads rs R (join e p) (truth s) q
-  join-none e p s {q} o l = rw (or-none s) at (join-reads rs size R e p s false l (o .1))
+  join-none e p s {q} o l = rw (or-false s) at (join-reads rs size R e p s false l (o .1))
 
   joins-none : (es : List Edge) (p : Point) (s : Bool) {q : List ℕ} → NoneTaken R (drop R rs) (worked rs (p .wires)) es → PointReads rs R p (truth s) q
       → PointReads rs R (joins es p) (truth s) q

@@ -10,7 +10,7 @@ use borrow.Author.Tests.{le-leb, lt-leb, leb-true, eqb-true}
 use Rattle.word.specs.Word.{codeOf as comparisonCode}
 use Rattle.runs.specs.Lists.{upFrom, mem, keep, only}
 use Rattle.runs.specs.Runs.{Place}
-use Rattle.runs.proofs.ListLaws.{length-upFrom}
+use Rattle.runs.proofs.ListLaws.{length-upFrom, length-only}
 use Rattle.cfg.specs.declared.Instruction.{Instruction}
 use Rattle.cfg.specs.declared.Ending.{Ending}
 use Rattle.cfg.specs.declared.Ending.the-variants.{Goto, Ite, Halt}
@@ -21,11 +21,11 @@ use Rattle.fsmd.specs.Layout.{maxRegisters, maxWires, none}
 use Rattle.grouping.specs.Grouping.{Groups}
 use Rattle.placement.specs.Placement.{members, order}
 use Rattle.synthesis.specs.Synthesis.{machineFor}
+use Rattle.state.proofs.Selections.{selects-short}
 use Rattle.state.specs.Wires.{wire, set-wire, and-wire, or-wire, and-not-wire, select-wire, selects, Edge, Point, Build, fresh, join, joins, arrive, start}
 use Rattle.state.specs.Wires.{instructionWire, assign, assigns, close, leadsTo, towards, enter, after, put, build, leaves, nextStateOf, exit, exits, closeState, stateOf}
 use Rattle.synthesis.proofs.GraphFacts.{GraphFits}
 use Rattle.placement.proofs.PlacementLaws.{order-length}
-use Rattle.synthesis.proofs.SelectionCount.{selects-short}
 use Rattle.synthesis.proofs.StateValidity.{EdgesValid, BuildValid, edges-towards, put-valid, build-valid, empty-valid}
 
 -- edges of at most 16 registers
@@ -184,14 +184,6 @@ unfolding spread
 spread-count f l a zero = omega arith
 spread-count f l a (suc n) = omega (arith, spread-count f l (suc a) n, apart f a l)
 
-only-short : (p : ℕ → Bool) (l : List ℕ) → length (only p l) ≤ length l
-only-short p [] = omega arith
-only-short p (x ∷ l) = go (p x) (only-short p l)
-  where
-    go : (b : Bool) → length (only p l) ≤ length l → length (keep b x (only p l)) ≤ suc (length l)
-    go true h = omega arith
-    go false h = omega arith
-
 module _ (g : CFG) (s : Groups) (f : GraphFits g) where
   count-from : (a n : ℕ) → wireCount (map (stateOf g s) (upFrom a n)) ≤ 48 * spread (λ x. getD (s .states) x none) (upFrom 0 (length (g .blocks))) a n
   unfolding wireCount spread members
@@ -207,6 +199,6 @@ module _ (g : CFG) (s : Groups) (f : GraphFits g) where
         arith,
         count-from 0 (length (s .starters)),
         spread-count (λ x. getD (s .states) x none) (upFrom 0 (length (g .blocks))) 0 (length (s .starters)),
-        only-short (λ x. leb 0 (getD (s .states) x none)) (upFrom 0 (length (g .blocks))),
+        length-only (λ x. leb 0 (getD (s .states) x none)) (upFrom 0 (length (g .blocks))),
         length-upFrom 0 (length (g .blocks)),
       )

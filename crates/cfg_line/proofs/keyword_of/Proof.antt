@@ -1,3 +1,4 @@
+-- `cfg_line::keyword_of` meets its contract. Assumes nothing.
 use Rattle.cfg_line.specs.Name.{keywordOf, bytes}
 use Rattle.cfg_line.specs.Cursor.{packed}
 use Rattle.cfg_line.proofs.Packing.{found, other}

@@ -1,3 +1,4 @@
+-- `cfg_line::name_at` meets its contract. Assumes nothing.
 use denote.Ref.{now}
 use mathlib.Core.List.{List, []}
 use mathlib.Core.Path.{_≡_, _∙_, refl, sym, ap}

@@ -1,3 +1,4 @@
+-- `cfg_text::at_end` meets its contract. Assumes nothing.
 use Rattle.cfg_text.specs.declared.ReadAnswer.the-variants.{Refused, Read}
 use mathlib.Core.Path.{_≡_, _∙_, refl, sym, ap}
 use Prim.Native.Nat.{ℕ, suc, _+_, _-_, _*_, _≤_, _<_}

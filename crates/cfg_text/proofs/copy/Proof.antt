@@ -1,3 +1,4 @@
+-- `cfg_text::copy` meets its contract. Assumes nothing.
 use lib.ListN.{getD}
 use lib.Seq.{take-all}
 use Rattle.cfg_text.proofs.Copies.{copy-more}

@@ -1,3 +1,4 @@
+-- `cfg_text::read_text` meets its contract. Assumes nothing.
 use mathlib.Core.Path.{_≡_, _∙_, refl, sym, ap}
 use denote.Ref.{now}
 use Rattle.cfg_text.proofs.Otherwise.{not-read}

@@ -1,3 +1,4 @@
+-- `cfg_write::put_code` meets its contract. Assumes nothing.
 use Rattle.cfg.specs.Table.{instructionAt}
 use Prim.Native.Nat.{_+_, _-_, _*_, _≤_}
 use native.Mathlib.Nat.{sub-zero}

@@ -1,3 +1,4 @@
+-- `cfg_write::put_text` meets its contract. Assumes nothing.
 use native.Mathlib.Omega.{arith}
 use Rattle.cfg.specs.Table.{graphOf}
 use Rattle.cfg.proofs.Blocks.{count-at}

@@ -16,32 +16,11 @@ Inv-loop out₀ at n end left₀ i₀ out left i = (end ≡ at + length (decimal
 abbrev μ-loop : tie.MeasureT-loop
 μ-loop out₀ at n end left₀ i₀ out left i = i
 
-width-requires : tie.Need-width-requires Inv-loop μ-loop
-width-requires c κs = search needs
-
-add-end : tie.Need-add-end Inv-loop μ-loop
-add-end c = search needs
-
 loop-holds : tie.Need-loop-holds Inv-loop μ-loop
 loop-holds c =
     let s = c .before .before in
     let e = c .width .ensures .0 in
     (rw e refl, rw e (left-all (s .args .at) (s .args .n) (s .args .out .now)), refl, omega arith)
-
-sub-i : tie.Need-sub-i Inv-loop μ-loop
-sub-i c = search needs
-
-add-put-byte : tie.Need-add-put-byte Inv-loop μ-loop
-add-put-byte c = search needs
-
-cast-put-byte : tie.Need-cast-put-byte Inv-loop μ-loop
-cast-put-byte c = search needs
-
-put-byte-requires : tie.Need-put-byte-requires Inv-loop μ-loop
-put-byte-requires c κs = search needs
-
-loop-less : tie.Need-loop-less Inv-loop μ-loop
-loop-less c = search needs
 
 loop-again : tie.Need-loop-again Inv-loop μ-loop
 loop-again c =
@@ -53,9 +32,6 @@ loop-again c =
       rw e (length-set (l .loop .out) (l .loop .i - 1) (48 + l .loop .left % 10) ∙ l .loop .inv .2),
       omega arith,
     )
-
-same-length : tie.Need-same-length Inv-loop μ-loop
-same-length c = search needs
 
 returns : tie.Need-returns Inv-loop μ-loop
 returns c =
@@ -69,14 +45,14 @@ put-decimal-spec =
     (tie.spec
     Inv-loop
     μ-loop
-    width-requires
-    add-end
+    (λ c κs. search needs)
+    (λ c. search needs)
     loop-holds
-    sub-i
-    add-put-byte
-    cast-put-byte
-    put-byte-requires
-    loop-less
+    (λ c. search needs)
+    (λ c. search needs)
+    (λ c. search needs)
+    (λ c κs. search needs)
+    (λ c. search needs)
     loop-again
-    same-length
+    (λ c. search needs)
     returns)

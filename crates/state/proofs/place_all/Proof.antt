@@ -1,19 +1,14 @@
 -- `place_all` places the blocks from nothing: what is placed and the rest come to the whole. Assumes nothing.
-use Prim.Native.Nat.{_+_, _-_, _*_, _≤_, _<_}
-use mathlib.Core.Path.{_≡_, refl, sym, ap, _∙_, subst}
+use Prim.Native.Nat.{_-_, _*_, _≤_, _<_}
+use mathlib.Core.Path.{_≡_, refl, sym, _∙_, subst}
 use native.Mathlib.Omega.{arith}
-use lib.ListN.{length, getD}
+use lib.ListN.{length}
 use denote.Ref.{now}
 use Rattle.state.specs.Making.{Placeable}
 use Rattle.state.proofs.BlocksLaws.{Going, going-first, going-last, going-room, put-room, put-next}
 use borrow.Author.Needs.{needs}
 use Rattle.state.proofs.place_all.Statement.{statement}
 use Rattle.state.proofs.place_all.Tie as tie
-use Rattle.state.proofs.place_all.Reads as reads
-use Rattle.state.proofs.place_all.Lts as lts
-use Rattle.state.proofs.blocks.put.Reads as put-reads
-use Rattle.state.proofs.groups.is_starter.Reads as is-starter-reads
-use Rattle.state.proofs.wide.Reads as wide-reads
 
 abbrev Inv-loop : tie.InvT-loop
 Inv-loop graph order starters states wires₀ values₀ targets₀ rows₀ made₀ i₀ wires values targets rows made i =
@@ -26,7 +21,6 @@ abbrev μ-loop : tie.MeasureT-loop
 μ-loop graph order starters states wires₀ values₀ targets₀ rows₀ made₀ i₀ wires values targets rows made i =
     length order - i
 
--- src/state.rt:41:5
 loop-holds : tie.Need-loop-holds Inv-loop μ-loop
 loop-holds c =
     let a = c .before .before .before .before .before .before .before .before .args in (
@@ -39,15 +33,6 @@ loop-holds c =
       omega arith,
     )
 
--- src/state.rt:42:22
-shared-slice-read-wide : tie.Need-shared-slice-read-wide Inv-loop μ-loop
-shared-slice-read-wide c = search needs
-
--- src/state.rt:42:13
-wide-requires : tie.Need-wide-requires Inv-loop μ-loop
-wide-requires c κs = search needs
-
--- src/state.rt:43:13
 is-starter-requires : tie.Need-is-starter-requires Inv-loop μ-loop
 is-starter-requires c κs =
     let s = c .before .before .before .before .before .before .before .before .before .before .before .before in
@@ -56,7 +41,6 @@ is-starter-requires c κs =
     let e = c .wide .ensures in
     (s .pre .1 .0, λ z. absurd (omega arith))
 
--- src/state.rt:44:13
 put-requires : tie.Need-put-requires Inv-loop μ-loop
 put-requires c κs =
     let s = c .before .before .before .before .before .before .before .before .before .before .before .before .before .before .before .before .before in
@@ -83,15 +67,6 @@ put-requires c κs =
       ),
     )
 
--- src/state.rt:48:9
-add-i : tie.Need-add-i Inv-loop μ-loop
-add-i c = search needs
-
--- src/state.rt:41:5
-loop-less : tie.Need-loop-less Inv-loop μ-loop
-loop-less c = search needs
-
--- src/state.rt:41:5
 loop-again : tie.Need-loop-again Inv-loop μ-loop
 loop-again c =
     let s = c .before .before .before .before .before .before .before .before .before .before .before .before .before .before .before .before .before .before .before .before .before .before .before .before .before .before in
@@ -112,23 +87,6 @@ loop-again c =
       omega (arith, u .ensures .1),
     )
 
--- src/state.rt:21:1
-same-length : tie.Need-same-length Inv-loop μ-loop
-same-length c = search needs
-
--- src/state.rt:21:1
-same-length-2 : tie.Need-same-length-2 Inv-loop μ-loop
-same-length-2 c = search needs
-
--- src/state.rt:21:1
-same-length-3 : tie.Need-same-length-3 Inv-loop μ-loop
-same-length-3 c = search needs
-
--- src/state.rt:21:1
-same-length-4 : tie.Need-same-length-4 Inv-loop μ-loop
-same-length-4 c = search needs
-
--- src/state.rt:21:1
 returns : tie.Need-returns Inv-loop μ-loop
 returns c =
     let s = c .before .before .before .before .before .before .before .before .before .before in
@@ -145,15 +103,15 @@ place-all-spec =
     Inv-loop
     μ-loop
     loop-holds
-    shared-slice-read-wide
-    wide-requires
+    (λ c. search needs)
+    (λ c κs. search needs)
     is-starter-requires
     put-requires
-    add-i
-    loop-less
+    (λ c. search needs)
+    (λ c. search needs)
     loop-again
-    same-length
-    same-length-2
-    same-length-3
-    same-length-4
+    (λ c. search needs)
+    (λ c. search needs)
+    (λ c. search needs)
+    (λ c. search needs)
     returns)

@@ -1,7 +1,7 @@
 -- `cfg::admission::all_zero` meets its contract. Assumes nothing.
 use Prim.Native.Nat.{_-_, _≤_}
 use native.Mathlib.Omega.{arith}
-use mathlib.Core.Bool.{Bool, true, false, _&&_}
+use mathlib.Core.Bool.{Bool, _&&_, and-true, and-false}
 use mathlib.Core.Logic.{⊎-elim}
 use mathlib.Core.Path.{_≡_, refl, sym, ap, _∙_}
 use borrow.Author.Needs.{needs}
@@ -19,14 +19,6 @@ abbrev μ-loop : tie.MeasureT-loop
 loop-holds : tie.Need-loop-holds Inv-loop μ-loop
 loop-holds c = (c .pre .0, refl)
 
-and-no : (b : Bool) → b && false ≡ false
-and-no true = refl
-and-no false = refl
-
-and-yes : (b : Bool) → b && true ≡ b
-and-yes true = refl
-and-yes false = refl
-
 loop-again : tie.Need-loop-again Inv-loop μ-loop
 loop-again c =
     let k = c .before .before .before .before in
@@ -38,7 +30,7 @@ loop-again c =
     let to = k .args .to in (
       omega arith,
       ⊎-elim
-          (λ w. rw (w .1) (inv .1 ∙ (ap (λ (z : Bool). clear && z) (zero-stop t i to below (k .pre .1) (w .0 .taken)) ∙ and-no clear)))
+          (λ w. rw (w .1) (inv .1 ∙ (ap (λ (z : Bool). clear && z) (zero-stop t i to below (k .pre .1) (w .0 .taken)) ∙ and-false clear)))
           (λ w. rw (w .1) (inv .1 ∙ ap (λ (z : Bool). clear && z) (zero-go t i to below (k .pre .1) (w .0 .left))))
           (c .if1 .came),
     )
@@ -47,7 +39,7 @@ returns : tie.Need-returns Inv-loop μ-loop
 returns c =
     let k = c .before .before in
     let l = c .before .loop in
-    sym (l .inv .1 ∙ (ap (λ (z : Bool). l .clear && z) (zero-done (k .args .table .now) (l .i) (k .args .to) (c .loop-test .left)) ∙ and-yes (l .clear)))
+    sym (l .inv .1 ∙ (ap (λ (z : Bool). l .clear && z) (zero-done (k .args .table .now) (l .i) (k .args .to) (c .loop-test .left)) ∙ and-true (l .clear)))
 
 pub all-zero-spec : {M : Type 1} → statement M
 all-zero-spec =

@@ -1,3 +1,4 @@
+-- `cfg_write::line::put_comparison` meets its contract. Assumes nothing.
 use mathlib.Core.Path.{sym, ap}
 use native.Mathlib.Omega.{arith}
 use Rattle.cfg_line.specs.Name.{comparisonNames}

@@ -1,3 +1,4 @@
+-- `cfg_write::line::put_ending` meets its contract. Assumes nothing.
 use native.Mathlib.Omega.{arith}
 use mathlib.Core.Path.{_∙_, sym, ap}
 use Rattle.cfg_write.specs.Write.{endingLine, lineText}

@@ -1,3 +1,4 @@
+-- `cfg_write::line::put_literal` meets its contract. Assumes nothing.
 use Prim.Native.Nat.{_+_, _-_}
 use mathlib.Core.Path.{refl}
 use mathlib.Core.List.{_∷_}

@@ -1,3 +1,4 @@
+-- `cfg_write::line::put_numbered` meets its contract. Assumes nothing.
 use native.Mathlib.Omega.{arith}
 use mathlib.Core.Path.{refl}
 use Rattle.cfg_write.specs.Put.{numbered}

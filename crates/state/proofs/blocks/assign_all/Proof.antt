@@ -1,9 +1,9 @@
-use Prim.Native.Nat.{ℕ, _+_, _-_, _*_, _≤_, _<_}
+-- `state::blocks::assign_all` meets its contract. Assumes nothing.
+use Prim.Native.Nat.{_-_}
 use native.Mathlib.Omega.{arith}
-use mathlib.Core.Path.{_≡_, refl, sym, ap, _∙_}
+use mathlib.Core.Path.{_≡_, refl, _∙_}
 use denote.Ref.{now}
-use lib.ListN.{length, getD, drop}
-use Rattle.cfg.specs.Layout.{blockOffset}
+use lib.ListN.{length, drop}
 use Rattle.cfg.specs.Graph.{codeOf}
 use Rattle.cfg.specs.Table.{blockAt}
 use Rattle.state.specs.Wires.{assign, assigns}
@@ -13,10 +13,6 @@ use Rattle.state.proofs.AssignLaws.{assigning-start, assigning-room, as
 use borrow.Author.Needs.{needs}
 use Rattle.state.proofs.blocks.assign_all.Statement.{statement}
 use Rattle.state.proofs.blocks.assign_all.Tie as tie
-use Rattle.state.proofs.blocks.assign_all.Reads as reads
-use Rattle.state.proofs.blocks.assign_all.Lts as lts
-use Rattle.cfg.proofs.decode.instruction_at.Reads as instruction-at-reads
-use Rattle.state.proofs.blocks.assign.Reads as assign-reads
 
 abbrev Inv-loop : tie.InvT-loop
 Inv-loop graph x wires₀ values₀ start count made₀ i₀ wires values made i =
@@ -26,38 +22,15 @@ Inv-loop graph x wires₀ values₀ start count made₀ i₀ wires values made i
 abbrev μ-loop : tie.MeasureT-loop
 μ-loop graph x wires₀ values₀ start count made₀ i₀ wires values made i = count - i
 
--- src/blocks.rt:106:31
-mul-start : tie.Need-mul-start Inv-loop μ-loop
-mul-start c = search needs
-
--- src/blocks.rt:106:17
-add-start : tie.Need-add-start Inv-loop μ-loop
-add-start c = search needs
-
--- src/blocks.rt:107:17
-mul-count : tie.Need-mul-count Inv-loop μ-loop
-mul-count c = search needs
-
--- src/blocks.rt:107:17
-shared-slice-read-count : tie.Need-shared-slice-read-count Inv-loop μ-loop
-shared-slice-read-count c = search needs
-
--- src/blocks.rt:107:17
-cast-count : tie.Need-cast-count Inv-loop μ-loop
-cast-count c = search needs
-
--- src/blocks.rt:110:5
 loop-holds : tie.Need-loop-holds Inv-loop μ-loop
 loop-holds c =
     let a = c .before .before .before .before .args in
     let p = c .before .before .before .before .pre in
     (assigning-start (now (a .graph)) (a .x) (p .0 .2) (a .front .arrival) (now (a .values)) (a .front .wires) (now (a .wires)) (p .1 .0 .fits), refl)
 
--- src/blocks.rt:111:48
 instruction-at-requires : tie.Need-instruction-at-requires Inv-loop μ-loop
 instruction-at-requires c κs = omega arith
 
--- src/blocks.rt:111:13
 assign-requires : tie.Need-assign-requires Inv-loop μ-loop
 assign-requires c κs =
     let a = c .before .before .before .before .before .before .before .before .before .args in
@@ -65,15 +38,6 @@ assign-requires c κs =
     let l = c .before .before .before .before .loop in
     assigning-room (now (a .graph)) (a .x) (p .0 .2) (l .i) (l .inv .0) (c .before .before .before .loop-test .taken) (p .1 .1)
 
--- src/blocks.rt:113:9
-add-i : tie.Need-add-i Inv-loop μ-loop
-add-i c = search needs
-
--- src/blocks.rt:110:5
-loop-less : tie.Need-loop-less Inv-loop μ-loop
-loop-less c = search needs
-
--- src/blocks.rt:110:5
 loop-again : tie.Need-loop-again Inv-loop μ-loop
 loop-again c =
     let a = c .before .before .before .before .before .before .before .before .before .before .before .before .before .before .args in
@@ -85,15 +49,6 @@ loop-again c =
       s .kept .1 .0 ∙ l .inv .1,
     )
 
--- src/blocks.rt:100:1
-same-length : tie.Need-same-length Inv-loop μ-loop
-same-length c = search needs
-
--- src/blocks.rt:100:1
-same-length-2 : tie.Need-same-length-2 Inv-loop μ-loop
-same-length-2 c = search needs
-
--- src/blocks.rt:100:1
 returns : tie.Need-returns Inv-loop μ-loop
 returns c =
     let a = c .before .before .before .before .before .before .args in
@@ -107,17 +62,17 @@ assign-all-spec =
     (tie.spec
     Inv-loop
     μ-loop
-    mul-start
-    add-start
-    mul-count
-    shared-slice-read-count
-    cast-count
+    (λ c. search needs)
+    (λ c. search needs)
+    (λ c. search needs)
+    (λ c. search needs)
+    (λ c. search needs)
     loop-holds
     instruction-at-requires
     assign-requires
-    add-i
-    loop-less
+    (λ c. search needs)
+    (λ c. search needs)
     loop-again
-    same-length
-    same-length-2
+    (λ c. search needs)
+    (λ c. search needs)
     returns)

@@ -1,10 +1,9 @@
-use Prim.Native.Nat.{ℕ, _+_, _≤_, _<_}
+-- `state::blocks::close` meets its contract. Assumes nothing.
+use Prim.Native.Nat.{ℕ, _+_}
 use native.Mathlib.Omega.{arith}
-use mathlib.Core.Path.{_≡_, refl, sym, ap, _∙_, subst}
-use mathlib.Core.List.{List}
+use mathlib.Core.Path.{_≡_, sym, _∙_, subst}
 use denote.Ref.{now}
 use lib.ListN.{length}
-use Rattle.cfg.specs.declared.Ending.{Ending}
 use Rattle.cfg.specs.declared.Ending.the-variants.{Goto, Ite, Halt}
 use Rattle.cfg.specs.Table.{blockAt}
 use Rattle.state.specs.Wires.{close}
@@ -13,12 +12,6 @@ use Rattle.state.proofs.CloseLaws.{ending-of, close-goto, close-halt, c
 use borrow.Author.Needs.{needs}
 use Rattle.state.proofs.blocks.close.Statement.{statement}
 use Rattle.state.proofs.blocks.close.Tie as tie
-use Rattle.state.proofs.blocks.close.Reads as reads
-use Rattle.state.proofs.blocks.close.Lts as lts
-use Rattle.cfg.proofs.decode.ending_at.Reads as ending-at-reads
-use Rattle.state.proofs.blocks.branch.Reads as branch-reads
-use Rattle.state.proofs.blocks.fork.Reads as fork-reads
-use Rattle.state.proofs.edges.add.Reads as add-reads
 
 ite : (c : tie.After-ending2) → blockAt (now (c .before .before .before .before .before .before .before .before .args .graph)) (c .before .before .before .before .before .before .before .before .args .x) .ending ≡ Ite (c .ending2 .given .0 .0) (c .ending2 .given .0 .1 .0) (c .ending2 .given .0 .1 .1 .0)
 ite c = ending-of (now (c .before .before .before .before .before .before .before .before .args .graph)) (c .before .before .before .before .before .before .before .before .args .x) ∙ sym (c .before .before .ending-at .ensures) ∙ c .ending2 .given .1
@@ -36,27 +29,6 @@ forked c =
     (blockAt (now (a .graph)) (a .x) .ending) (g .0 .0) (g .0 .1 .0) (g .0 .1 .1 .0) (ite c) in
     subst (λ (k : ℕ). Room k (now (a .wires))) e (p .1 .1 .1)
 
--- src/blocks.rt:163:57
-mul-ending-at : tie.Need-mul-ending-at
-mul-ending-at c = search needs
-
--- src/blocks.rt:163:43
-add-ending-at : tie.Need-add-ending-at
-add-ending-at c = search needs
-
--- src/blocks.rt:163:43
-add-ending-at-2 : tie.Need-add-ending-at-2
-add-ending-at-2 c = search needs
-
--- src/blocks.rt:163:9
-ending-at-requires : tie.Need-ending-at-requires
-ending-at-requires c κs = search needs
-
--- src/blocks.rt:165:22
-enum-known-ending : tie.Need-enum-known-ending
-enum-known-ending c = search needs
-
--- src/blocks.rt:166:13
 add-requires : tie.Need-add-requires
 add-requires c κs =
     let p = c .before .before .before .before .before .before .before .before .before .before .before .pre in
@@ -65,19 +37,9 @@ add-requires c κs =
     let lt : Aims (Goto (c .before .before .before .ending .given .0 .0)) = rw e at (p .0 .3) in
     (search needs, (p .0 .2, λ h. omega arith))
 
--- src/blocks.rt:168:24
-add-t24 : tie.Need-add-t24
-add-t24 c = search needs
-
--- src/blocks.rt:172:21
-enum-known-ending-2 : tie.Need-enum-known-ending-2
-enum-known-ending-2 c = search needs
-
--- src/blocks.rt:173:13
 branch-requires : tie.Need-branch-requires
 branch-requires c κs = forked (c .before .before)
 
--- src/blocks.rt:174:13
 fork-requires : tie.Need-fork-requires
 fork-requires c κs =
     let p = c .before .before .before .before .before .before .before .before .before .before .before .before .before .before .before .pre in
@@ -85,37 +47,11 @@ fork-requires c κs =
     let lt = aimed (c .before .before .before .before .before .before .before) in
     (p .1 .0, (p .0 .2, lt .0, lt .1, omega (arith, room .few)))
 
--- src/blocks.rt:176:24
-add-t32 : tie.Need-add-t32
-add-t32 c = search needs
-
--- src/blocks.rt:177:24
 add-t33 : tie.Need-add-t33
 add-t33 c =
     let room = forked (c .before .before .before .before .before .before .before .before .before .before .before .before) in
     omega (arith, room .few)
 
--- src/blocks.rt:181:24
-enum-told : tie.Need-enum-told
-enum-told c = search needs
-
--- src/blocks.rt:181:13
-add-requires-2 : tie.Need-add-requires-2
-add-requires-2 c κs = search needs
-
--- src/blocks.rt:183:24
-add-t39 : tie.Need-add-t39
-add-t39 c = search needs
-
--- src/blocks.rt:154:1
-same-length : tie.Need-same-length
-same-length c = search needs
-
--- src/blocks.rt:154:1
-same-length-2 : tie.Need-same-length-2
-same-length-2 c = search needs
-
--- src/blocks.rt:154:1
 returns : tie.Need-returns
 returns c =
     let a = c .before .before .before .before .before .before .before .before .before .before .before .before .before .before .before .before .args in
@@ -128,19 +64,6 @@ returns c =
       omega arith,
     )
 
--- src/blocks.rt:154:1
-same-length-3 : tie.Need-same-length-3
-same-length-3 c = search needs
-
--- src/blocks.rt:154:1
-same-length-4 : tie.Need-same-length-4
-same-length-4 c = search needs
-
--- src/blocks.rt:154:1
-same-length-5 : tie.Need-same-length-5
-same-length-5 c = search needs
-
--- src/blocks.rt:154:1
 returns-2 : tie.Need-returns-2
 returns-2 c =
     let a = c .before .before .before .before .before .before .before .before .before .before .before .before .before .before .before .before .before .before .before .before .args in
@@ -152,15 +75,6 @@ returns-2 c =
       omega arith,
     )
 
--- src/blocks.rt:154:1
-same-length-6 : tie.Need-same-length-6
-same-length-6 c = search needs
-
--- src/blocks.rt:154:1
-same-length-7 : tie.Need-same-length-7
-same-length-7 c = search needs
-
--- src/blocks.rt:154:1
 returns-3 : tie.Need-returns-3
 returns-3 c =
     let a = c .before .before .before .before .before .before .before .before .before .before .before .before .before .before .before .args in
@@ -175,28 +89,28 @@ pub close-spec : {M : Type 1} → statement M
 close-spec =
     tie.close
     (tie.spec
-    mul-ending-at
-    add-ending-at
-    add-ending-at-2
-    ending-at-requires
-    enum-known-ending
+    (λ c. search needs)
+    (λ c. search needs)
+    (λ c. search needs)
+    (λ c κs. search needs)
+    (λ c. search needs)
     add-requires
-    add-t24
-    enum-known-ending-2
+    (λ c. search needs)
+    (λ c. search needs)
     branch-requires
     fork-requires
-    add-t32
+    (λ c. search needs)
     add-t33
-    enum-told
-    add-requires-2
-    add-t39
-    same-length
-    same-length-2
+    (λ c. search needs)
+    (λ c κs. search needs)
+    (λ c. search needs)
+    (λ c. search needs)
+    (λ c. search needs)
     returns
-    same-length-3
-    same-length-4
-    same-length-5
+    (λ c. search needs)
+    (λ c. search needs)
+    (λ c. search needs)
     returns-2
-    same-length-6
-    same-length-7
+    (λ c. search needs)
+    (λ c. search needs)
     returns-3)

@@ -1,6 +1,7 @@
-use Prim.Native.Nat.{ℕ, _+_}
+-- `state::blocks::fork` meets its contract. Assumes nothing.
+use Prim.Native.Nat.{_+_}
 use native.Mathlib.Omega.{arith}
-use mathlib.Core.Path.{_≡_, refl, sym, ap, _∙_}
+use mathlib.Core.Path.{_≡_, ap, _∙_}
 use mathlib.Core.List.{List, [], _∷_, _++_, append-assoc}
 use denote.Ref.{now}
 use lib.ListN.{length}
@@ -10,48 +11,7 @@ use Rattle.state.specs.Making.{edgeTo, pending}
 use borrow.Author.Needs.{needs}
 use Rattle.state.proofs.blocks.fork.Statement.{statement}
 use Rattle.state.proofs.blocks.fork.Tie as tie
-use Rattle.state.proofs.blocks.fork.Reads as reads
-use Rattle.state.proofs.blocks.fork.Lts as lts
-use Rattle.state.proofs.edges.add.Reads as add-reads
-use Rattle.state.proofs.wires.reference.Reads as reference-reads
 
--- src/blocks.rt:149:58
-add-reference : tie.Need-add-reference
-add-reference c = search needs
-
--- src/blocks.rt:149:41
-reference-requires : tie.Need-reference-requires
-reference-requires c κs = search needs
-
--- src/blocks.rt:149:5
-add-requires : tie.Need-add-requires
-add-requires c κs = search needs
-
--- src/blocks.rt:150:31
-add-add : tie.Need-add-add
-add-add c = search needs
-
--- src/blocks.rt:150:62
-add-reference-2 : tie.Need-add-reference-2
-add-reference-2 c = search needs
-
--- src/blocks.rt:150:45
-reference-requires-2 : tie.Need-reference-requires-2
-reference-requires-2 c κs = search needs
-
--- src/blocks.rt:150:5
-add-requires-2 : tie.Need-add-requires-2
-add-requires-2 c κs = search needs
-
--- src/blocks.rt:144:1
-same-length : tie.Need-same-length
-same-length c = search needs
-
--- src/blocks.rt:144:1
-same-length-2 : tie.Need-same-length-2
-same-length-2 c = search needs
-
--- src/blocks.rt:144:1
 returns : tie.Need-returns
 returns c =
     let a = c .before .before .before .before .before .before .before .before .before .before .before .before .before .before .before .before .before .before .before .args in
@@ -70,13 +30,13 @@ pub fork-spec : {M : Type 1} → statement M
 fork-spec =
     tie.close
     (tie.spec
-    add-reference
-    reference-requires
-    add-requires
-    add-add
-    add-reference-2
-    reference-requires-2
-    add-requires-2
-    same-length
-    same-length-2
+    (λ c. search needs)
+    (λ c κs. search needs)
+    (λ c κs. search needs)
+    (λ c. search needs)
+    (λ c. search needs)
+    (λ c κs. search needs)
+    (λ c κs. search needs)
+    (λ c. search needs)
+    (λ c. search needs)
     returns)

@@ -1,6 +1,7 @@
-use Prim.Native.Nat.{ℕ, _+_, _≤_, _<_}
+-- `state::blocks::put` meets its contract. Assumes nothing.
+use Prim.Native.Nat.{_≤_}
 use native.Mathlib.Omega.{arith}
-use mathlib.Core.Path.{_≡_, refl, sym, ap, _∙_, subst}
+use mathlib.Core.Path.{_∙_}
 use denote.Ref.{now}
 use lib.ListN.{length}
 use Rattle.cfg.specs.Table.{blockAt}
@@ -9,14 +10,7 @@ use borrow.Author.Needs.{needs}
 use Rattle.fsmd.specs.Layout.{maxRegisters}
 use Rattle.state.proofs.blocks.put.Statement.{statement}
 use Rattle.state.proofs.blocks.put.Tie as tie
-use Rattle.state.proofs.blocks.put.Reads as reads
-use Rattle.state.proofs.blocks.put.Lts as lts
-use Rattle.state.proofs.blocks.assign_all.Reads as assign-all-reads
-use Rattle.state.proofs.blocks.close.Reads as close-reads
-use Rattle.state.proofs.edges.use_up.Reads as use-up-reads
-use Rattle.state.proofs.joins.enter.Reads as enter-reads
 
--- src/blocks.rt:226:9
 enter-requires : tie.Need-enter-requires
 enter-requires c κs =
     let a = c .before .before .before .before .before .before .before .before .before .args in
@@ -31,7 +25,6 @@ enter-requires c κs =
       ),
     )
 
--- src/blocks.rt:227:9
 assign-all-requires : tie.Need-assign-all-requires
 assign-all-requires c κs =
     let a = c .before .before .before .before .before .before .before .before .before .before .before .before .before .before .before .before .args in
@@ -44,11 +37,6 @@ assign-all-requires c κs =
       ),
     )
 
--- src/blocks.rt:228:5
-use-up-requires : tie.Need-use-up-requires
-use-up-requires c κs = search needs
-
--- src/blocks.rt:229:5
 close-requires : tie.Need-close-requires
 close-requires c κs =
     let a = c .before .before .before .before .before .before .before .before .before .before .before .before .before .before .before .before .before .before .before .before .before .before .before .before .before .before .before .before .before .args in
@@ -66,23 +54,6 @@ close-requires c κs =
       ),
     )
 
--- src/blocks.rt:216:1
-same-length : tie.Need-same-length
-same-length c = search needs
-
--- src/blocks.rt:216:1
-same-length-2 : tie.Need-same-length-2
-same-length-2 c = search needs
-
--- src/blocks.rt:216:1
-same-length-3 : tie.Need-same-length-3
-same-length-3 c = search needs
-
--- src/blocks.rt:216:1
-same-length-4 : tie.Need-same-length-4
-same-length-4 c = search needs
-
--- src/blocks.rt:216:1
 returns : tie.Need-returns
 returns c =
     let a = c .before .before .before .before .before .before .before .before .before .before .before .before .before .before .before .before .before .before .before .before .before .before .before .before .before .before .before .before .before .before .before .before .before .before .before .before .args in
@@ -102,10 +73,10 @@ put-spec =
     (tie.spec
     enter-requires
     assign-all-requires
-    use-up-requires
+    (λ c κs. search needs)
     close-requires
-    same-length
-    same-length-2
-    same-length-3
-    same-length-4
+    (λ c. search needs)
+    (λ c. search needs)
+    (λ c. search needs)
+    (λ c. search needs)
     returns)

@@ -1,3 +1,4 @@
+-- `state::edges::next_edge` meets its contract. Assumes nothing.
 use mathlib.Core.Bool.{false}
 use denote.Ref.{now}
 use Rattle.state.specs.Wires.{leadsTo}
@@ -11,8 +12,6 @@ use lib.ListN.{getD}
 use borrow.Author.Needs.{needs}
 use Rattle.state.proofs.edges.next_edge.Statement.{statement}
 use Rattle.state.proofs.edges.next_edge.Tie as tie
-use Rattle.state.proofs.edges.next_edge.Reads as reads
-use Rattle.state.proofs.edges.next_edge.Lts as lts
 
 abbrev Inv-loop : tie.InvT-loop
 Inv-loop targets from count x i₀ i = (from ≤ i) × (i ≤ count) × ((j : ℕ) → j < i → from ≤ j → leadsTo x (placeOf (getD targets j 0)) ≡ false)
@@ -20,37 +19,17 @@ Inv-loop targets from count x i₀ i = (from ≤ i) × (i ≤ count) × ((j : �
 abbrev μ-loop : tie.MeasureT-loop
 μ-loop targets from count x i₀ i = count - i
 
--- src/edges.rt:19:5
 loop-holds : tie.Need-loop-holds Inv-loop μ-loop
 loop-holds c = (omega arith, omega arith, λ j lt le. absurd (omega arith))
 
--- src/edges.rt:20:12
-mul-if1 : tie.Need-mul-if1 Inv-loop μ-loop
-mul-if1 c = search needs
-
--- src/edges.rt:20:12
-shared-slice-read-if1 : tie.Need-shared-slice-read-if1 Inv-loop μ-loop
-shared-slice-read-if1 c = search needs
-
--- src/edges.rt:21:13
 returns : tie.Need-returns Inv-loop μ-loop
 returns c =
     let l = c .before .before .before .loop in
     record { low = l .inv .0; high = l .inv .1; passed = l .inv .2; found = λ h. rw (c .if1 .taken) (leads-same (c .before .before .before .before .args .x) (c .before .before .before .before .pre .2)) }
 
--- src/edges.rt:23:9
-add-i : tie.Need-add-i Inv-loop μ-loop
-add-i c = search needs
-
--- src/edges.rt:19:5
-loop-less : tie.Need-loop-less Inv-loop μ-loop
-loop-less c = search needs
-
--- src/edges.rt:19:5
 loop-again : tie.Need-loop-again Inv-loop μ-loop
 loop-again c = (omega arith, omega arith, below-more _ _ (c .before .before .before .loop .inv .2) (λ le. leads-other (c .before .before .before .before .args .x) (getD (now (c .before .before .before .before .args .targets)) (c .before .before .before .loop .i) 0) (c .if1 .left)))
 
--- src/edges.rt:14:1
 returns-2 : tie.Need-returns-2 Inv-loop μ-loop
 returns-2 c =
     let l = c .before .loop in
@@ -63,10 +42,10 @@ next-edge-spec =
     Inv-loop
     μ-loop
     loop-holds
-    mul-if1
-    shared-slice-read-if1
+    (λ c. search needs)
+    (λ c. search needs)
     returns
-    add-i
-    loop-less
+    (λ c. search needs)
+    (λ c. search needs)
     loop-again
     returns-2)

@@ -1,15 +1,11 @@
+-- `state::edges::used_where` meets its contract. Assumes nothing.
 use borrow.Author.Tests.{eq-eqb, ne-eqb}
-use borrow.Author.Needs.{needs}
 use Rattle.state.proofs.edges.used_where.Statement.{statement}
 use Rattle.state.proofs.edges.used_where.Tie as tie
-use Rattle.state.proofs.edges.used_where.Reads as reads
-use Rattle.state.proofs.edges.used_where.Lts as lts
 
--- src/edges.rt:28:1
 returns : tie.Need-returns
 returns c = rw (eq-eqb (c .before .args .target) (c .before .args .x) (c .if1 .taken))
 
--- src/edges.rt:28:1
 returns-2 : tie.Need-returns-2
 returns-2 c = rw (ne-eqb (c .before .args .target) (c .before .args .x) (c .if1 .left))
 

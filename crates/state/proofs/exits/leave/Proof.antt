@@ -1,13 +1,14 @@
+-- `state::exits::leave` meets its contract. Assumes nothing.
 use Rattle.state.specs.Wires.{set-wire}
 use Rattle.state.proofs.StoredWires.{appended-rest, length-wiresIn}
 use Rattle.state.proofs.Points.{held-count}
 use Rattle.state.proofs.ExitLaws.{grow-exits}
 use Prim.Native.Nat.{ℕ, _+_, _-_, _*_, _≤_, _<_}
 use native.Mathlib.Omega.{arith}
-use mathlib.Core.Path.{_≡_, refl, sym, ap, _∙_, subst}
-use mathlib.Core.List.{List, [], _∷_}
+use mathlib.Core.Path.{_≡_, refl, ap, _∙_, subst}
+use mathlib.Core.List.{[], _∷_}
 use denote.Ref.{now}
-use lib.ListN.{length, getD, take, drop}
+use lib.ListN.{length, take, drop}
 use lib.Seq.{take-length}
 use Rattle.fsmd.specs.Layout.{maxRegisters}
 use Rattle.fsmd.specs.declared.Wire.{Wire}
@@ -21,15 +22,6 @@ use Rattle.state.proofs.Points.{held-on}
 use borrow.Author.Needs.{needs}
 use Rattle.state.proofs.exits.leave.Statement.{statement}
 use Rattle.state.proofs.exits.leave.Tie as tie
-use Rattle.state.proofs.exits.leave.Reads as reads
-use Rattle.state.proofs.exits.leave.Lts as lts
-use Rattle.state.proofs.edges.copy.Reads as copy-reads
-use Rattle.state.proofs.exits.exit_all.Reads as exit-all-reads
-use Rattle.state.proofs.exits.next_exit.Reads as next-exit-reads
-use Rattle.state.proofs.exits.next_state.Reads as next-state-reads
-use Rattle.state.proofs.wires.emit.Reads as emit-reads
-use Rattle.state.proofs.wires.reference.Reads as reference-reads
-use Rattle.state.proofs.wires.set_wire.Reads as set-wire-reads
 
 room-first : (c : tie.Else1) → Room (c .before .before .before .before .before .before .before .before .args .made .wires + 1) (now (c .before .before .before .before .before .before .before .before .args .wires))
 room-first c =
@@ -67,11 +59,6 @@ further c =
     (c .before .before .before .emit .ensures ∙ ap (λ (w : Wire). appended (a .made .wires) (w ∷ []) (now (a .wires))) (c .before .before .before .before .set-wire .ensures))
     (c .reference .ensures)
 
--- src/exits.rt:99:9
-next-exit-requires : tie.Need-next-exit-requires
-next-exit-requires c κs = search needs
-
--- src/exits.rt:101:9
 returns : tie.Need-returns
 returns c =
     let a = c .before .before .before .before .before .before .before .before .args in
@@ -82,77 +69,14 @@ returns c =
       omega arith,
     )
 
--- src/exits.rt:107:15
-mul-row : tie.Need-mul-row
-mul-row c = search needs
-
--- src/exits.rt:108:34
-add-copy : tie.Need-add-copy
-add-copy c = search needs
-
--- src/exits.rt:108:43
-add-copy-2 : tie.Need-add-copy-2
-add-copy-2 c = search needs
-
--- src/exits.rt:108:43
-add-copy-3 : tie.Need-add-copy-3
-add-copy-3 c = search needs
-
--- src/exits.rt:108:28
-mul-copy : tie.Need-mul-copy
-mul-copy c = search needs
-
--- src/exits.rt:108:28
-sub-copy : tie.Need-sub-copy
-sub-copy c = search needs
-
--- src/exits.rt:108:28
-part-copy-start : tie.Need-part-copy-start
-part-copy-start c = search needs
-
--- src/exits.rt:108:28
-part-copy-end : tie.Need-part-copy-end
-part-copy-end c = search needs
-
--- src/exits.rt:108:5
-copy-requires : tie.Need-copy-requires
-copy-requires c κs = search needs
-
--- src/exits.rt:109:73
-mul-next-state : tie.Need-mul-next-state
-mul-next-state c = search needs
-
--- src/exits.rt:109:73
-shared-slice-read-next-state : tie.Need-shared-slice-read-next-state
-shared-slice-read-next-state c = search needs
-
--- src/exits.rt:109:44
-next-state-requires : tie.Need-next-state-requires
-next-state-requires c κs = search needs
-
--- src/exits.rt:109:28
-set-wire-requires : tie.Need-set-wire-requires
-set-wire-requires c κs = search needs
-
--- src/exits.rt:109:5
 emit-requires : tie.Need-emit-requires
 emit-requires c κs = room-first (c .before .before .before .before .before .before .before .before .before)
 
--- src/exits.rt:111:18
 reference-requires : tie.Need-reference-requires
 reference-requires c κs =
     let r = room-first (c .before .before .before .before .before .before .before .before .before .before .before .before) in
     omega (arith, r .few)
 
--- src/exits.rt:112:16
-add-t22 : tie.Need-add-t22
-add-t22 c = search needs
-
--- src/exits.rt:114:80
-add-exit-all : tie.Need-add-exit-all
-add-exit-all c = search needs
-
--- src/exits.rt:114:9
 exit-all-requires : tie.Need-exit-all-requires
 exit-all-requires c κs =
     let a = c .before .before .before .before .before .before .before .before .before .before .before .before .before .before .before .before .before .before .before .before .before .before .before .args in
@@ -166,15 +90,6 @@ exit-all-requires c κs =
     let room = subst (λ (q : Point). Room (length (q .wires)) (now (a .wires))) e (p .1 .1 .1) in
     (p .0, (p .1 .0, ((lt, few, record { fits = omega (arith, r .fits); few = r .few }), record { fits = omega (arith, room .fits); few = room .few })))
 
--- src/exits.rt:89:1
-same-length : tie.Need-same-length
-same-length c = search needs
-
--- src/exits.rt:89:1
-same-length-2 : tie.Need-same-length-2
-same-length-2 c = search needs
-
--- src/exits.rt:89:1
 returns-2 : tie.Need-returns-2
 returns-2 c =
     let a = c .before .before .before .before .before .before .before .before .before .before .before .before .before .before .before .before .before .before .before .before .before .before .before .before .before .before .before .before .args in
@@ -200,26 +115,26 @@ pub leave-spec : {M : Type 1} → statement M
 leave-spec =
     tie.close
     (tie.spec
-    next-exit-requires
+    (λ c κs. search needs)
     returns
-    mul-row
-    add-copy
-    add-copy-2
-    add-copy-3
-    mul-copy
-    sub-copy
-    part-copy-start
-    part-copy-end
-    copy-requires
-    mul-next-state
-    shared-slice-read-next-state
-    next-state-requires
-    set-wire-requires
+    (λ c. search needs)
+    (λ c. search needs)
+    (λ c. search needs)
+    (λ c. search needs)
+    (λ c. search needs)
+    (λ c. search needs)
+    (λ c. search needs)
+    (λ c. search needs)
+    (λ c κs. search needs)
+    (λ c. search needs)
+    (λ c. search needs)
+    (λ c κs. search needs)
+    (λ c κs. search needs)
     emit-requires
     reference-requires
-    add-t22
-    add-exit-all
+    (λ c. search needs)
+    (λ c. search needs)
     exit-all-requires
-    same-length
-    same-length-2
+    (λ c. search needs)
+    (λ c. search needs)
     returns-2)

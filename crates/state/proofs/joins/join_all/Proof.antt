@@ -1,23 +1,19 @@
+-- `state::joins::join_all` meets its contract. Assumes nothing.
 use Rattle.state.specs.Making.{Held, edgeTo}
 use lib.ListN.{length-drop}
 use lib.Seq.{length-take-le}
 use Prim.Native.Nat.{ℕ, _+_, _-_, _*_}
 use native.Mathlib.Omega.{arith}
-use mathlib.Core.Path.{_≡_, refl, sym, ap, _∙_}
-use mathlib.Core.List.{List, [], _∷_}
+use mathlib.Core.Path.{_≡_, refl, ap, _∙_}
 use denote.Ref.{now}
 use lib.ListN.{length, getD, take, drop}
-use Rattle.state.specs.Wires.{Edge, Point, join, joins, leadsTo, towards}
+use Rattle.state.specs.Wires.{join, joins, leadsTo, towards}
 use Rattle.state.specs.Making.{pointIn, edgesIn, rowWords}
 use Rattle.state.proofs.JoinLaws.{length-join, grow-join, joins-walk}
 use Rattle.state.proofs.WalkLaws.{Walking, walking-start, walking-room, walking-next, walking-done}
 use borrow.Author.Needs.{needs}
 use Rattle.state.proofs.joins.join_all.Statement.{statement}
 use Rattle.state.proofs.joins.join_all.Tie as tie
-use Rattle.state.proofs.joins.join_all.Reads as reads
-use Rattle.state.proofs.joins.join_all.Lts as lts
-use Rattle.state.proofs.edges.next_edge.Reads as next-edge-reads
-use Rattle.state.proofs.joins.join.Reads as join-reads
 
 abbrev Inv-loop : tie.InvT-loop
 Inv-loop wires₀ values₀ targets rows from count x made₀ i₀ wires values made i =
@@ -28,11 +24,6 @@ Inv-loop wires₀ values₀ targets rows from count x made₀ i₀ wires values 
 abbrev μ-loop : tie.MeasureT-loop
 μ-loop wires₀ values₀ targets rows from count x made₀ i₀ wires values made i = count - i
 
--- src/joins.rt:66:9
-next-edge-requires : tie.Need-next-edge-requires Inv-loop μ-loop
-next-edge-requires c κs = search needs
-
--- src/joins.rt:67:5
 loop-holds : tie.Need-loop-holds Inv-loop μ-loop
 loop-holds c =
     let a = c .before .before .before .before .before .args in
@@ -42,47 +33,6 @@ loop-holds c =
     (walking-start r (now (a .targets)) (now (a .rows)) (leadsTo (a .x)) (a .count) (p .1 .0 .1) (omega arith) join 1 length-join grow-join
     (a .front .arrival) (now (a .values)) (a .front .wires) (now (a .wires)) (a .from) (c .next-edge .result) (c .next-edge .ensures) refl (p .1 .1 .0 .fits))
 
--- src/joins.rt:68:19
-mul-row : tie.Need-mul-row Inv-loop μ-loop
-mul-row c = search needs
-
--- src/joins.rt:69:46
-mul-join : tie.Need-mul-join Inv-loop μ-loop
-mul-join c = search needs
-
--- src/joins.rt:69:46
-shared-slice-read-join : tie.Need-shared-slice-read-join Inv-loop μ-loop
-shared-slice-read-join c = search needs
-
--- src/joins.rt:69:63
-add-join : tie.Need-add-join Inv-loop μ-loop
-add-join c = search needs
-
--- src/joins.rt:69:72
-add-join-2 : tie.Need-add-join-2 Inv-loop μ-loop
-add-join-2 c = search needs
-
--- src/joins.rt:69:72
-add-join-3 : tie.Need-add-join-3 Inv-loop μ-loop
-add-join-3 c = search needs
-
--- src/joins.rt:69:57
-mul-join-2 : tie.Need-mul-join-2 Inv-loop μ-loop
-mul-join-2 c = search needs
-
--- src/joins.rt:69:57
-sub-join : tie.Need-sub-join Inv-loop μ-loop
-sub-join c = search needs
-
--- src/joins.rt:69:57
-part-join-start : tie.Need-part-join-start Inv-loop μ-loop
-part-join-start c = search needs
-
--- src/joins.rt:69:57
-part-join-end : tie.Need-part-join-end Inv-loop μ-loop
-part-join-end c = search needs
-
--- src/joins.rt:69:13
 join-requires : tie.Need-join-requires Inv-loop μ-loop
 join-requires c κs =
     let l = c .before .before .before .before .before .loop in
@@ -96,19 +46,6 @@ join-requires c κs =
       walking-room (length (now (a .values))) (now (a .targets)) rows (leadsTo (a .x)) (a .count) (p .1 .0 .1) (omega (arith, p .0, p .1 .0)) join 1 length-join grow-join (l .inv) (c .before .before .before .before .loop-test .taken) (p .1 .1 .1),
     )
 
--- src/joins.rt:71:39
-add-next-edge : tie.Need-add-next-edge Inv-loop μ-loop
-add-next-edge c = search needs
-
--- src/joins.rt:71:9
-next-edge-requires-2 : tie.Need-next-edge-requires-2 Inv-loop μ-loop
-next-edge-requires-2 c κs = search needs
-
--- src/joins.rt:67:5
-loop-less : tie.Need-loop-less Inv-loop μ-loop
-loop-less c = search needs
-
--- src/joins.rt:67:5
 loop-again : tie.Need-loop-again Inv-loop μ-loop
 unfolding join
 loop-again c =
@@ -125,15 +62,6 @@ loop-again c =
     (j .result .arrival) (j .last .1 .0) (j .result .wires) (j .last .0) (c .next-edge2 .result)
     (c .before .before .before .before .before .before .before .before .before .before .loop-test .taken) k (c .next-edge2 .ensures) (j .kept .1 .0) (j .kept .0)
 
--- src/joins.rt:59:1
-same-length : tie.Need-same-length Inv-loop μ-loop
-same-length c = search needs
-
--- src/joins.rt:59:1
-same-length-2 : tie.Need-same-length-2 Inv-loop μ-loop
-same-length-2 c = search needs
-
--- src/joins.rt:59:1
 returns : tie.Need-returns Inv-loop μ-loop
 returns c =
     let l = c .before .loop in
@@ -147,23 +75,23 @@ join-all-spec =
     (tie.spec
     Inv-loop
     μ-loop
-    next-edge-requires
+    (λ c κs. search needs)
     loop-holds
-    mul-row
-    mul-join
-    shared-slice-read-join
-    add-join
-    add-join-2
-    add-join-3
-    mul-join-2
-    sub-join
-    part-join-start
-    part-join-end
+    (λ c. search needs)
+    (λ c. search needs)
+    (λ c. search needs)
+    (λ c. search needs)
+    (λ c. search needs)
+    (λ c. search needs)
+    (λ c. search needs)
+    (λ c. search needs)
+    (λ c. search needs)
+    (λ c. search needs)
     join-requires
-    add-next-edge
-    next-edge-requires-2
-    loop-less
+    (λ c. search needs)
+    (λ c κs. search needs)
+    (λ c. search needs)
     loop-again
-    same-length
-    same-length-2
+    (λ c. search needs)
+    (λ c. search needs)
     returns)

@@ -1,9 +1,10 @@
-use Prim.Native.Nat.{ℕ, _≤_, _-_}
+-- `state::joins::number` meets its contract. Assumes nothing.
+use Prim.Native.Nat.{_≤_, _-_}
 use native.Mathlib.Nat.{zero-add}
 use native.Mathlib.Numerals.{add-one}
 use native.Mathlib.Omega.{arith}
 use mathlib.Core.Path.{_≡_, refl, sym, ap, _∙_}
-use mathlib.Core.List.{List, _++_}
+use mathlib.Core.List.{_++_}
 use denote.Ref.{now}
 use lib.ListN.{length, set, drop, length-set}
 use Rattle.runs.specs.Lists.{upFrom}
@@ -11,8 +12,6 @@ use Rattle.state.proofs.Counting.{counted-more, counted-all}
 use borrow.Author.Needs.{needs}
 use Rattle.state.proofs.joins.number.Statement.{statement}
 use Rattle.state.proofs.joins.number.Tie as tie
-use Rattle.state.proofs.joins.number.Reads as reads
-use Rattle.state.proofs.joins.number.Lts as lts
 
 abbrev Inv-loop : tie.InvT-loop
 Inv-loop values₀ r₀ values r = (r ≤ length values₀) × (length values ≡ length values₀) × (values ≡ upFrom 0 r ++ drop r values₀)
@@ -20,31 +19,9 @@ Inv-loop values₀ r₀ values r = (r ≤ length values₀) × (length values �
 abbrev μ-loop : tie.MeasureT-loop
 μ-loop values₀ r₀ values r = length values₀ - r
 
--- src/joins.rt:21:5
 loop-holds : tie.Need-loop-holds Inv-loop μ-loop
 loop-holds c = (omega arith, refl, refl)
 
--- src/joins.rt:22:21
-cast-values : tie.Need-cast-values Inv-loop μ-loop
-cast-values c = search needs
-
--- src/joins.rt:22:9
-mul-values : tie.Need-mul-values Inv-loop μ-loop
-mul-values c = search needs
-
--- src/joins.rt:22:9
-slice-write-values : tie.Need-slice-write-values Inv-loop μ-loop
-slice-write-values c = search needs
-
--- src/joins.rt:23:9
-add-r : tie.Need-add-r Inv-loop μ-loop
-add-r c = search needs
-
--- src/joins.rt:21:5
-loop-less : tie.Need-loop-less Inv-loop μ-loop
-loop-less c = search needs
-
--- src/joins.rt:21:5
 loop-again : tie.Need-loop-again Inv-loop μ-loop
 loop-again c =
     let l = c .before .loop in
@@ -54,11 +31,6 @@ loop-again c =
       rw (add-one, l .inv .2) (ap (set (upFrom 0 (l .r) ++ drop (l .r) vs) (l .r)) (sym (zero-add (l .r))) ∙ counted-more 0 (l .r) vs (omega arith)),
     )
 
--- src/joins.rt:16:1
-same-length : tie.Need-same-length Inv-loop μ-loop
-same-length c = search needs
-
--- src/joins.rt:16:1
 returns : tie.Need-returns Inv-loop μ-loop
 returns c =
     let l = c .before .loop in
@@ -73,11 +45,11 @@ number-spec =
     Inv-loop
     μ-loop
     loop-holds
-    cast-values
-    mul-values
-    slice-write-values
-    add-r
-    loop-less
+    (λ c. search needs)
+    (λ c. search needs)
+    (λ c. search needs)
+    (λ c. search needs)
+    (λ c. search needs)
     loop-again
-    same-length
+    (λ c. search needs)
     returns)

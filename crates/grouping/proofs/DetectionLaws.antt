@@ -7,7 +7,7 @@ use mathlib.Core.List.{List, [], _∷_}
 use native.Mathlib.Omega.{arith}
 use lib.ListN.{length}
 use lib.Dec.{eqb}
-use borrow.Author.Tests.{not-true, not-false, eqb-true}
+use borrow.Author.Tests.{not-true, not-false, eqb-true, eqb-false}
 use Rattle.runs.specs.Lists.{mem}
 use Rattle.runs.proofs.Tests.{true-or-false, or-false, and-true, and-false, Compared, same, other, compared}
 use Rattle.runs.proofs.Sets.{In, Distinct, Subset, mem→In, mem→Out}
@@ -22,6 +22,14 @@ use Rattle.grouping.proofs.PopulationLaws.{stateIn}
 abbrev pub Legal : List ℕ → List ℕ → ℕ → ℕ → Type 0
 Legal starters states u v = (stateIn states u ≡ stateIn states v) ⊎ In v starters
 
+-- an edge of a reached block that leaves its state and leads to no starter
+pub record IllegalEdge (g : CFG) (starters states : List ℕ) (v : ℕ) : Type 0 where
+  pub source : ℕ
+  pub reached : Reached g source
+  pub edge : In v (successors g source)
+  pub leaves : stateIn states source ≢ stateIn states v
+  pub fresh : In v starters → ⊥
+
 abbrev From : List ℕ → List ℕ → List ℕ → ℕ → Type 0
 From starters states [] x = Unit {0}
 From starters states (p ∷ path) x = Legal starters states p x
@@ -33,7 +41,7 @@ record Clean (g : CFG) (starters states path seen : List ℕ) : Type 0 where
 
 abbrev Inv : CFG → List ℕ → List ℕ → List ℕ → Detection → Type 0
 Inv g starters states path (visited seen) = Clean g starters states path seen
-Inv g starters states path (illegalTo z) = Reached g z × (In z starters → ⊥)
+Inv g starters states path (illegalTo z) = IllegalEdge g starters states z
 
 abbrev Dealt : List ℕ → List ℕ → List ℕ → ℕ → Detection → Type 0
 Dealt starters states path x (visited seen) = In x seen × From starters states path x
@@ -81,9 +89,18 @@ module _ (g : CFG) (a : Closed g) (starters states : List ℕ) where
       go (inl e) = inl (eqb-true (stateIn states p) (stateIn states x) (not-false (eqb (stateIn states p) (stateIn states x)) e))
       go (inr e) = inr (mem→In x starters (not-false (mem x starters) e))
 
-  fails : (path : List ℕ) (x : ℕ) → illegal starters states path x ≡ true → In x starters → ⊥
-  fails [] x e = absurd (false≢true e)
-  fails (p ∷ path) x e = mem→Out x starters (not-true (mem x starters) (and-true (not (eqb (stateIn states p) (stateIn states x))) (not (mem x starters)) e .1))
+  fails : (path : List ℕ) (x : ℕ) (seen : List ℕ) → Clean g starters states path seen → Came (successors g) 0 path x → illegal starters states path x ≡ true
+      → IllegalEdge g starters states x
+  fails [] x seen i c e = absurd (false≢true e)
+  fails (p ∷ path) x seen i c e =
+      let b = and-true (not (eqb (stateIn states p) (stateIn states x))) (not (mem x starters)) e in
+      record {
+        source = p;
+        reached = i .reach p (i .on-path p (inl refl));
+        edge = c;
+        leaves = eqb-false (stateIn states p) (stateIn states x) (not-true (eqb (stateIn states p) (stateIn states x)) (b .0));
+        fresh = mem→Out x starters (not-true (mem x starters) (b .1));
+      }
 
   turned : (path : List ℕ) (x : ℕ) (h : Detection) → Inv g starters states path h → Came (successors g) 0 path x → detecting starters states .stop path x h ≡ true
       → Outcome (Inv g starters states path) (Dealt starters states path x) Le h (detecting starters states .turn path x h)
@@ -92,7 +109,7 @@ module _ (g : CFG) (a : Closed g) (starters states : List ℕ) where
     where
       go : (illegal starters states path x ≡ true) ⊎ (illegal starters states path x ≡ false)
           → Outcome (Inv g starters states path) (Dealt starters states path x) Le (visited seen) (detectTurn starters states path x (visited seen))
-      go (inl f) = rw (f, detectTurn) (record { holds = (come path x seen i c, fails path x f); dealt = tt; grows = tt })
+      go (inl f) = rw (f, detectTurn) (record { holds = fails path x seen i c f; dealt = tt; grows = tt })
       go (inr f) = rw (f, detectTurn) (record { holds = i; dealt = (mem→In x seen (rw f at e), passes path x f); grows = λ y j. j })
 
   new : (path : List ℕ) (x : ℕ) (h : Detection) → Inv g starters states path h → detecting starters states .stop path x h ≡ false → In x path → ⊥
@@ -170,8 +187,12 @@ module _ (g : CFG) (a : Closed g) (starters states : List ℕ) where
       all u entry = d .0
       all u (along {u = w} {v = v} r i) = cl .legal w (all w r) (λ z. z) v i .0
 
+  -- one found: it leads to y
+  pub detect-edge : (y : ℕ) → detect g starters states ≡ illegalTo y → IllegalEdge g starters states y
+  detect-edge y e = subst (Inv g starters states []) e (end .holds)
+
   pub detect-illegal : (y : ℕ) → detect g starters states ≡ illegalTo y → Reached g y × (In y starters → ⊥)
-  detect-illegal y e = subst (Inv g starters states []) e (end .holds)
+  detect-illegal y e = let b = detect-edge y e in (along (b .reached) (b .edge), b .fresh)
 
   -- more fuel changes nothing
   pub detect-fuel : (n : ℕ) → length (g .blocks) < n → visit (detecting starters states) (successors g) n [] 0 (visited []) ≡ detect g starters states

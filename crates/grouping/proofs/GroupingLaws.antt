@@ -11,10 +11,10 @@ use Rattle.cfg.specs.Graph.{CFG, successors}
 use Rattle.fsmd.specs.Layout.{none}
 use Rattle.grouping.specs.Visit.{visit}
 use Rattle.grouping.specs.Grouping.{Loops, looping, loops, populate, Detection, visited, illegalTo, detecting, detect, Groups, regroup, groups}
-use Rattle.grouping.proofs.Reach.{Closed, Reached, reached-below}
+use Rattle.grouping.proofs.Reach.{Closed, Reached, along, reached-below}
 use Rattle.grouping.proofs.LoopLaws.{Looped, looped, loops-fuel, ranked-more, ranked-distinct, rank, rank-most, rank-falls, Walk, no-cycle}
 use Rattle.grouping.proofs.PopulationLaws.{stateIn, populateWith, populate-fuel, Populated, populated}
-use Rattle.grouping.proofs.DetectionLaws.{Legal, detect-visited, detect-illegal, detect-fuel}
+use Rattle.grouping.proofs.DetectionLaws.{Legal, IllegalEdge, detect-visited, detect-edge, detect-illegal, detect-fuel}
 
 -- ---- what a finished grouping is
 
@@ -46,6 +46,11 @@ pub record Grouped (g : CFG) (s : Groups) : Type 0 where
   pub ended : (seen : List ℕ) × (detect g (s .starters) (s .states) ≡ visited seen)
 
 -- ---- the repetition
+
+-- P is kept where the target of an illegal edge becomes the newest starter; `finished` is loop detection's
+abbrev pub Keeps : CFG → List ℕ → (List ℕ → Type 0) → Type 0
+Keeps g finished P =
+    (starters : List ℕ) (y : ℕ) → Looped g starters finished → IllegalEdge g starters (populate g starters) y → P starters → P (starters ++ (y ∷ []))
 
 -- the whole procedure with any fuel of the visits and any number of rounds
 abbrev pub afterDetection : Detection → Groups → (ℕ → Groups) → Groups
@@ -136,19 +141,21 @@ module _ (g : CFG) (a : Closed g) (finished : List ℕ) where
       turn u v (inl q) = inr (sym q)
       turn u v (inr i) = inl i
 
-  -- as many rounds as there are blocks that are no starters suffice
-  regroup-ends : (n : ℕ) (starters : List ℕ) → Looped g starters finished → length (g .blocks) < n + length starters → Grouped g (regroup g n starters)
+  -- As many rounds as there are blocks that are no starters suffice, and what each new starter keeps holds in the end.
+  regroup-ends : (P : List ℕ → Type 0) → Keeps g finished P → (n : ℕ) (starters : List ℕ) → Looped g starters finished → P starters
+      → length (g .blocks) < n + length starters → Grouped g (regroup g n starters) × P (regroup g n starters .starters)
   unfolding regroup
-  regroup-ends zero starters l e = absurd (let r = starters-few starters l in omega arith)
-  regroup-ends (suc n) starters l e = go (detect g starters (populate g starters)) refl (regroup-ends n)
+  regroup-ends P keep zero starters l p e = absurd (let r = starters-few starters l in omega arith)
+  regroup-ends P keep (suc n) starters l p e = go (detect g starters (populate g starters)) refl (regroup-ends P keep n)
     where
       go : (d : Detection) → detect g starters (populate g starters) ≡ d
-          → ((t : List ℕ) → Looped g t finished → length (g .blocks) < n + length t → Grouped g (regroup g n t))
-          → Grouped g (regroup g (suc n) starters)
-      go (visited seen) h ih = rw (h, regroup) (clean starters seen l h)
+          → ((t : List ℕ) → Looped g t finished → P t → length (g .blocks) < n + length t → Grouped g (regroup g n t) × P (regroup g n t .starters))
+          → Grouped g (regroup g (suc n) starters) × P (regroup g (suc n) starters .starters)
+      go (visited seen) h ih = rw (h, regroup) (clean starters seen l h, p)
       go (illegalTo y) h ih =
-          let b = detect-illegal g a starters (populate g starters) y h in
-          rw (h, regroup) (ih (starters ++ (y ∷ [])) (more starters y l (b .0) (b .1)) (rw length-append (omega arith)))
+          let b = detect-edge g a starters (populate g starters) y h in
+          rw (h, regroup)
+          (ih (starters ++ (y ∷ [])) (more starters y l (along (b .reached) (b .edge)) (b .fresh)) (keep starters y l b p) (rw length-append (omega arith)))
 
   -- more fuel and more rounds change nothing
   regroup-alike : (fuel : ℕ) → length (g .blocks) < fuel → (m n : ℕ) (starters : List ℕ) → Looped g starters finished
@@ -175,12 +182,17 @@ module _ (g : CFG) (a : Closed g) (finished : List ℕ) where
 
 -- ---- the grouping of a graph
 
-pub grouped : (g : CFG) → Closed g → Grouped g (groups g)
+-- It is finished, and what holds of loop detection's starters and is kept by each new one holds of its starters.
+pub grouped-keeping : (g : CFG) → Closed g → (P : List ℕ → Type 0) → Keeps g (loops g .finished) P → P (loops g .starters) → Grouped g (groups g) × P (groups g .starters)
 unfolding groups
-grouped g a = regroup-ends g a (loops g .finished) (length (g .blocks)) (loops g .starters) l (let z = ap length (l .headed .1) in omega arith)
+grouped-keeping g a P keep first =
+    regroup-ends g a (loops g .finished) P keep (length (g .blocks)) (loops g .starters) l first (let z = ap length (l .headed .1) in omega arith)
   where
     l : Looped g (loops g .starters) (loops g .finished)
     l = looped g a
+
+pub grouped : (g : CFG) → Closed g → Grouped g (groups g)
+grouped g a = grouped-keeping g a (λ starters. Unit {0}) (λ starters y l b p. tt) tt .0
 
 -- any fuel above B and any number of rounds from B up give the same: the definitions mean the unbounded procedure
 pub groups-fuel : (g : CFG) → Closed g → (fuel rounds : ℕ) → length (g .blocks) < fuel → length (g .blocks) ≤ rounds → groupsWith fuel g rounds ≡ groups g

@@ -8,7 +8,7 @@ use lib.ListN.{length, getD, take, drop, replicate, length-append}
 use lib.Seq.{drop-append-add, drop-drop, take-at, getD-drop}
 use Rattle.runs.proofs.ListLaws.{padded-append, length-padded}
 use Rattle.runs.specs.Lists.{upFrom, padded, concatMap}
-use Rattle.fsmd.specs.Layout.{maxStates, maxBlocks, maxRegisters, maxWires, wireWords, recordWords, allRecordWords, allWireWords, recordsOffset, wiresOffset, machineWords, recordOffset, nextStateOffset, nextRegistersOffset, wireOffset, none}
+use Rattle.fsmd.specs.Layout.{maxStates, maxBlocks, maxRegisters, maxWires, wireWords, recordWords, allRecordWords, allWireWords, startersOffset, blockStatesOffset, recordsOffset, wiresOffset, machineWords, recordOffset, nextStateOffset, nextRegistersOffset, wireOffset, none}
 use Rattle.fsmd.specs.Machine.{State, wireCount, FSMD, emptyState, stateOf}
 use Rattle.fsmd.specs.Table.{wireWordsOf, recordOf, recordsOf, wiresOf, tableOf, wireAt, firstWireAt, wireCountAt, stateAt}
 use Rattle.fsmd.specs.declared.Wire.{Wire}
@@ -155,23 +155,43 @@ module _ (m : FSMD) (rest : List ℕ) where
   unfolding tableOf
   registers-are = refl
 
-  from-records : (i : ℕ) → drop (recordsOffset + i) table ≡ drop i (recordSpace ++ (wireSpace ++ rest))
+  from-starters : (i : ℕ) → drop (startersOffset + i) table ≡ drop i (starterWords ++ (blockWords ++ (recordSpace ++ (wireSpace ++ rest))))
   unfolding tableOf wiresOf
+  from-starters i =
+      let e : startersOffset + i ≡ suc (suc i) = omega arith in
+      ap (λ (j : ℕ). drop j table) e ∙ ap (drop i) (simp append-assoc)
+
+  from-blocks : (i : ℕ) → drop (blockStatesOffset + i) table ≡ drop i (blockWords ++ (recordSpace ++ (wireSpace ++ rest)))
+  from-blocks i =
+      let e : blockStatesOffset + i ≡ startersOffset + (maxStates + i) = omega arith in
+      ap (λ (j : ℕ). drop j table) e ∙ from-starters (maxStates + i)
+      ∙ drop-past starterWords (blockWords ++ (recordSpace ++ (wireSpace ++ rest))) maxStates i (length-padded maxStates 0 (m .starters))
+
+  from-records : (i : ℕ) → drop (recordsOffset + i) table ≡ drop i (recordSpace ++ (wireSpace ++ rest))
   from-records i =
-      let e : recordsOffset + i ≡ suc (suc (maxStates + (maxBlocks + i))) = omega arith in
-      let b = blockWords ++ (recordSpace ++ wireSpace) in
-      ap (λ (j : ℕ). drop j table) e
-      ∙ ap (drop (maxStates + (maxBlocks + i))) (append-assoc starterWords b rest)
-      ∙ drop-past starterWords (b ++ rest) maxStates (maxBlocks + i) (length-padded maxStates 0 (m .starters))
-      ∙ ap (drop (maxBlocks + i)) (append-assoc blockWords (recordSpace ++ wireSpace) rest)
-      ∙ drop-past blockWords ((recordSpace ++ wireSpace) ++ rest) maxBlocks i (length-padded maxBlocks none (m .blockStates))
-      ∙ ap (drop i) (append-assoc recordSpace wireSpace rest)
+      let e : recordsOffset + i ≡ blockStatesOffset + (maxBlocks + i) = omega arith in
+      ap (λ (j : ℕ). drop j table) e ∙ from-blocks (maxBlocks + i)
+      ∙ drop-past blockWords (recordSpace ++ (wireSpace ++ rest)) maxBlocks i (length-padded maxBlocks none (m .blockStates))
 
   from-wires : (i : ℕ) → drop (wiresOffset + i) table ≡ drop i (wireSpace ++ rest)
   from-wires i =
       let e : wiresOffset + i ≡ recordsOffset + (allRecordWords + i) = omega arith in
       ap (λ (j : ℕ). drop j table) e ∙ from-records (allRecordWords + i)
       ∙ drop-past recordSpace (wireSpace ++ rest) allRecordWords i (length-padded allRecordWords 0 (recordsOf 0 (m .states)))
+
+  pub back-starters : length (m .starters) ≡ length (m .states) → length (m .states) ≤ maxStates → take (getD table 0 0) (drop startersOffset table) ≡ m .starters
+  back-starters e few =
+      let l = m .starters in
+      let after = blockWords ++ (recordSpace ++ (wireSpace ++ rest)) in
+      let pad = replicate {A = ℕ} (maxStates - length l) 0 in
+      let p : starterWords ≡ l ++ pad = padded-append maxStates 0 l (omega arith) in
+      ap₂ (λ (n : ℕ) (d : List ℕ). take n d) count-is (from-starters 0)
+      ∙ ap (λ (d : List ℕ). take (length (m .states)) (d ++ after)) p
+      ∙ ap (take (length (m .states))) (append-assoc l pad after)
+      ∙ take-at l (pad ++ after) (length (m .states)) e
+
+  pub back-blocks : take maxBlocks (drop blockStatesOffset table) ≡ padded maxBlocks none (m .blockStates)
+  back-blocks = ap (take maxBlocks) (from-blocks 0) ∙ take-at blockWords (recordSpace ++ (wireSpace ++ rest)) maxBlocks (length-padded maxBlocks none (m .blockStates))
 
   module _ (few : length (m .states) ≤ maxStates) (room : wireCount (m .states) ≤ maxWires) (k : ℕ) (h : k < length (m .states)) where
     -- the words from state k's record on

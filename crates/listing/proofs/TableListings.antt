@@ -1,19 +1,19 @@
 -- The listing by a machine table's words is that of the machine whose table it is. Assumes nothing.
 use Prim.Native.Nat.{ℕ, zero, suc, _+_, _-_, _≤_, _<_}
 use native.Mathlib.Omega.{arith}
-use mathlib.Core.Path.{_≡_, refl, ap, ap₂, _∙_}
+use mathlib.Core.Path.{_≡_, refl, sym, ap, ap₂, _∙_}
 use mathlib.Core.Bool.{Bool, true, false}
-use mathlib.Core.List.{List, [], _∷_, _++_, append-assoc, append-nil}
-use lib.ListN.{length, getD, take, drop, replicate, length-append, List·getD-append}
-use lib.Seq.{take-at, drop-at}
+use mathlib.Core.List.{List, [], _∷_, _++_, append-nil}
+use lib.ListN.{length, getD, drop, replicate, length-append}
+use lib.Seq.{getD-take, getD-drop}
 use lib.Dec.{eqb}
 use borrow.Author.Tests.{ne-eqb}
 use Rattle.runs.specs.Lists.{upFrom, keep, only, padded, concatMap}
-use Rattle.runs.proofs.ListLaws.{padded-append, length-padded, getD-padded}
-use Rattle.fsmd.specs.Layout.{maxStates, maxBlocks, allRecordWords, allWireWords, startersOffset, blockStatesOffset, none}
+use Rattle.runs.proofs.ListLaws.{padded-append}
+use Rattle.fsmd.specs.Layout.{maxStates, maxBlocks, startersOffset, none}
 use Rattle.fsmd.specs.Machine.{State, wireCount, FSMD, stateOf, emptyState}
-use Rattle.fsmd.specs.Table.{recordsOf, wiresOf, tableOf, wireCountAt}
-use Rattle.fsmd.proofs.WrittenTable.{wiresBefore, count-is, back-first, back-count, table-length}
+use Rattle.fsmd.specs.Table.{tableOf, wireCountAt}
+use Rattle.fsmd.proofs.WrittenTable.{wiresBefore, count-is, back-starters, back-blocks, back-first, back-count, table-length}
 use Rattle.synthesis.proofs.SynthesisedMachine.{MachineFits}
 use Rattle.listing.specs.Listing.{blocksIn, wiresIn, headLine, stateLine, machineListing}
 use Rattle.listing.specs.Words.{occurrences, starterAt, blocksAt, wiresAt, headLineAt, stateLineAt, stateLinesAt, tableListing, Listable}
@@ -62,39 +62,15 @@ module _ (m : FSMD) (rest : List ℕ) (f : MachineFits m) where
   abbrev table : List ℕ
   table = tableOf m ++ rest
 
-  abbrev starterWords : List ℕ
-  starterWords = padded maxStates 0 (m .starters)
-
-  abbrev blockWords : List ℕ
-  blockWords = padded maxBlocks none (m .blockStates)
-
-  abbrev behind : List ℕ
-  behind =
-      (padded allRecordWords 0 (recordsOf 0 (m .states))
-      ++ padded allWireWords 0 (wiresOf (m .states)))
-      ++ rest
-
-  parts : table ≡ length (m .states) ∷ m .registers ∷ (starterWords ++ (blockWords ++ behind))
-  unfolding tableOf
-  parts = simp append-assoc
-
   starter-back : (k : ℕ) → k < length (m .states) → starterAt table k ≡ getD (m .starters) k 0
   starter-back k h =
-      let few = f .fewStates in
-      let e : startersOffset + k ≡ suc (suc k) = omega arith in
-      let n = length-padded maxStates 0 (m .starters) in
-      ap₂ (λ (l : List ℕ) (i : ℕ). getD l i 0) parts e
-      ∙ (List·getD-append starterWords (blockWords ++ behind) 0 k (omega arith) ∙ getD-padded maxStates 0 (m .starters) k (omega arith))
+      let n = getD table 0 0 in
+      let part = drop startersOffset table in
+      sym (getD-drop startersOffset table k 0) ∙ sym (getD-take n part k 0 (rw (count-is m rest) h))
+      ∙ ap (λ (l : List ℕ). getD l k 0) (back-starters m rest (f .startersCount) (f .fewStates))
 
   blocks-back : (k : ℕ) → k < length (m .states) → blocksAt table k ≡ blocksIn m k
-  blocks-back k h =
-      let few = f .fewStates in
-      let n = length-padded maxStates 0 (m .starters) in
-      let front = length (m .states) ∷ m .registers ∷ starterWords in
-      ap (λ (l : List ℕ). occurrences k (take maxBlocks (drop blockStatesOffset l))) parts
-      ∙ (ap (λ (l : List ℕ). occurrences k (take maxBlocks l)) (drop-at front (blockWords ++ behind) blockStatesOffset (omega arith))
-      ∙ (ap (occurrences k) (take-at blockWords behind maxBlocks (length-padded maxBlocks none (m .blockStates)))
-      ∙ padded-blocks k (m .blockStates) (omega arith) (f .fewBlocks)))
+  blocks-back k h = let few = f .fewStates in ap (occurrences k) (back-blocks m rest) ∙ padded-blocks k (m .blockStates) (omega arith) (f .fewBlocks)
 
   wires-back : (k : ℕ) → k < length (m .states) → wireCountAt table k ≡ length (stateOf m k .wires)
   wires-back k h = back-count m rest (f .fewStates) (f .room) k h

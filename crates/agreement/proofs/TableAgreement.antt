@@ -1,13 +1,10 @@
 -- Demand 3 on tables: every admitted graph table agrees with the table of the machine synthesised from it. Assumes nothing.
 use Prim.Native.Nat.{ℕ}
 use native.Mathlib.Omega.{arith}
-use mathlib.Core.Path.{_≡_, refl, ap, _∙_}
-use mathlib.Core.Bool.{Bool, true, false, not, _||_}
+use mathlib.Core.Path.{_≡_, ap, _∙_}
+use mathlib.Core.Bool.{true}
 use mathlib.Core.List.{List, _++_}
 use lib.ListN.{length, drop, length-append}
-use lib.Dec.{ltb}
-use Rattle.word.specs.Word.{choose}
-use Rattle.cfg.specs.Layout.{graphWords}
 use Rattle.cfg.specs.Graph.{CFG}
 use Rattle.cfg.specs.Table.{graphOf, admitted}
 use Rattle.cfg.proofs.Admitted.{valid-graph, admitted-halves}
@@ -20,12 +17,12 @@ use Rattle.fsmd.proofs.WrittenTable.{table-length}
 use Rattle.fsmd.proofs.ReadBack.{Fits, Sound, read-cycle, read-admitted}
 use Rattle.grouping.specs.Grouping.{Groups, groups}
 use Rattle.grouping.proofs.Reach.{valid-closed}
-use Rattle.synthesis.specs.Synthesis.{machineFor, machine, synthesisAnswer, made, synthesisWords}
-use Rattle.synthesis.specs.declared.SynthesisAnswer.{SynthesisAnswer}
-use Rattle.synthesis.specs.declared.SynthesisAnswer.the-variants.{Refused, Made}
+use Rattle.synthesis.specs.Synthesis.{machineFor, machine, synthesisAnswer, synthesisWords}
+use Rattle.synthesis.specs.declared.SynthesisAnswer.the-variants.{Made}
 use Rattle.synthesis.proofs.GraphFacts.{graph-fits}
 use Rattle.placement.proofs.StateOrder.{groups-arranged}
 use Rattle.synthesis.proofs.SynthesisedMachine.{machine-is, machine-fits}
+use Rattle.synthesis.proofs.MadeTable.{made-words, made-admitted}
 use Rattle.agreement.specs.Agreement.{AgreeAfter, Agreement}
 use Rattle.agreement.proofs.WholeRun.{agree-after}
 use Rattle.agreement.proofs.RunAnswers.{run-agrees}
@@ -61,19 +58,6 @@ agreement t rest ok =
     }
 
 -- ---- and so the words that Synthesise leaves
-
-made-words : (t old : List ℕ) → synthesisAnswer t old ≡ Made → synthesisWords t old ≡ tableOf (machine (graphOf t)) ++ drop machineWords old
-unfolding synthesisWords
-made-words t old e = ap (λ (a : SynthesisAnswer). made a (tableOf (machine (graphOf t)) ++ drop machineWords old) old) e
-
-made-test : (short ok : Bool) → choose short (Refused 7) (choose (not ok) (Refused 6) Made) ≡ Made → ok ≡ true
-made-test true ok e = absurd (let z : _≡_ {A = ℕ} 0 1 = cc in omega arith)
-made-test false true e = refl
-made-test false false e = absurd (let z : _≡_ {A = ℕ} 0 1 = cc in omega arith)
-
-made-admitted : (t old : List ℕ) → synthesisAnswer t old ≡ Made → admitted t ≡ true
-unfolding synthesisAnswer
-made-admitted t old e = made-test (ltb (length t) graphWords || ltb (length old) machineWords) (admitted t) e
 
 pub synthesised-agrees : (t old : List ℕ) → synthesisAnswer t old ≡ Made → Agreement t (synthesisWords t old)
 synthesised-agrees t old e = rw (made-words t old e) (agreement t (drop machineWords old) (made-admitted t old e))

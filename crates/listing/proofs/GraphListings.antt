@@ -1,31 +1,23 @@
 -- The words that Synthesise leaves of an admitted graph table give the listing of that graph's machine. Assumes nothing.
 use Prim.Native.Nat.{ℕ, _≤_}
-use mathlib.Core.Path.{_≡_, refl, ap}
+use mathlib.Core.Path.{_≡_}
 use mathlib.Core.Bool.{true}
 use mathlib.Core.List.{List, _++_}
 use lib.ListN.{length, drop}
-use borrow.Author.Tests.{le-ltb}
-use Rattle.cfg.specs.Layout.{graphWords}
 use Rattle.cfg.specs.Table.{graphOf, admitted}
-use Rattle.cfg.proofs.Admitted.{valid-graph, admitted-halves, admitted-facts}
+use Rattle.cfg.proofs.Admitted.{valid-graph, admitted-halves}
 use Rattle.fsmd.specs.Layout.{machineWords}
 use Rattle.fsmd.specs.Table.{tableOf}
-use Rattle.synthesis.specs.Synthesis.{machine, synthesisAnswer, made, synthesisWords}
-use Rattle.synthesis.specs.declared.SynthesisAnswer.{SynthesisAnswer}
-use Rattle.synthesis.specs.declared.SynthesisAnswer.the-variants.{Made}
+use Rattle.synthesis.specs.Synthesis.{machine, synthesisWords}
 use Rattle.synthesis.proofs.SynthesisedMachine.{MachineFits, machine-fits}
+use Rattle.synthesis.proofs.MadeTable.{made-words, admitted-made}
 use Rattle.listing.specs.Listing.{machineListing}
 use Rattle.listing.specs.Words.{tableListing, Listable}
 use Rattle.listing.proofs.TableListings.{table-listing, table-listable}
 
 module _ (t old : List ℕ) (ok : admitted t ≡ true) (long : machineWords ≤ length old) where
-  not-refused : synthesisAnswer t old ≡ Made
-  unfolding synthesisAnswer
-  not-refused = rw (le-ltb (length t) graphWords (admitted-facts t ok .long), le-ltb (length old) machineWords long, ok) refl
-
   words-made : synthesisWords t old ≡ tableOf (machine (graphOf t)) ++ drop machineWords old
-  unfolding synthesisWords
-  words-made = ap (λ (a : SynthesisAnswer). made a (tableOf (machine (graphOf t)) ++ drop machineWords old) old) not-refused
+  words-made = made-words t old (admitted-made t old ok long)
 
   fits : MachineFits (machine (graphOf t))
   fits = machine-fits (graphOf t) (valid-graph (graphOf t) (admitted-halves t ok .0))

@@ -12,6 +12,7 @@ pub mod SynthesisedMachine
 pub mod TableWords
 pub mod TableWrites
 pub mod MachineTable
+pub mod MadeTable
 pub mod TableFilled
 pub mod StateBlocks
 pub mod StatePut

@@ -37,11 +37,11 @@ module _ (g : CFG) (s : Groups) where
   unfolding machineFor
   registers-are = refl
 
-  starters-are : machineFor g s .starters ≡ s .starters
+  pub starters-are : machineFor g s .starters ≡ s .starters
   unfolding machineFor
   starters-are = refl
 
-  block-states-are : machineFor g s .blockStates ≡ s .states
+  pub block-states-are : machineFor g s .blockStates ≡ s .states
   unfolding machineFor
   block-states-are = refl
 

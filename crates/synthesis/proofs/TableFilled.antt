@@ -25,9 +25,10 @@ use Rattle.grouping.proofs.Reach.{Closed, admitted-closed, reached-below}
 use Rattle.grouping.proofs.GroupingLaws.{grouped}
 use Rattle.synthesis.specs.declared.SynthesisAnswer.{SynthesisAnswer}
 use Rattle.synthesis.specs.declared.SynthesisAnswer.the-variants.{Refused, Made}
-use Rattle.synthesis.specs.Synthesis.{machine, synthesisAnswer, made, synthesisWords}
+use Rattle.synthesis.specs.Synthesis.{machine, synthesisAnswer, synthesisWords}
 use Rattle.synthesis.specs.StateWords.{withStates, firstStates, Filled}
 use Rattle.synthesis.proofs.MachineTable.{machine-table, filled-none, grouping-count, grouping-starters, grouping-states, take-padded}
+use Rattle.synthesis.proofs.MadeTable.{answer-words, made-words, admitted-made}
 
 -- ---- the groups in bytes
 
@@ -108,15 +109,11 @@ module _ (t : List ℕ) (a : admitted t ≡ true) (r : Grouping) (e : r ≡ grou
 -- ---- the answer
 
 module _ (t m : List ℕ) where
-  words-kept : (n : ℕ) → synthesisAnswer t m ≡ Refused n → m ≡ synthesisWords t m
-  unfolding synthesisWords
-  words-kept n e = sym (ap (λ (a : SynthesisAnswer). made a (tableOf (machine (graphOf t)) ++ drop machineWords m) m) e)
-
   abbrev Both : SynthesisAnswer → List ℕ → Type 0
   Both r w = (r ≡ synthesisAnswer t m) × (w ≡ synthesisWords t m)
 
   refused-with : (n : ℕ) → synthesisAnswer t m ≡ Refused n → Both (Refused n) m
-  refused-with n e = (sym e, words-kept n e)
+  refused-with n e = (sym e, sym (answer-words t m (Refused n) e))
 
   pub short-graph : length t < graphWords → Both (Refused 7) m
   unfolding synthesisAnswer
@@ -130,8 +127,5 @@ module _ (t m : List ℕ) where
   unfolding synthesisAnswer
   not-admitted h l e = refused-with 6 (rw (le-ltb (length t) graphWords h, le-ltb (length m) machineWords l, e) refl)
 
-  pub machine-made : graphWords ≤ length t → machineWords ≤ length m → admitted t ≡ true → (w : List ℕ) → w ≡ tableOf (machine (graphOf t)) → Both Made (w ++ drop machineWords m)
-  unfolding synthesisAnswer synthesisWords
-  machine-made h l e w f =
-      let d : synthesisAnswer t m ≡ Made = rw (le-ltb (length t) graphWords h, le-ltb (length m) machineWords l, e) refl in
-      (sym d, ap (λ (x : List ℕ). x ++ drop machineWords m) f ∙ sym (ap (λ (a : SynthesisAnswer). made a (tableOf (machine (graphOf t)) ++ drop machineWords m) m) d))
+  pub machine-made : machineWords ≤ length m → admitted t ≡ true → (w : List ℕ) → w ≡ tableOf (machine (graphOf t)) → Both Made (w ++ drop machineWords m)
+  machine-made l e w f = let d = admitted-made t m e l in (sym d, ap (λ (x : List ℕ). x ++ drop machineWords m) f ∙ sym (made-words t m d))

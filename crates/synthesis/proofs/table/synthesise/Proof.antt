@@ -33,7 +33,7 @@ fill-requires c κs = (sym (c .before .before .is-admitted .ensures) ∙ not-fal
 returns-4 : tie.Need-returns-4
 returns-4 c =
     let a = c .before .before .before .before .before .before .before .before .before .before .args in
-    machine-made (now (a .graph)) (now (a .machine)) (c .before .before .before .before .before .before .before .if1 .left) (c .before .before .before .before .before .before .if2 .left) (sym (c .before .before .before .before .before .is-admitted .ensures) ∙ not-false (c .before .before .before .before .before .is-admitted .result) (c .before .before .before .before .if3 .left)) (c .before .before .fill .last .1 .0) (c .before .before .fill .ensures)
+    machine-made (now (a .graph)) (now (a .machine)) (c .before .before .before .before .before .before .if2 .left) (sym (c .before .before .before .before .before .is-admitted .ensures) ∙ not-false (c .before .before .before .before .before .is-admitted .result) (c .before .before .before .before .if3 .left)) (c .before .before .fill .last .1 .0) (c .before .before .fill .ensures)
 
 pub synthesise-spec : {M : Type 1} → statement M
 synthesise-spec = tie.close (tie.spec returns returns-2 (λ c κs. search needs) returns-3 (λ c. search needs) slice-aggregate-fill fill-requires (λ c. search needs) returns-4)

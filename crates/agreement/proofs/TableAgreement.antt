@@ -4,7 +4,7 @@ use native.Mathlib.Omega.{arith}
 use mathlib.Core.Path.{_≡_, ap, _∙_}
 use mathlib.Core.Bool.{true}
 use mathlib.Core.List.{List, _++_}
-use lib.ListN.{length, drop, length-append}
+use lib.ListN.{drop, length-append}
 use Rattle.cfg.specs.Graph.{CFG}
 use Rattle.cfg.specs.Table.{graphOf, admitted}
 use Rattle.cfg.proofs.Admitted.{valid-graph, admitted-halves}

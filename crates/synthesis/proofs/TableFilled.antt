@@ -1,25 +1,21 @@
 -- What the table code has in hand: the groups in bytes, the filled table, the answer of synthesis. Assumes nothing.
-use Prim.Native.Nat.{ℕ, zero, suc, _+_, _-_, _*_, _≤_, _<_}
+use Prim.Native.Nat.{ℕ, _+_, _≤_, _<_}
 use native.Mathlib.Omega.{arith}
-use mathlib.Core.Bool.{Bool, true, false, not, _||_}
-use mathlib.Core.Path.{_≡_, refl, sym, _∙_, ap, subst}
+use mathlib.Core.Bool.{true, false}
+use mathlib.Core.Path.{_≡_, refl, sym, _∙_, ap}
 use mathlib.Core.List.{List, [], _∷_, _++_}
 use lib.ListN.{length, getD, take, drop, length-append}
-use lib.Dec.{ltb}
 use borrow.Author.Tests.{lt-ltb, le-ltb}
-use Rattle.word.specs.Word.{choose}
-use Rattle.runs.specs.Lists.{mem, padded}
+use Rattle.runs.specs.Lists.{padded}
 use Rattle.runs.proofs.ListLaws.{length-padded}
-use Rattle.runs.proofs.Tests.{or-right}
 use Rattle.runs.proofs.Sets.{getD-in}
 use Rattle.cfg.specs.Layout.{graphWords}
-use Rattle.cfg.specs.Graph.{CFG}
 use Rattle.cfg.specs.Table.{graphOf, admitted}
-use Rattle.cfg.proofs.Admitted.{Admitted, admitted-facts, blocks-length, registers-are}
+use Rattle.cfg.proofs.Admitted.{admitted-facts, blocks-length, registers-are}
 use Rattle.fsmd.specs.Layout.{maxStates, maxBlocks, recordsOffset, machineWords, none}
 use Rattle.fsmd.specs.Table.{tableOf}
 use Rattle.grouping.specs.declared.Grouping.{Grouping}
-use Rattle.grouping.specs.Grouping.{Groups, groups}
+use Rattle.grouping.specs.Grouping.{groups}
 use Rattle.grouping.specs.Answer.{groupingOf}
 use Rattle.grouping.proofs.Reach.{Closed, admitted-closed, reached-below}
 use Rattle.grouping.proofs.GroupingLaws.{grouped}

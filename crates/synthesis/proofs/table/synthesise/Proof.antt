@@ -1,14 +1,10 @@
 -- `synthesis::table::synthesise` meets its contract. Assumes nothing.
-use mathlib.Core.Path.{_≡_, refl, sym, ap, _∙_}
-use Prim.Native.Nat.{ℕ, _≤_}
-use native.Mathlib.Omega.{arith}
+use mathlib.Core.Path.{sym, _∙_}
 use denote.Ref.{now}
-use lib.ListN.{length, take}
 use lib.Seq.{length-take-le}
 use borrow.Author.Needs.{needs}
 use borrow.Author.Tests.{not-true, not-false}
 use Rattle.fsmd.specs.Layout.{machineWords}
-use Rattle.cfg.specs.Table.{admitted}
 use Rattle.synthesis.proofs.TableFilled.{short-graph, short-machine, not-admitted, machine-made}
 use Rattle.synthesis.proofs.table.synthesise.Statement.{statement}
 use Rattle.synthesis.proofs.table.synthesise.Tie as tie

@@ -1,0 +1,6 @@
+pub mod Paths
+pub mod Containment
+pub mod Divisions
+pub mod LeastStarters
+pub mod FewestStates
+pub mod Examples

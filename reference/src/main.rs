@@ -1,8 +1,9 @@
-//! The commands: cases, answers, list, stats, compare, bench, draw.
+//! The commands: cases, answers, list, stats, compare, fit, bench, draw.
 
 mod bench;
 mod compare;
 mod draw;
+mod fit_check;
 mod tally;
 
 use reference::answer::answer;
@@ -18,6 +19,7 @@ const USAGE: &str = "usage: reference cases SEED COUNT > cases
        reference list < text
        reference stats < cases
        reference compare SEED COUNT
+       reference fit SEED COUNT
        reference bench
        reference draw < text
 ";
@@ -61,6 +63,7 @@ fn command(arguments: &[&str]) -> Result<Vec<u8>, String> {
         ["list"] => Ok(listing(&input()?).into_bytes()),
         ["stats"] => Ok(Stats::of(&input_cases()?).print().into_bytes()),
         ["compare", seed, count] => seeded(seed, count, compare::command),
+        ["fit", seed, count] => seeded(seed, count, fit_check::command),
         ["bench"] => bench::bench(),
         ["draw"] => draw::draw(&input()?),
         _ => Err(String::from(USAGE)),

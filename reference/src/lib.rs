@@ -1,7 +1,9 @@
 //! The second program: graph text, synthesis, two interpreters and a listing.
 
 pub mod answer;
+pub mod block_set;
 pub mod case;
+pub mod fit;
 pub mod generate;
 pub mod graph;
 pub mod graph_table;

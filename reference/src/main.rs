@@ -1,8 +1,10 @@
-//! The commands: cases, answers, list, stats, compare, bench, draw.
+//! The commands: cases, answers, list, stats, compare, fit, bench, draw.
 
 mod bench;
 mod compare;
 mod draw;
+mod fit_check;
+mod tally;
 
 use reference::answer::answer;
 use reference::case::{read_cases, Case};
@@ -17,6 +19,7 @@ const USAGE: &str = "usage: reference cases SEED COUNT > cases
        reference list < text
        reference stats < cases
        reference compare SEED COUNT
+       reference fit SEED COUNT
        reference bench
        reference draw < text
 ";
@@ -31,9 +34,18 @@ fn input_cases() -> Result<Vec<Case>, String> {
     read_cases(&input()?).map_err(|index| format!("case {index} is damaged"))
 }
 
-fn cases(seed: &str, count: &str) -> Result<Vec<u8>, String> {
+/// A command that takes a seed and a count.
+fn seeded(
+    seed: &str,
+    count: &str,
+    command: fn(u64, usize) -> Result<Vec<u8>, String>,
+) -> Result<Vec<u8>, String> {
     let seed: u64 = seed.parse().map_err(|_| String::from("SEED is no number"))?;
     let count: usize = count.parse().map_err(|_| String::from("COUNT is no number"))?;
+    command(seed, count)
+}
+
+fn cases(seed: u64, count: usize) -> Result<Vec<u8>, String> {
     let mut stream = Vec::new();
     generate::cases(seed, count).iter().for_each(|case| case.append_to(&mut stream));
     Ok(stream)
@@ -46,11 +58,12 @@ fn answers() -> Result<Vec<u8>, String> {
 
 fn command(arguments: &[&str]) -> Result<Vec<u8>, String> {
     match *arguments {
-        ["cases", seed, count] => cases(seed, count),
+        ["cases", seed, count] => seeded(seed, count, cases),
         ["answers"] => answers(),
         ["list"] => Ok(listing(&input()?).into_bytes()),
         ["stats"] => Ok(Stats::of(&input_cases()?).print().into_bytes()),
-        ["compare", seed, count] => compare::command(seed, count),
+        ["compare", seed, count] => seeded(seed, count, compare::command),
+        ["fit", seed, count] => seeded(seed, count, fit_check::command),
         ["bench"] => bench::bench(),
         ["draw"] => draw::draw(&input()?),
         _ => Err(String::from(USAGE)),

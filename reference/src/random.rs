@@ -9,6 +9,11 @@ impl Random {
         Random { state: seed }
     }
 
+    /// One that depends on the seed and on an index alone.
+    pub fn at(seed: u64, index: u64) -> Random {
+        Random::new(Random::new(seed).draw() ^ Random::new(!index).draw())
+    }
+
     pub fn draw(&mut self) -> u64 {
         self.state = self.state.wrapping_add(0x9E37_79B9_7F4A_7C15);
         let mut z = self.state;

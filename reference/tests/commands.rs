@@ -45,12 +45,27 @@ fn damaged_streams_and_unknown_commands_fail() {
     assert!(!unknown.status.success());
 }
 
+/// What a command prints that passes.
+fn passes(arguments: &[&str]) -> String {
+    let output = run(arguments, b"");
+    let text = String::from_utf8_lossy(&output.stdout).into_owned();
+    assert!(output.status.success(), "{text}{}", String::from_utf8_lossy(&output.stderr));
+    text
+}
+
 /// The proved library agrees, and every number is hit.
 #[test]
 fn compare() {
-    let output = run(&["compare", "3", "2000"], b"");
-    let text = String::from_utf8_lossy(&output.stdout);
-    assert!(output.status.success(), "{text}{}", String::from_utf8_lossy(&output.stderr));
+    let text = passes(&["compare", "3", "2000"]);
     assert!(text.ends_with("seed 3: 2000 cases, 0 differ\n"), "{text}");
     assert!(text.contains("run machine,10,"), "{text}");
+}
+
+/// The proved library's starters are the least fit set, and every count is above 0.
+#[test]
+fn fit() {
+    let text = passes(&["fit", "3", "500"]);
+    assert!(text.ends_with("seed 3: 500 graphs, 0 differ\n"), "{text}");
+    assert!(text.starts_with("graphs,500\n"), "{text}");
+    assert_eq!(passes(&["fit", "3", "500"]), text);
 }

@@ -3,102 +3,32 @@
 mod common;
 
 use common::many_graphs;
+use reference::block_set::BlockSet;
+use reference::fit::Flow;
 use reference::graph::Graph;
 use reference::grouping::{group, Tour};
 use std::collections::{BTreeMap, BTreeSet};
-
-type Sets = BTreeMap<usize, BTreeSet<usize>>;
-
-fn predecessors(graph: &Graph, reachable: &BTreeSet<usize>) -> Sets {
-    let mut sets: Sets = reachable.iter().map(|&block| (block, BTreeSet::new())).collect();
-    for &block in reachable {
-        for next in graph.successors(block) {
-            sets.entry(next).or_default().insert(block);
-        }
-    }
-    sets
-}
-
-/// Dominators by repeated intersection over predecessors.
-fn dominators(reachable: &BTreeSet<usize>, before: &Sets) -> Sets {
-    let mut sets: Sets = reachable.iter().map(|&block| (block, reachable.clone())).collect();
-    sets.insert(0, BTreeSet::from([0]));
-    loop {
-        let old = sets.clone();
-        for &block in reachable.iter().filter(|&&block| block != 0) {
-            let mut common = reachable.clone();
-            for source in &before[&block] {
-                common = common.intersection(&sets[source]).copied().collect();
-            }
-            common.insert(block);
-            sets.insert(block, common);
-        }
-        if sets == old {
-            return sets;
-        }
-    }
-}
-
-/// Blocks one edge away from being dominated by the block.
-fn frontier(block: usize, before: &Sets, dominators: &Sets) -> BTreeSet<usize> {
-    let joins = before.iter().filter(|(&join, sources)| {
-        let strictly = join != block && dominators[&join].contains(&block);
-        !strictly && sources.iter().any(|source| dominators[source].contains(&block))
-    });
-    joins.map(|(&join, _)| join).collect()
-}
-
-/// The loop starters, with all blocks of their iterated dominance frontier.
-fn starters_by_frontiers(graph: &Graph) -> BTreeSet<usize> {
-    let tour = Tour::of(graph);
-    let reachable = tour.reachable();
-    let before = predecessors(graph, &reachable);
-    let dominators = dominators(&reachable, &before);
-    let mut found: BTreeSet<usize> = tour.loop_starters().into_iter().collect();
-    let mut waiting = found.clone();
-    while let Some(block) = waiting.pop_first() {
-        for join in frontier(block, &before, &dominators) {
-            if found.insert(join) {
-                waiting.insert(join);
-            }
-        }
-    }
-    found
-}
 
 #[test]
 fn starters_are_the_iterated_dominance_frontier() {
     for graph in many_graphs(11, 2_500) {
         let starters = group(&graph).starters;
-        let set: BTreeSet<usize> = starters.iter().copied().collect();
-        assert_eq!(set.len(), starters.len());
-        assert_eq!(set, starters_by_frontiers(&graph), "{graph:?}");
+        let set: BlockSet = starters.iter().copied().collect();
+        assert_eq!(set.members().count(), starters.len());
+        assert_eq!(set, Flow::of(&graph).least_by_frontiers(), "{graph:?}");
     }
-}
-
-/// Blocks reached from a starter through blocks that are no starters.
-fn owned_by(graph: &Graph, starters: &[usize], starter: usize) -> BTreeSet<usize> {
-    let mut owned = BTreeSet::from([starter]);
-    let mut waiting = vec![starter];
-    while let Some(block) = waiting.pop() {
-        for next in graph.successors(block) {
-            if !starters.contains(&next) && owned.insert(next) {
-                waiting.push(next);
-            }
-        }
-    }
-    owned
 }
 
 #[test]
 fn every_block_has_one_starter() {
     for graph in many_graphs(12, 2_500) {
-        let grouping = group(&graph);
+        let (grouping, flow) = (group(&graph), Flow::of(&graph));
+        let starters = grouping.starters.iter().copied().collect();
         let mut count = 0;
         for (state, &starter) in grouping.starters.iter().enumerate() {
-            let owned = owned_by(&graph, &grouping.starters, starter);
-            assert_eq!(owned, grouping.blocks_of(state));
-            count += owned.len();
+            let owned = flow.reached(starters, starter).with(starter);
+            assert_eq!(owned, grouping.blocks_of(state).into_iter().collect());
+            count += owned.members().count();
         }
         assert_eq!(count, Tour::of(&graph).reachable().len());
         assert_eq!(count, grouping.state_of.len());

@@ -3,7 +3,8 @@
 use super::check::check;
 use super::lent::{Differing, Element, Lent};
 use super::library::{Fields, Library, Operation};
-use super::{compare, outcome, tally_all, MOST_REPORTS};
+use super::{compare, outcome, tally_all};
+use crate::tally::MOST_REPORTS;
 use reference::case::Case;
 use reference::generate::examples::P7;
 use reference::generate::Cases;

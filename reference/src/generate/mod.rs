@@ -188,8 +188,7 @@ fn machine_run(random: &mut Random, aim: Aim, case: &mut Case, table: &[u32]) {
 
 /// One case that depends on the seed and its index alone.
 pub fn case(seed: u64, index: u64) -> Case {
-    let mixed = Random::new(seed).draw() ^ Random::new(!index).draw();
-    let random = &mut Random::new(mixed);
+    let random = &mut Random::at(seed, index);
     let aim = aim(random);
     let mut case = Case::plain(&text(random, aim));
     buffers(random, aim, &mut case);

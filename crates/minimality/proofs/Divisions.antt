@@ -12,15 +12,11 @@ use Rattle.fsmd.specs.Layout.{none}
 use Rattle.grouping.specs.Grouping.{loops}
 use Rattle.grouping.proofs.Reach.{Closed, Reached, along}
 use Rattle.grouping.proofs.LoopLaws.{looped}
-use Rattle.minimality.specs.Fit.{Through, here, on, Reachable, From, FitWhere, Fit}
+use Rattle.minimality.specs.Fit.{Through, here, on, Reachable, From, Fit}
 use Rattle.minimality.specs.Division.{Division}
-use Rattle.minimality.proofs.Paths.{through-reached, reached, reachable, path-keeps, onward, some-starter}
+use Rattle.minimality.proofs.Paths.{through-reached, reached, reachable, path-keeps, zero-in, onward, some-starter}
 
 module _ (g : CFG) (a : Closed g) where
-  -- every set that holds the loop starters holds block 0
-  pub zero-in : (set : List ℕ) → ((x : ℕ) → mem x (loops g .starters) ≡ true → mem x set ≡ true) → mem 0 set ≡ true
-  zero-in set holds = holds 0 (rw (looped g a .headed .1) refl)
-
   -- ---- the starters of a division are fit
 
   module _ (starters : List ℕ) (state : ℕ → ℕ) (d : Division g starters state) where
@@ -35,22 +31,17 @@ module _ (g : CFG) (a : Closed g) where
     home : (s : ℕ) → mem s starters ≡ true → s ≡ getD starters (state s) none
     home s e = let k = in-getD s starters none (mem→In s starters e) in sym (rw (← k .2, d .own (k .0) none (k .1)) refl)
 
-    module _ (Counts : ℕ → Type 0) (counted : (s : ℕ) → Reachable g s → Counts s)
-        (known : (s : ℕ) → mem s starters ≡ true → Counts s → Reachable g s) where
-      -- so a block comes from the starter of its state
-      starter-of : {s x : ℕ} → From g Counts starters s x → s ≡ getD starters (state x) none
-      starter-of {s} f = rw (stays (reached (known s (f .starter) (f .counts))) (f .path)) (home s (f .starter))
-
-      pub division-fit-where : FitWhere g Counts starters
-      division-fit-where = record {
-        holds = d .holds;
-        one = λ x r o.
-            let f = some-starter g Counts counted starters (zero-in starters (d .holds)) (reached r) in
-            (f .0, f .1, λ t k. starter-of k ∙ sym (starter-of (f .1)));
-      }
+    -- so a block comes from the starter of its state
+    starter-of : {s x : ℕ} → From g (Reachable g) starters s x → s ≡ getD starters (state x) none
+    starter-of {s} f = rw (stays (reached (f .counts)) (f .path)) (home s (f .starter))
 
     pub division-fit : Fit g starters
-    division-fit = division-fit-where (Reachable g) (λ s r. r) (λ s e r. r)
+    division-fit = record {
+      holds = d .holds;
+      one = λ x r o.
+          let f = some-starter g (Reachable g) (λ s p. p) starters (zero-in g a starters (d .holds)) (reached r) in
+          (f .0, f .1, λ t k. starter-of k ∙ sym (starter-of (f .1)));
+    }
 
   -- ---- a fit set has a division: each block belongs to the one starter that it is reached from
 
@@ -102,7 +93,7 @@ module _ (g : CFG) (a : Closed g) where
             go (there b i) = inl b
             go (missing b f) =
                 let i = mem→In v (successors g u) e in
-                let s = some-starter g (Reachable g) (λ t p. p) set (zero-in set (fit .holds)) (reached r) in
+                let s = some-starter g (Reachable g) (λ t p. p) set (zero-in g a set (fit .holds)) (reached r) in
                 let t = onward g (Reachable g) (λ t p. p) set (s .1) i b in
                 inr (distinct-at set (owner v .place) (owner u .place) none distinct (owner v .low (along (reached r) i)) (owner u .low (reached r))
                 (owner v .from (s .0) t ∙ sym (owner u .from (s .0) (s .1))))

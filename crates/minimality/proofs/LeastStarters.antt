@@ -12,11 +12,12 @@ use Rattle.grouping.specs.Grouping.{loops, groups}
 use Rattle.grouping.proofs.Reach.{Closed, admitted-closed}
 use Rattle.grouping.proofs.PopulationLaws.{stateIn}
 use Rattle.grouping.proofs.GroupingLaws.{grouped, grouped-keeping}
-use Rattle.minimality.specs.Fit.{Reachable, FitWhere, Least, LeastFit}
+use Rattle.minimality.specs.Fit.{Reachable, Fit, FitFromAll, Least, LeastFit}
 use Rattle.minimality.specs.Division.{Division}
 use Rattle.minimality.proofs.Paths.{reached, reachable}
 use Rattle.minimality.proofs.Containment.{all-inside}
-use Rattle.minimality.proofs.Divisions.{division-fit-where}
+use Rattle.minimality.proofs.Divisions.{division-fit}
+use Rattle.minimality.proofs.Readings.{fit-from-all, fit-of-reachable}
 
 module _ (g : CFG) (a : Closed g) where
   abbrev starters : List ℕ
@@ -39,19 +40,22 @@ module _ (g : CFG) (a : Closed g) where
   starters-reachable : (x : ℕ) → mem x starters ≡ true → Reachable g x
   starters-reachable x e = reachable (grouped g a .starter-reached x (mem→In x starters e))
 
-  -- whichever unreachable starters' paths count
-  least-where : (Counts : ℕ → Type 0) → ((s : ℕ) → Reachable g s → Counts s) → Least (FitWhere g Counts) starters
-  least-where Counts counted = record {
-    one-of-them = division-fit-where g a starters (stateIn (groups g .states)) groups-division Counts counted (λ s e c. starters-reachable s e);
-    contained = λ set fit x e. In→mem x set (all-inside g a Counts counted set fit x (mem→In x starters e));
-    fewest = λ set fit. pigeonhole starters set (grouped g a .distinct) (all-inside g a Counts counted set fit);
+  starters-fit : Fit g starters
+  starters-fit = division-fit g a starters (stateIn (groups g .states)) groups-division
+
+  -- the least of any kind of fit sets that the starters are of
+  least-of : (Kind : List ℕ → Type 0) → Kind starters → ((set : List ℕ) → Kind set → Fit g set) → Least Kind starters
+  least-of Kind own fits = record {
+    of-kind = own;
+    contained = λ set k x e. In→mem x set (all-inside g a set (fits set k) x (mem→In x starters e));
+    fewest = λ set k. pigeonhole starters set (grouped g a .distinct) (all-inside g a set (fits set k));
   }
 
   pub least-fit : LeastFit g starters
   least-fit = record {
     reachable = starters-reachable;
-    least = least-where (Reachable g) (λ s r. r);
-    least-from-all = least-where (λ s. Unit {0}) (λ s r. tt);
+    least = least-of (Fit g) starters-fit (λ set f. f);
+    least-from-all = least-of (FitFromAll g) (fit-of-reachable g a starters starters-reachable starters-fit) (fit-from-all g a);
   }
 
 -- the starters of every admitted graph table

@@ -6,7 +6,9 @@ use mathlib.Core.List.{List}
 use Rattle.runs.specs.Lists.{mem}
 use Rattle.runs.proofs.Sets.{In, Found, there, missing, mem→In, In→mem, found}
 use Rattle.cfg.specs.Graph.{CFG, successors}
-use Rattle.grouping.proofs.Reach.{Reached, entry, along}
+use Rattle.grouping.specs.Grouping.{loops}
+use Rattle.grouping.proofs.Reach.{Closed, Reached, entry, along}
+use Rattle.grouping.proofs.LoopLaws.{looped}
 use Rattle.minimality.specs.Fit.{Through, here, on, Reachable, From}
 
 -- ---- a reachable block, as here and as in `grouping`
@@ -27,6 +29,10 @@ pub path-keeps : (g : CFG) (set : List ℕ) (f : ℕ → ℕ) → ((u v : ℕ) �
     → {s x : ℕ} → Reached g s → Through g set s x → f x ≡ f s
 path-keeps g set f step r here = refl
 path-keeps g set f step r (on {u = u} {v = v} p e o) = step u v (through-reached r p) e o ∙ path-keeps g set f step r p
+
+-- every set that holds the loop starters holds block 0
+pub zero-in : (g : CFG) → Closed g → (set : List ℕ) → ((x : ℕ) → mem x (loops g .starters) ≡ true → mem x set ≡ true) → mem 0 set ≡ true
+zero-in g a set holds = holds 0 (rw (looped g a .headed .1) refl)
 
 -- ---- from which starters a block is reached, where the paths of all reachable ones count
 

@@ -1,4 +1,4 @@
--- The states that a machine could have on a graph's loop starters, and that the synthesised machine has the fewest. Assumes nothing.
+-- Divisions of a graph's blocks into states on its loop starters, and that the synthesised machine has the fewest states. Assumes nothing.
 use Prim.Native.Nat.{ℕ, _≤_, _<_}
 use mathlib.Core.Logic.{_⊎_}
 use mathlib.Core.Path.{_≡_}
@@ -13,7 +13,7 @@ use Rattle.fsmd.specs.Table.{machineOf}
 use Rattle.grouping.specs.Grouping.{loops}
 use Rattle.minimality.specs.Fit.{Reachable, LeastFit}
 
--- A division of a graph into states: the starter of each state, and the state of each block.
+-- A division: the starter of each state, and the one state of each block. A machine that has copies of a block in several states is none.
 pub record Division (g : CFG) (starters : List ℕ) (state : ℕ → ℕ) : Type 0 where
   -- the starters of loop detection are starters, so that no cycle of the graph stays in a clock cycle
   pub holds : (x : ℕ) → mem x (loops g .starters) ≡ true → mem x starters ≡ true

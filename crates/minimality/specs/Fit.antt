@@ -39,7 +39,7 @@ FitFromAll g = FitWhere g (λ s. Unit {0})
 
 -- the least set of some kind: it is of the kind, and contained in every one; so none has fewer starters
 pub record Least (Kind : List ℕ → Type 0) (set : List ℕ) : Type 0 where
-  pub one-of-them : Kind set
+  pub of-kind : Kind set
   pub contained : (other : List ℕ) → Kind other → (x : ℕ) → mem x set ≡ true → mem x other ≡ true
   pub fewest : (other : List ℕ) → Kind other → length set ≤ length other
 

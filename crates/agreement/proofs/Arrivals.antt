@@ -1,125 +1,154 @@
--- Arrivals and halts of a graph's run: they come once, and a trace makes one. Assumes nothing.
+-- Arrivals and halts of a graph's run: a cycle ends once, and a trace is a part of the run. Assumes nothing.
 use Prim.Native.Nat.{ℕ, zero, suc, _+_, _-_, _≤_, _<_}
 use native.Mathlib.Omega.{arith}
-use native.Mathlib.Nat.{add-zero, add-suc}
 use native.Mathlib.Decide.{decLt}
 use mathlib.Core.Path.{_≡_, refl, sym, ap, _∙_}
-use mathlib.Core.Logic.{_≢_}
-use mathlib.Core.Bool.{true}
+use mathlib.Core.Logic.{inl, inr}
+use mathlib.Core.Bool.{Bool, true, false}
 use mathlib.Core.List.{List}
-use Rattle.word.specs.Word.{truth}
 use Rattle.runs.specs.Lists.{mem}
-use Rattle.runs.specs.Runs.{Place, standing, halted, Configuration, startAt, times}
-use Rattle.runs.proofs.RunLaws.{never-both, times-zero, times-add, times-last, times-halted}
-use Rattle.cfg.proofs.Running.{halted-stays}
-use Rattle.cfg.specs.Graph.{CFG, blockOf, runBlock, step}
-use Rattle.agreement.specs.Agreement.{haltedWith, graphAfter, atStarter, moves, arrivals, Arrival, HaltBefore}
+use Rattle.runs.specs.Runs.{Place, standing, halted, Configuration, standsAt, startAt, Supply, unread, Moved, Runner, moved, goes, step, times, stepsRun}
+use Rattle.runs.proofs.RunLaws.{never-both, false-true, place-of, arrivals-of, going-stands, going-lasts, goes-standing, halted-ends}
+use Rattle.runs.proofs.RunLaws.{moved-to, step-going, step-ended, times-zero, times-suc, times-add, times-last, stepsRun-last, going-before, times-arrivals}
+use Rattle.cfg.specs.Graph.{CFG, graphRunner}
+use Rattle.agreement.specs.Agreement.{graphAfter, Arrival, HaltBefore, EndOfCycle}
 use Rattle.synthesis.proofs.OneCycle.{Trace, first, next}
 
--- ---- one step
+-- ---- a cycle ends once
 
-step-standing : (g : CFG) (c : Configuration) (x : ℕ) → c .place ≡ standing x → step g c ≡ runBlock (blockOf g x) (c .registers)
-unfolding step
-step-standing g c x h = rw h
-
-pub place-of : {c d : Configuration} → c ≡ d → c .place ≡ d .place
-place-of e = ap (λ (c : Configuration). c .place) e
-
--- ---- moves to starters
-
-module _ (g : CFG) (st : List ℕ) where
-  pub moves-zero : (c : Configuration) → moves g st c 0 ≡ 0
-  unfolding moves
-  moves-zero c = refl
-
-  moves-last : (c : Configuration) (n : ℕ) → moves g st c (suc n) ≡ moves g st c n + truth (atStarter st (times (step g) (suc n) c .place))
-  unfolding moves
-  moves-last c n = refl
-
-  pub moves-add : (c : Configuration) (j n : ℕ) → moves g st c (j + n) ≡ moves g st c j + moves g st (times (step g) j c) n
-  moves-add c j zero = rw (add-zero, moves-zero) (omega arith)
-  moves-add c j (suc n) =
-      let e : times (step g) (suc (j + n)) c ≡ times (step g) (suc n) (times (step g) j c) = rw (← add-suc j n) (times-add (step g) j (suc n) c) in
-      rw (add-suc, moves-last c (j + n), moves-last (times (step g) j c) n, e, moves-add c j n) (omega arith)
-
-  moves-mono : (c : Configuration) (n m : ℕ) → n ≤ m → moves g st c n ≤ moves g st c m
-  moves-mono c n m h = let e : m ≡ n + (m - n) = omega arith in rw e (omega (arith, moves-add c n (m - n)))
-
-  -- a step that comes to a starter is counted
-  moves-rise : (c : Configuration) (n b : ℕ) → times (step g) (suc n) c .place ≡ standing b → mem b st ≡ true → moves g st c (suc n) ≡ suc (moves g st c n)
-  moves-rise c n b h m = moves-last c n ∙ rw (h, m) (omega arith)
-
-  -- a run that has halted stays
-  stays : (c : Configuration) (n m : ℕ) → n ≤ m → times (step g) n c .place ≡ halted → times (step g) m c ≡ times (step g) n c
-  stays c n m l h =
-      let e : m ≡ n + (m - n) = omega arith in
-      rw e (times-add (step g) n (m - n) c ∙ times-halted (step g) (halted-stays g) (m - n) (times (step g) n c) h)
-
-  -- ---- a trace from block b with registers r, as a part of the run
-
-  module _ (b : ℕ) (r : List ℕ) where
-    pub trace-comes : {j : ℕ} {c : Configuration} → Trace g st b r j c → times (step g) j (startAt b r) ≡ c
-    trace-comes (first e) = times-last (step g) 0 (startAt b r) ∙ rw (times-zero (step g) (startAt b r)) (step-standing g (startAt b r) b refl ∙ sym e)
-    trace-comes (next {j = j} {c = c} t x h m e) =
-        times-last (step g) j (startAt b r) ∙ ap (step g) (trace-comes t) ∙ step-standing g c x h ∙ sym e
-
-    -- only its last step can move to a starter
-    pub trace-moves : {j : ℕ} {c : Configuration} → Trace g st b r j c → moves g st (startAt b r) j ≡ truth (atStarter st (c .place))
-    trace-moves {c = c} (first e) = moves-last (startAt b r) 0 ∙ rw (moves-zero (startAt b r), trace-comes (first e)) (omega arith)
-    trace-moves (next {j = j} {c = c} {c′ = c′} t x h m e) =
-        moves-last (startAt b r) j ∙ rw (trace-moves t, trace-comes (next t x h m e), h, m) (omega arith)
-
--- ---- arrivals and halts come once
-
-module _ (g : CFG) (st rs : List ℕ) where
+module _ (g : CFG) (st : List ℕ) (ws : Supply) (b₀ : ℕ) (rs : List ℕ) where
   abbrev run : ℕ → Configuration
-  run n = graphAfter g rs n
+  run n = graphAfter g st ws b₀ rs n
 
-  arrival-later : (k n m b : ℕ) (q : List ℕ) → arrivals g st rs n ≡ k → Arrival g st rs k m b q → n < m → ⊥
+  arrivals-mono : (n m : ℕ) → n ≤ m → run n .arrivals ≤ run m .arrivals
+  arrivals-mono n m h =
+      let e : m ≡ n + (m - n) = omega arith in
+      rw (e, times-add (graphRunner g st) ws n (m - n) (startAt b₀ rs)) (times-arrivals (graphRunner g st) ws (m - n) (run n))
+
+  -- a step that is run and comes to a starter makes an arrival
+  arrival-rises : (n b : ℕ) → goes ws (run n) ≡ true → run (suc n) .place ≡ standing b → mem b st ≡ true → run (suc n) .arrivals ≡ suc (run n .arrivals)
+  arrival-rises n b h p m =
+      let r = graphRunner g st in
+      let c = run n in
+      let x = going-stands ws c h in
+      let u = r .unit (ws .word (c .arrivals)) (x .0) (c .registers) in
+      let e : run (suc n) ≡ moved (r .arrives) (c .arrivals) u = times-last r ws n (startAt b₀ rs) ∙ step-going r ws c (x .0) (x .1) (going-lasts ws c h) in
+      arrivals-of (e ∙ moved-to (r .arrives) (c .arrivals) u b true (sym (place-of e) ∙ p) m)
+
+  going-at : (n i : ℕ) → stepsRun (graphRunner g st) ws n (startAt b₀ rs) ≡ n → i < n → goes ws (run i) ≡ true
+  going-at n i h l = going-before (graphRunner g st) ws n (startAt b₀ rs) i (omega arith)
+
+  -- a run that goes on has not halted
+  not-halted : (n i : ℕ) → stepsRun (graphRunner g st) ws n (startAt b₀ rs) ≡ n → i < n → run i .place ≡ halted → ⊥
+  not-halted n i h l e = false-true (halted-ends ws (run i) e) (going-at n i h l)
+
+  arrival-later : (k n m b : ℕ) (q : List ℕ) → run n .arrivals ≡ k → Arrival g st ws b₀ rs k m b q → n < m → ⊥
   arrival-later k n zero b q e a l = omega arith
   arrival-later k n (suc m) b q e a l =
-      let h = moves-mono g st (startAt 0 rs) n m (omega arith) in
-      let f = moves-rise g st (startAt 0 rs) m b (place-of (a .stands)) (a .starter) in
-      let c = a .counted in
+      let h = arrivals-mono n m (omega arith) in
+      let f = arrival-rises m b (going-at (suc m) m (a .run) (omega arith)) (place-of (a .stands)) (a .starter) in
+      let c = arrivals-of (a .stands) in
       omega arith
 
-  pub arrival-once : (k n n′ b b′ : ℕ) (q q′ : List ℕ) → Arrival g st rs k n b q → Arrival g st rs k n′ b′ q′ → n ≡ n′
-  arrival-once k n n′ b b′ q q′ a a′ = go (decLt n n′) (decLt n′ n)
-    where
-      go : Dec (n < n′) → Dec (n′ < n) → n ≡ n′
-      go (yes l) d = absurd (arrival-later k n n′ b′ q′ (a .counted) a′ l)
-      go (no l) (yes d) = absurd (arrival-later k n′ n b q (a′ .counted) a d)
-      go (no l) (no d) = omega arith
-
   -- no arrival k where the run halts without it
-  pub arrival-or-halt : (k n n′ b : ℕ) (q q′ : List ℕ) → Arrival g st rs k n b q → run n′ ≡ haltedWith q′ → arrivals g st rs n′ < k → ⊥
-  arrival-or-halt k n n′ b q q′ a h l = go (decLt n′ n)
+  pub arrival-or-halt : (k n b : ℕ) (q : List ℕ) → Arrival g st ws b₀ rs k n b q → (n′ : ℕ) (q′ : List ℕ) → HaltBefore g st ws b₀ rs k n′ q′ → ⊥
+  arrival-or-halt k n b q a n′ q′ h = go (decLt n′ n)
     where
       go : Dec (n′ < n) → ⊥
-      go (yes d) =
-          let e = stays g st (startAt 0 rs) n′ n (omega arith) (place-of h) in
-          never-both (run n .place) b (place-of (a .stands)) (place-of (e ∙ h))
-      go (no d) = let m = moves-mono g st (startAt 0 rs) n n′ (omega arith) in let c = a .counted in omega arith
+      go (yes d) = not-halted n n′ (a .run) d (h .stopped)
+      go (no d) =
+          let m = arrivals-mono n n′ (omega arith) in
+          let c = arrivals-of (a .stands) in
+          let l = h .counted in
+          omega arith
 
-  pub halted-once : (n n′ : ℕ) (q q′ : List ℕ) → run n ≡ haltedWith q → run n′ ≡ haltedWith q′ → q ≡ q′
-  halted-once n n′ q q′ h h′ = go (decLt n n′)
+  pub end-once : (k n n′ : ℕ) → EndOfCycle g st ws b₀ rs k n → EndOfCycle g st ws b₀ rs k n′ → n ≡ n′
+  end-once k n n′ (inl a) (inl a′) = go (decLt n n′) (decLt n′ n)
     where
-      go : Dec (n < n′) → q ≡ q′
-      go (yes d) = ap (λ (c : Configuration). c .registers) (sym h ∙ sym (stays g st (startAt 0 rs) n n′ (omega arith) (place-of h)) ∙ h′)
-      go (no d) = ap (λ (c : Configuration). c .registers) (sym h ∙ stays g st (startAt 0 rs) n′ n (omega arith) (place-of h′) ∙ h′)
-
-  -- where it stands after n steps it had not halted before
-  pub standing-before : (n b : ℕ) → run n .place ≡ standing b → (i : ℕ) → i ≤ n → run i .place ≢ halted
-  standing-before n b h i l e = never-both (run n .place) b h (place-of (stays g st (startAt 0 rs) i n l e) ∙ e)
-
-  -- the halting step
-  pub halting-step : (k n : ℕ) (q : List ℕ) → run n ≡ haltedWith q → arrivals g st rs n < k → (m : ℕ) × (m ≤ n) × HaltBefore g st rs k m q
-  halting-step k zero q h l = (0, omega arith, record { running = λ i d. absurd (omega arith); stopped = h; counted = l })
-  halting-step k (suc n) q h l = go (run n .place) refl (halting-step k n q)
+      go : Dec (n < n′) → Dec (n′ < n) → n ≡ n′
+      go (yes l) d = absurd (arrival-later k n n′ (a′ .0) (a′ .1) (arrivals-of (a .2 .stands)) (a′ .2) l)
+      go (no l) (yes d) = absurd (arrival-later k n′ n (a .0) (a .1) (arrivals-of (a′ .2 .stands)) (a .2) d)
+      go (no l) (no d) = omega arith
+  end-once k n n′ (inl a) (inr h) = absurd (arrival-or-halt k n (a .0) (a .1) (a .2) n′ (h .0) (h .1))
+  end-once k n n′ (inr h) (inl a) = absurd (arrival-or-halt k n′ (a .0) (a .1) (a .2) n (h .0) (h .1))
+  end-once k n n′ (inr h) (inr h′) = go (decLt n n′) (decLt n′ n)
     where
-      go : (p : Place) → run n .place ≡ p → (run n ≡ haltedWith q → arrivals g st rs n < k → (m : ℕ) × (m ≤ n) × HaltBefore g st rs k m q)
-          → (m : ℕ) × (m ≤ suc n) × HaltBefore g st rs k m q
-      go halted e ih =
-          let r = ih (sym (stays g st (startAt 0 rs) n (suc n) (omega arith) e) ∙ h) (let m = moves-mono g st (startAt 0 rs) n (suc n) (omega arith) in omega arith) in
-          (r .0, let d = r .1 in omega arith, r .2)
-      go (standing b) e ih = (suc n, omega arith, record { running = λ i d. standing-before n b e i (omega arith); stopped = h; counted = l })
+      go : Dec (n < n′) → Dec (n′ < n) → n ≡ n′
+      go (yes l) d = absurd (not-halted n′ n (h′ .1 .run) l (h .1 .stopped))
+      go (no l) (yes d) = absurd (not-halted n n′ (h .1 .run) d (h′ .1 .stopped))
+      go (no l) (no d) = omega arith
+
+  -- the next cycle ends after its arrival, which has a word
+  pub end-later : (k n b : ℕ) (q : List ℕ) → Arrival g st ws b₀ rs k n b q → (n′ : ℕ) → EndOfCycle g st ws b₀ rs (suc k) n′ → goes ws (run n) ≡ true
+  end-later k n b q a n′ (inl a′) = go (decLt n n′)
+    where
+      go : Dec (n < n′) → goes ws (run n) ≡ true
+      go (yes l) = going-at n′ n (a′ .2 .run) l
+      go (no l) =
+          let m = arrivals-mono n′ n (omega arith) in
+          let c = arrivals-of (a .stands) in
+          let c′ = arrivals-of (a′ .2 .stands) in
+          absurd (omega arith)
+  end-later k n b q a n′ (inr h) = go (decLt n n′) (decLt n′ n)
+    where
+      go : Dec (n < n′) → Dec (n′ < n) → goes ws (run n) ≡ true
+      go (yes l) d = going-at n′ n (h .1 .run) l
+      go (no l) (yes d) = absurd (not-halted n n′ (a .run) d (h .1 .stopped))
+      go (no l) (no d) =
+          let e : n ≡ n′ = omega arith in
+          absurd (never-both (run n .place) b (place-of (a .stands)) (ap (λ (i : ℕ). run i .place) e ∙ h .1 .stopped))
+
+-- ---- a trace from block b with registers q, as a part of a run from arrival k, for which there is a word
+
+module _ (g : CFG) (st : List ℕ) (ws : Supply) (k b : ℕ) (q : List ℕ) (lasts : ws .lasts k ≡ true) where
+  pub trace-comes : {j : ℕ} {m : Moved} → Trace g st (ws .word k) b q j m
+      → times (graphRunner g st) ws j (standsAt k b q) ≡ moved (λ n. mem n st) k m
+  trace-comes (first e) =
+      let r = graphRunner g st in
+      let c = standsAt k b q in
+      times-last r ws 0 c ∙ ap (step r ws) (times-zero r ws c) ∙ step-going r ws c b refl lasts ∙ ap (moved (r .arrives) k) (sym e)
+  trace-comes (next {j = j} {c = m} t x h f e) =
+      let r = graphRunner g st in
+      times-last r ws j (standsAt k b q)
+      ∙ ap (step r ws) (trace-comes t ∙ moved-to (r .arrives) k m x false h f)
+      ∙ step-going r ws (standsAt k x (m .registers)) x refl lasts
+      ∙ ap (moved (r .arrives) k) (sym e)
+
+  -- and all its steps are run
+  pub trace-run : {j : ℕ} {m : Moved} → Trace g st (ws .word k) b q j m → stepsRun (graphRunner g st) ws j (standsAt k b q) ≡ j
+  trace-run (first e) =
+      let r = graphRunner g st in
+      let c = standsAt k b q in
+      stepsRun-last r ws 0 c (ap (goes ws) (times-zero r ws c) ∙ goes-standing ws c b refl lasts)
+  trace-run (next {j = j} {c = m} t x h f e) =
+      let r = graphRunner g st in
+      stepsRun-last r ws j (standsAt k b q)
+      (ap (goes ws) (trace-comes t ∙ moved-to (r .arrives) k m x false h f) ∙ goes-standing ws (standsAt k x (m .registers)) x refl lasts)
+
+-- ---- without words it does not matter which blocks are arrived at
+
+-- two configurations at the same place with equal registers
+pub record Level (c d : Configuration) : Type 0 where
+  pub place : c .place ≡ d .place
+  pub registers : c .registers ≡ d .registers
+
+module _ (u : ℕ → ℕ → List ℕ → Moved) (a b : ℕ → Bool) where
+  abbrev left : Runner
+  left = record { unit = u; arrives = a }
+
+  abbrev right : Runner
+  right = record { unit = u; arrives = b }
+
+  step-level : (c d : Configuration) → Level c d → Level (step left unread c) (step right unread d)
+  step-level c d l = go (c .place) refl
+    where
+      go : (p : Place) → c .place ≡ p → Level (step left unread c) (step right unread d)
+      go halted e = rw (step-ended left unread c (halted-ends unread c e), step-ended right unread d (halted-ends unread d (sym (l .place) ∙ e))) l
+      go (standing n) e =
+          rw (step-going left unread c n e refl, step-going right unread d n (sym (l .place) ∙ e) refl, l .registers)
+          (record { place = refl; registers = refl })
+
+  pub times-level : (k : ℕ) (c d : Configuration) → Level c d → Level (times left unread k c) (times right unread k d)
+  times-level zero c d l = rw (times-zero left unread c, times-zero right unread d) l
+  times-level (suc k) c d l =
+      rw (times-suc left unread k c, times-suc right unread k d) (times-level k (step left unread c) (step right unread d) (step-level c d l))

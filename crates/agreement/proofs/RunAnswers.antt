@@ -1,130 +1,152 @@
--- Run machine's answers on an admitted table, in terms of the machine's cycles. Assumes nothing.
-use Prim.Native.Nat.{ℕ, zero, suc, _≤_, _<_}
+-- What runs answer: Run machine on an admitted table, and the graph's run beside the machine's. Assumes nothing.
+use Prim.Native.Nat.{ℕ, suc, _+_, _≤_, _<_}
 use native.Mathlib.Omega.{arith}
 use native.Mathlib.Decide.{decLt}
 use mathlib.Core.Path.{_≡_, refl, sym, ap, _∙_}
-use mathlib.Core.Logic.{_≢_}
-use mathlib.Core.Bool.{true}
+use mathlib.Core.Logic.{_⊎_, inl, inr}
+use mathlib.Core.Bool.{Bool, true, false}
 use mathlib.Core.List.{List, _++_}
+use lib.Dec.{ltb}
 use lib.ListN.{length, getD, take, drop}
-use borrow.Author.Tests.{lt-ltb, le-ltb}
-use Rattle.runs.specs.Runs.{Place, standing, halted, Configuration, startAt, times, stepsRun, outcome, answer, registersAfter, numberOf, haltedOf, countOf, nextOf}
+use borrow.Author.Tests.{lt-ltb, le-ltb, ltb-true, ltb-false}
+use Rattle.runs.specs.Lists.{mem}
+use Rattle.runs.specs.Runs.{Place, standing, halted, Configuration, startAt, Supply, Runner, goes, times, stepsRun, outcome, answer, registersAfter, numberOf, outcomeOf, countOf, nextOf}
+use Rattle.runs.specs.declared.RunAnswer.{RunAnswer}
 use Rattle.runs.specs.declared.RunAnswer.the-variants.{Refused}
-use Rattle.runs.proofs.RunLaws.{never-both, times-zero, times-suc, stepsRun-zero, stepsRun-standing, stepsRun-halted, stepsRun-all}
-use Rattle.fsmd.proofs.Steps.{cycle-stays}
+use Rattle.runs.proofs.RunLaws.{never-both, place-of, registers-of, arrivals-of, halted-ends, dry-lasts}
+use Rattle.runs.proofs.RunLaws.{stepsRun-le, going-before, at-count, left-ended, arrivals-run}
+use Rattle.runs.proofs.RunLaws.{Reached, reached-after, answer-is, reached-spent, reached-halted, reached-dry, at-ended}
+use Rattle.cfg.specs.Graph.{CFG, graphRunner}
 use Rattle.fsmd.specs.Layout.{maxRegisters, machineWords}
-use Rattle.fsmd.specs.Machine.{cycle}
+use Rattle.fsmd.specs.Machine.{machineRunner}
 use Rattle.fsmd.specs.Table.{machineOf, admitted}
 use Rattle.fsmd.specs.Run.{refusal, runAnswer, runRegisters}
-use Rattle.agreement.specs.Agreement.{machineAfter, stoodIn, RunAgrees}
-
--- ---- the steps that are run, of any run
-
-module _ (step : Configuration → Configuration) where
-  -- before the last step that is run it has not halted
-  running-before : (k : ℕ) (c : Configuration) (i : ℕ) → i < stepsRun step k c → times step i c .place ≢ halted
-  running-before zero c i h e = let z = stepsRun-zero step c in omega arith
-  running-before (suc k) c i h e = go (c .place) refl (running-before k (step c)) i h e
-    where
-      go : (p : Place) → c .place ≡ p → ((i : ℕ) → i < stepsRun step k (step c) → times step i (step c) .place ≢ halted)
-          → (i : ℕ) → i < stepsRun step (suc k) c → times step i c .place ≢ halted
-      go halted e ih i h f = let z = stepsRun-halted step (suc k) c e in omega arith
-      go (standing n) e ih zero h f = never-both (c .place) n e (rw (times-zero step c) at f)
-      go (standing n) e ih (suc i) h f =
-          let z = stepsRun-standing step k n c e in
-          ih i (omega arith) (rw (times-suc step i c) at f)
-
-  -- where it has halted after k, it has with the last step that is run
-  halted-with : (k : ℕ) (c : Configuration) → times step k c .place ≡ halted → times step (stepsRun step k c) c .place ≡ halted
-  halted-with zero c h = rw (stepsRun-zero step c) h
-  halted-with (suc k) c h = go (c .place) refl (halted-with k (step c) (rw (times-suc step k c) at h))
-    where
-      go : (p : Place) → c .place ≡ p → times step (stepsRun step k (step c)) (step c) .place ≡ halted → times step (stepsRun step (suc k) c) c .place ≡ halted
-      go halted e ih = rw (stepsRun-halted step (suc k) c e, times-zero step c) e
-      go (standing n) e ih = rw (stepsRun-standing step k n c e, times-suc step (stepsRun step k (step c)) c) ih
+use Rattle.grouping.specs.Grouping.{Groups}
+use Rattle.synthesis.specs.Synthesis.{machineFor}
+use Rattle.agreement.specs.Agreement.{graphAfter, machineAfter, stateIn, placeIn, inState, stoodIn, HaltingCycle, DryCycle, RunAgrees, SameEnd, RunsAlike, SameAnswer}
+use Rattle.agreement.proofs.WholeRun.{standing-of, Here, Over, Both}
 
 -- ---- the fields of an outcome
 
-outcome-number : (p : Place) (c : ℕ) → numberOf (outcome p c) ≡ 0
-outcome-number (standing n) c = refl
-outcome-number halted c = refl
+outcome-number : (p : Place) (left : Bool) (c : ℕ) → numberOf (outcome p left c) ≡ 0
+outcome-number (standing n) true c = refl
+outcome-number (standing n) false c = refl
+outcome-number halted left c = refl
 
-outcome-next : (p : Place) (c : ℕ) → nextOf (outcome p c) ≡ stoodIn p
-outcome-next (standing n) c = refl
-outcome-next halted c = refl
+outcome-next : (p : Place) (left : Bool) (c : ℕ) → nextOf (outcome p left c) ≡ stoodIn p
+outcome-next (standing n) true c = refl
+outcome-next (standing n) false c = refl
+outcome-next halted left c = refl
 
-outcome-count : (p : Place) (c : ℕ) → countOf (outcome p c) ≡ c
-outcome-count (standing n) c = refl
-outcome-count halted c = refl
+outcome-count : (p : Place) (left : Bool) (c : ℕ) → countOf (outcome p left c) ≡ c
+outcome-count (standing n) true c = refl
+outcome-count (standing n) false c = refl
+outcome-count halted left c = refl
 
-outcome-halted : (p : Place) (c : ℕ) → haltedOf (outcome p c) ≡ 1 → p ≡ halted
-outcome-halted (standing n) c h = absurd (omega arith)
-outcome-halted halted c h = refl
+outcome-halted : (p : Place) (left : Bool) (c : ℕ) → outcomeOf (outcome p left c) ≡ 1 → p ≡ halted
+outcome-halted (standing n) true c h = absurd (omega arith)
+outcome-halted (standing n) false c h = absurd (omega arith)
+outcome-halted halted left c h = refl
 
-halted-outcome : (p : Place) (c : ℕ) → p ≡ halted → haltedOf (outcome p c) ≡ 1
-halted-outcome p c h = rw h
+halted-outcome : (p : Place) (left : Bool) (c : ℕ) → p ≡ halted → outcomeOf (outcome p left c) ≡ 1
+halted-outcome p left c h = rw h
 
-outcome-standing : (p : Place) (c : ℕ) → haltedOf (outcome p c) ≡ 0 → (n : ℕ) × (p ≡ standing n)
-outcome-standing (standing n) c h = (n, refl)
-outcome-standing halted c h = absurd (omega arith)
+outcome-spent : (p : Place) (left : Bool) (c : ℕ) → outcomeOf (outcome p left c) ≡ 0 → left ≡ false
+outcome-spent (standing n) true c h = absurd (omega arith)
+outcome-spent (standing n) false c h = refl
+outcome-spent halted left c h = absurd (omega arith)
 
--- ---- on a table that is long enough and admitted
+outcome-dry : (p : Place) (left : Bool) (c : ℕ) → outcomeOf (outcome p left c) ≡ 2 → ((n : ℕ) × (p ≡ standing n)) × (left ≡ true)
+outcome-dry (standing n) true c h = ((n, refl), refl)
+outcome-dry (standing n) false c h = absurd (omega arith)
+outcome-dry halted left c h = absurd (omega arith)
 
-module _ (t : List ℕ) (long : machineWords ≤ length t) (ok : admitted t ≡ true) (some : 0 < getD t 0 0) (buffer : List ℕ) (k : ℕ) where
+-- ---- Run machine on a table that is long enough and admitted, from one of its states
+
+module _ (t : List ℕ) (long : machineWords ≤ length t) (ok : admitted t ≡ true) (ws : Supply) (q₀ : ℕ) (known : q₀ < getD t 0 0) (buffer : List ℕ) (k : ℕ) where
   abbrev rs : List ℕ
   rs = take maxRegisters buffer
 
+  abbrev m : Runner
+  m = machineRunner (machineOf t)
+
+  abbrev c₀ : Configuration
+  c₀ = startAt q₀ rs
+
   abbrev place : Place
-  place = machineAfter (machineOf t) rs k .place
+  place = machineAfter m ws q₀ rs k .place
 
   abbrev count : ℕ
-  count = stepsRun (cycle (machineOf t)) k (startAt 0 rs)
+  count = stepsRun m ws k c₀
 
-  refused : length buffer < maxRegisters → refusal t buffer 0 ≡ 7
+  refused : length buffer < maxRegisters → refusal t buffer q₀ ≡ 7
   unfolding refusal
   refused h = rw (le-ltb (length t) machineWords long, lt-ltb (length buffer) maxRegisters h)
 
-  accepted : maxRegisters ≤ length buffer → refusal t buffer 0 ≡ 0
+  accepted : maxRegisters ≤ length buffer → refusal t buffer q₀ ≡ 0
   unfolding refusal
-  accepted h = rw (le-ltb (length t) machineWords long, le-ltb (length buffer) maxRegisters h, ok, lt-ltb 0 (getD t 0 0) some)
+  accepted h = rw (le-ltb (length t) machineWords long, le-ltb (length buffer) maxRegisters h, ok, lt-ltb q₀ (getD t 0 0) known)
 
-  run-refused : length buffer < maxRegisters → runAnswer t buffer 0 k ≡ Refused 7
+  run-refused : length buffer < maxRegisters → runAnswer ws t buffer q₀ k ≡ Refused 7
   unfolding runAnswer
   run-refused h = rw (refused h)
 
-  run-outcome : maxRegisters ≤ length buffer → runAnswer t buffer 0 k ≡ outcome place count
+  run-outcome : maxRegisters ≤ length buffer → runAnswer ws t buffer q₀ k ≡ outcome place (ltb count k) count
   unfolding runAnswer answer
   run-outcome h = rw (accepted h)
 
-  run-registers : maxRegisters ≤ length buffer → runRegisters t buffer 0 k ≡ machineAfter (machineOf t) rs k .registers ++ drop maxRegisters buffer
+  run-registers : maxRegisters ≤ length buffer → runRegisters ws t buffer q₀ k ≡ machineAfter m ws q₀ rs k .registers ++ drop maxRegisters buffer
   unfolding runRegisters registersAfter
   run-registers h = rw (accepted h)
 
-  long-enough : maxRegisters ≤ length buffer → RunAgrees t buffer k
+  halting : place ≡ halted → HaltingCycle m ws q₀ rs count
+  halting h =
+      record {
+        running = going-before m ws k c₀;
+        stopped = sym (place-of (at-count m ws k c₀ (halted-ends ws (times m ws k c₀) h))) ∙ h;
+      }
+
+  drying : (n : ℕ) → place ≡ standing n → count < k → DryCycle m ws q₀ rs k count
+  drying n h l =
+      let e = left-ended m ws k c₀ l in
+      let s = at-count m ws k c₀ e in
+      let p = sym (place-of s) ∙ h in
+      let a : times m ws count c₀ .arrivals ≡ count = sym (arrivals-of s) ∙ arrivals-run m ws (λ q. refl) k c₀ n h ∙ omega arith in
+      record {
+        running = going-before m ws k c₀;
+        standing = λ d. never-both (times m ws count c₀ .place) n p d;
+        arrival = a;
+        dry = ap (λ (i : ℕ). ws .lasts i) (sym a) ∙ dry-lasts ws (times m ws count c₀) n p (ap (goes ws) (sym s) ∙ e);
+        left = l;
+      }
+
+  long-enough : maxRegisters ≤ length buffer → RunAgrees t buffer ws q₀ k
   long-enough h =
       let e = run-outcome h in
-      let number = ap numberOf e ∙ outcome-number place count in
+      let left = ltb count k in
+      let number = ap numberOf e ∙ outcome-number place left count in
+      let counted = ap countOf e ∙ outcome-count place left count in
       record {
         not9 = λ n. absurd (omega arith);
         not10 = λ n. absurd (omega arith);
         accepted = λ n. number;
         answers = λ n. record {
-          halts = (λ d. outcome-halted place count (sym (ap haltedOf e) ∙ d), λ d. ap haltedOf e ∙ halted-outcome place count d);
+          halts = (λ d. outcome-halted place left count (sym (ap outcomeOf e) ∙ d), λ d. ap outcomeOf e ∙ halted-outcome place left count d);
           registers = run-registers h;
-          next = ap nextOf e ∙ outcome-next place count;
+          next = ap nextOf e ∙ outcome-next place left count;
           spent = λ d.
-              let p = outcome-standing place count (sym (ap haltedOf e) ∙ d) in
-              ap countOf e ∙ outcome-count place count ∙ stepsRun-all (cycle (machineOf t)) (cycle-stays (machineOf t)) k (p .0) (startAt 0 rs) (p .1);
-          ended = λ d. rw (ap countOf e ∙ outcome-count place count) (record {
-            running = running-before (cycle (machineOf t)) k (startAt 0 rs);
-            stopped = halted-with (cycle (machineOf t)) k (startAt 0 rs) (outcome-halted place count (sym (ap haltedOf e) ∙ d));
-          });
+              let l = ltb-false count k (outcome-spent place left count (sym (ap outcomeOf e) ∙ d)) in
+              counted ∙ omega (arith, stepsRun-le m ws k c₀);
+          ended = λ d. rw counted (halting (outcome-halted place left count (sym (ap outcomeOf e) ∙ d)));
+          dried = λ d.
+              let p = outcome-dry place left count (sym (ap outcomeOf e) ∙ d) in
+              rw counted (drying (p .0 .0) (p .0 .1) (ltb-true count k (p .1)));
         };
       }
 
-  too-short : length buffer < maxRegisters → RunAgrees t buffer k
+  too-short : length buffer < maxRegisters → RunAgrees t buffer ws q₀ k
   too-short h =
-      let seven : numberOf (runAnswer t buffer 0 k) ≡ 7 = ap numberOf (run-refused h) in
+      let seven : numberOf (runAnswer ws t buffer q₀ k) ≡ 7 = ap numberOf (run-refused h) in
       record {
         not9 = λ n. absurd (omega arith);
         not10 = λ n. absurd (omega arith);
@@ -132,9 +154,124 @@ module _ (t : List ℕ) (long : machineWords ≤ length t) (ok : admitted t ≡ 
         answers = λ n. absurd (omega arith);
       }
 
-  pub run-agrees : RunAgrees t buffer k
+  pub run-agrees : RunAgrees t buffer ws q₀ k
   run-agrees = go (decLt (length buffer) maxRegisters)
     where
-      go : Dec (length buffer < maxRegisters) → RunAgrees t buffer k
+      go : Dec (length buffer < maxRegisters) → RunAgrees t buffer ws q₀ k
       go (yes h) = too-short h
       go (no h) = long-enough (omega arith)
+
+-- ---- the graph's run beside the machine's
+
+module _ (g : CFG) (s : Groups) (ws : Supply) (b₀ : ℕ) (rs : List ℕ) (k : ℕ) (both : Both g s ws b₀ rs k) where
+  abbrev graph : Runner
+  graph = graphRunner g (s .starters)
+
+  abbrev machine : Runner
+  machine = machineRunner (machineFor g s)
+
+  abbrev from : Configuration
+  from = startAt b₀ rs
+
+  abbrev end : Configuration
+  end = graphAfter g (s .starters) ws b₀ rs (both .steps)
+
+  abbrev cycles : ℕ
+  cycles = stepsRun machine ws k (startAt (stateIn s b₀) rs)
+
+  frame : (n : ℕ) → both .steps ≤ n → Reached graph ws n from (both .steps) end
+  frame n l = reached-after graph ws n from (both .steps) (both .run) l
+
+  -- where the machine stands, it has run as many cycles as there are arrivals
+  cycles-are : (b : ℕ) → end .place ≡ standing b → end .arrivals ≡ cycles
+  cycles-are b h =
+      sym (arrivals-of (both .machine))
+      ∙ arrivals-run machine ws (λ q. refl) k (startAt (stateIn s b₀) rs) (stateIn s b) (place-of (both .machine) ∙ ap (placeIn s) h)
+      ∙ omega arith
+
+  machine-outcome : outcomeOf (answer machine ws k (startAt (stateIn s b₀) rs)) ≡ outcomeOf (outcome (placeIn s (end .place)) (ltb cycles k) cycles)
+  machine-outcome = ap outcomeOf (answer-is machine ws k (startAt (stateIn s b₀) rs)) ∙ ap (λ (p : Place). outcomeOf (outcome p (ltb cycles k) cycles)) (place-of (both .machine))
+
+  spent-alike : Here s k end → RunsAlike g s machine ws b₀ rs k
+  spent-alike h =
+      let e : outcomeOf (answer machine ws k (startAt (stateIn s b₀) rs)) ≡ 0 =
+      machine-outcome ∙ rw (h .place, le-ltb cycles k (omega (arith, cycles-are (h .block) (h .place), h .counted))) in
+      record {
+        blocks = both .steps;
+        at = record {
+          outcome = ap outcomeOf (reached-spent graph ws (both .steps) from (both .steps) end (frame (both .steps) (omega arith)) (h .block) (h .place) (omega arith)) ∙ sym e;
+          same = both .machine;
+          starter = λ b d. rw (standing-of (sym d ∙ h .place)) (h .starter);
+        };
+        beyond = λ d. absurd (d e);
+      }
+
+  -- ended with the block budget n, and so with every larger one
+  ended-alike : (o : Over s ws k end) (n : ℕ) (l : both .steps ≤ n)
+      → outcomeOf (answer graph ws n from) ≡ outcomeOf (outcome (placeIn s (end .place)) (ltb cycles k) cycles) → SameEnd g s machine ws b₀ rs k n
+  ended-alike o n l e =
+      let z : graphAfter g (s .starters) ws b₀ rs n ≡ end = at-ended graph ws n from (both .steps) end (frame n l) (o .ended) in
+      record {
+        outcome = e ∙ sym machine-outcome;
+        same = both .machine ∙ ap (inState s) (sym z);
+        starter = λ b d. rw (sym (place-of z) ∙ d) at (o .place);
+      }
+
+  over-alike : (p : Place) → end .place ≡ p → Over s ws k end → RunsAlike g s machine ws b₀ rs k
+  over-alike halted h o =
+      let same : (n : ℕ) → both .steps ≤ n → SameEnd g s machine ws b₀ rs k n =
+      λ n l. ended-alike o n l (ap outcomeOf (reached-halted graph ws n from (both .steps) end (frame n l) (o .ended) h) ∙ rw h) in
+      record { blocks = both .steps; at = same (both .steps) (omega arith); beyond = λ d. same }
+  over-alike (standing b) h o =
+      let same : (n : ℕ) → suc (both .steps) ≤ n → SameEnd g s machine ws b₀ rs k n =
+      λ n l. ended-alike o n (omega arith)
+      (ap outcomeOf (reached-dry graph ws n from (both .steps) end (frame n (omega arith)) (o .ended) b h l)
+      ∙ rw (h, lt-ltb cycles k (omega (arith, cycles-are b h, o .counted)))) in
+      record { blocks = suc (both .steps); at = same (suc (both .steps)) (omega arith); beyond = λ d. same }
+
+  pub runs-alike : RunsAlike g s machine ws b₀ rs k
+  runs-alike = go (both .met)
+    where
+      go : Here s k end ⊎ Over s ws k end → RunsAlike g s machine ws b₀ rs k
+      go (inl h) = spent-alike h
+      go (inr o) = over-alike (end .place) refl o
+
+-- ---- the answers of two runs that end alike
+
+module _ (g : CFG) (s : Groups) (m : Runner) (ws : Supply) (b₀ : ℕ) (rs : List ℕ) (k n : ℕ) (high : List ℕ) (e : SameEnd g s m ws b₀ rs k n) where
+  abbrev left : RunAnswer
+  left = answer (graphRunner g (s .starters)) ws n (startAt b₀ rs)
+
+  abbrev right : RunAnswer
+  right = answer m ws k (startAt (stateIn s b₀) rs)
+
+  answer-number : (r : Runner) (k : ℕ) (c : Configuration) → numberOf (answer r ws k c) ≡ 0
+  answer-number r k c = ap numberOf (answer-is r ws k c) ∙ outcome-number (times r ws k c .place) (ltb (stepsRun r ws k c) k) (stepsRun r ws k c)
+
+  answer-next : (r : Runner) (k : ℕ) (c : Configuration) → nextOf (answer r ws k c) ≡ stoodIn (times r ws k c .place)
+  answer-next r k c = ap nextOf (answer-is r ws k c) ∙ outcome-next (times r ws k c .place) (ltb (stepsRun r ws k c) k) (stepsRun r ws k c)
+
+  next-alike : (p : Place) → graphAfter g (s .starters) ws b₀ rs n .place ≡ p
+      → (outcomeOf right ≡ 1) ⊎ ((mem (nextOf left) (s .starters) ≡ true) × (nextOf right ≡ stateIn s (nextOf left)))
+  next-alike halted h =
+      inl (ap outcomeOf (answer-is m ws k (startAt (stateIn s b₀) rs))
+      ∙ halted-outcome (times m ws k (startAt (stateIn s b₀) rs) .place) (ltb (stepsRun m ws k (startAt (stateIn s b₀) rs)) k) (stepsRun m ws k (startAt (stateIn s b₀) rs))
+      (place-of (e .same) ∙ ap (placeIn s) h))
+  next-alike (standing b) h =
+      let l : nextOf left ≡ b = answer-next (graphRunner g (s .starters)) n (startAt b₀ rs) ∙ ap stoodIn h in
+      inr (
+        rw l (e .starter b h),
+        answer-next m k (startAt (stateIn s b₀) rs) ∙ ap stoodIn (place-of (e .same) ∙ ap (placeIn s) h) ∙ ap (stateIn s) (sym l),
+      )
+
+  pub ends-alike : SameAnswer s left right
+      (registersAfter (graphRunner g (s .starters)) ws n (startAt b₀ rs) ++ high)
+      (registersAfter m ws k (startAt (stateIn s b₀) rs) ++ high)
+  unfolding registersAfter
+  ends-alike =
+      record {
+        accepted = (answer-number (graphRunner g (s .starters)) n (startAt b₀ rs), answer-number m k (startAt (stateIn s b₀) rs));
+        outcome = e .outcome;
+        registers = ap (λ (q : List ℕ). q ++ high) (sym (registers-of (e .same)));
+        next = next-alike (graphAfter g (s .starters) ws b₀ rs n .place) refl;
+      }

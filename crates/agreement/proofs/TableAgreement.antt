@@ -1,63 +1,194 @@
 -- Demand 3 on tables: every admitted graph table agrees with the table of the machine synthesised from it. Assumes nothing.
-use Prim.Native.Nat.{ℕ}
+use Prim.Native.Nat.{ℕ, _≤_, _<_}
 use native.Mathlib.Omega.{arith}
-use mathlib.Core.Path.{_≡_, ap, _∙_}
-use mathlib.Core.Bool.{true}
-use mathlib.Core.List.{List, _++_}
-use lib.ListN.{drop, length-append}
-use Rattle.cfg.specs.Graph.{CFG}
+use mathlib.Core.Path.{_≡_, refl, sym, ap, _∙_, subst, fun-ext}
+use mathlib.Core.Bool.{Bool, true, not}
+use mathlib.Core.List.{List, [], _++_}
+use lib.ListN.{length, getD, take, drop, length-append}
+use lib.Seq.{length-take-le}
+use lib.Dec.{eqb, ltb}
+use borrow.Author.Tests.{lt-ltb}
+use Rattle.runs.specs.Lists.{mem, every}
+use Rattle.runs.proofs.Sets.{mem→In, In→mem}
+use Rattle.runs.proofs.MembershipLaws.{in-every}
+use Rattle.runs.specs.Runs.{startAt, Supply, listed, unread, Runner, answer, registersAfter, outcomeOf}
+use Rattle.runs.proofs.RunLaws.{step-ended}
+use Rattle.cfg.specs.Graph.{CFG, blockOf, runBlock, graphRunner}
+use Rattle.cfg.specs.Run.{wordsRefusal, wordsAnswer, wordsRegisters}
+use Rattle.cfg.proofs.Running.{none-refused}
 use Rattle.cfg.specs.Table.{graphOf, admitted}
-use Rattle.cfg.proofs.Admitted.{valid-graph, admitted-halves}
-use Rattle.fsmd.proofs.Steps.{cycle-stays}
-use Rattle.fsmd.specs.Layout.{machineWords}
-use Rattle.fsmd.specs.Machine.{FSMD, cycle}
+use Rattle.cfg.proofs.Admitted.{ValidGraph, valid-graph, admitted-halves, admitted-facts, blocks-length}
+use Rattle.fsmd.specs.Layout.{maxRegisters, machineWords}
+use Rattle.fsmd.specs.Machine.{State, FSMD, machineRunner, wordless as wordlessMachine}
+use Rattle.fsmd.specs.Run.{refusal}
+use Rattle.fsmd.proofs.Steps.{refuse-none, run-answer, run-registers}
 use Rattle.fsmd.specs.Table.{tableOf, machineOf, admitted as admittedMachine}
 use Rattle.fsmd.proofs.Machines.{states-length, registers-is, state-is, admitted-facts as machine-facts}
-use Rattle.fsmd.proofs.WrittenTable.{table-length}
-use Rattle.fsmd.proofs.ReadBack.{Fits, Sound, read-cycle, read-admitted}
+use Rattle.fsmd.proofs.WrittenTable.{count-is, table-length}
+use Rattle.fsmd.proofs.ReadBack.{Fits, read-states, read-runner, read-admitted}
 use Rattle.grouping.specs.Grouping.{Groups, groups}
-use Rattle.grouping.proofs.Reach.{valid-closed}
+use Rattle.grouping.proofs.Reach.{reached-below, valid-closed}
+use Rattle.grouping.proofs.GroupingLaws.{grouped}
 use Rattle.synthesis.specs.Synthesis.{machineFor, machine, synthesisAnswer, synthesisWords}
 use Rattle.synthesis.specs.declared.SynthesisAnswer.the-variants.{Made}
 use Rattle.synthesis.proofs.GraphFacts.{graph-fits}
-use Rattle.placement.proofs.StateOrder.{groups-arranged}
-use Rattle.synthesis.proofs.SynthesisedMachine.{machine-is, machine-fits}
+use Rattle.placement.proofs.StateOrder.{Arranged, groups-arranged}
+use Rattle.synthesis.proofs.SynthesisedMachine.{states-count, machine-is, machine-fits}
 use Rattle.synthesis.proofs.MadeTable.{made-words, made-admitted}
-use Rattle.agreement.specs.Agreement.{AgreeAfter, Agreement}
-use Rattle.agreement.proofs.WholeRun.{agree-after}
-use Rattle.agreement.proofs.RunAnswers.{run-agrees}
+use Rattle.synthesis.proofs.WireCodes.{wordless-machine}
+use Rattle.agreement.specs.Agreement.{stateIn, AgreeAfter, SameEnd, RunsAlike, Alike, OperationsAlike, LastsTo, Agreement, AgreementWithoutWords}
+use Rattle.agreement.proofs.Arrivals.{times-level}
+use Rattle.agreement.proofs.WholeRun.{after-cycles, agree-after}
+use Rattle.agreement.proofs.RunAnswers.{run-agrees, runs-alike, ends-alike}
 
-agree-same : (g : CFG) (s : Groups) (m n : FSMD) (rs : List ℕ) (k : ℕ) → cycle m ≡ cycle n → AgreeAfter g s n rs k → AgreeAfter g s m rs k
-agree-same g s m n rs k e a =
-    record { either = a .either; apart = a .apart; halts = λ q. rw e (a .halts q); stands = λ b q h. rw e (a .stands b q h); blocks = a .blocks }
+-- whether a word is read goes by the states alone
+wordless-same : (m n : FSMD) → m .states ≡ n .states → wordlessMachine m ≡ wordlessMachine n
+unfolding wordlessMachine
+wordless-same m n e = ap (λ (qs : List State). every (λ q. every (λ w. not (eqb (w .code) 20)) (q .wires)) qs) e
 
 -- ---- the agreement
 
 -- every admitted graph table with the words of the machine synthesised from it, whatever follows them
-pub agreement : (t rest : List ℕ) → admitted t ≡ true → Agreement t (tableOf (machine (graphOf t)) ++ rest)
-agreement t rest ok =
-    let g = graphOf t in
-    let s = groups g in
-    let v = valid-graph g (admitted-halves t ok .0) in
-    let f = machine-fits g v in
-    let m = machine g in
-    let table = tableOf m ++ rest in
-    let whole : Fits m = record { few-states = f .fewStates; few-registers = f .fewRegisters; room = f .room; next-registers = f .nextRegisters } in
-    let sound : Sound m = record { fits = whole; some-states = f .someState; some-registers = f .someRegister; valid = f .valid } in
-    let same : cycle (machineOf table) ≡ cycle (machineFor g s) = read-cycle m rest whole ∙ ap cycle (machine-is g) in
-    let ok′ : admittedMachine table ≡ true = read-admitted m rest sound in
-    let h = machine-facts table ok′ in
-    record {
-      agree = λ rs size k.
-          agree-same g s (machineOf table) (machineFor g s) rs k same (agree-after g s (graph-fits g v) (groups-arranged g (valid-closed g v)) rs size k);
-      idle = cycle-stays (machineOf table);
-      wires = λ k l.
-          let z = states-length table in
-          rw (registers-is table, state-is table k (omega arith)) (h .valid k (omega arith));
-      runs = run-agrees table (omega (arith, table-length m, length-append (tableOf m) rest)) ok′ (h .some-states);
-    }
+module _ (t rest : List ℕ) (ok : admitted t ≡ true) where
+  abbrev g : CFG
+  g = graphOf t
+
+  abbrev s : Groups
+  s = groups g
+
+  abbrev table : List ℕ
+  table = tableOf (machine g) ++ rest
+
+  abbrev m : Runner
+  m = machineRunner (machineOf table)
+
+  valid : ValidGraph g
+  valid = valid-graph g (admitted-halves t ok .0)
+
+  arranged : Arranged g s
+  arranged = groups-arranged g (valid-closed g valid)
+
+  fits : Fits (machine g)
+  fits =
+      let f = machine-fits g valid in
+      record { few-states = f .fewStates; few-registers = f .fewRegisters; room = f .room; next-registers = f .nextRegisters }
+
+  table-admitted : admittedMachine table ≡ true
+  table-admitted =
+      let f = machine-fits g valid in
+      read-admitted (machine g) rest (record { fits = fits; some-states = f .someState; some-registers = f .someRegister; valid = f .valid })
+
+  -- the table's machine runs as the grouping's
+  machine-same : machineRunner (machineFor g s) ≡ m
+  machine-same = sym (read-runner (machine g) rest fits ∙ ap machineRunner (machine-is g))
+
+  long : machineWords ≤ length table
+  long = omega (arith, table-length (machine g), length-append (tableOf (machine g)) rest)
+
+  runs-same : (ws : Supply) (b : ℕ) → mem b (s .starters) ≡ true → (rs : List ℕ) → length rs ≡ maxRegisters → (k : ℕ) → RunsAlike g s m ws b rs k
+  runs-same ws b start rs size k =
+      subst (λ (x : Runner). RunsAlike g s x ws b rs k) machine-same (runs-alike g s ws b rs k (after-cycles g s (graph-fits g valid) arranged ws b rs start size k))
+
+  -- a starter's state is one of the table's
+  start-known : (b : ℕ) → mem b (s .starters) ≡ true → stateIn s b < getD table 0 0
+  start-known b h =
+      let a = arranged .home b h in
+      let n = states-count g s in
+      let e = ap (λ (x : FSMD). length (x .states)) (machine-is g) in
+      omega (arith, count-is (machine g) rest)
+
+  -- ---- Run graph beside Run machine
+
+  starters-below : (b : ℕ) → mem b (s .starters) ≡ true → b < getD t 0 0
+  starters-below b h =
+      let c = valid-closed g valid in
+      omega (arith, reached-below c (grouped g c .starter-reached b (mem→In b (s .starters) h)), blocks-length t)
+
+  module _ (words starters : List ℕ) (alike : (b : ℕ) → mem b starters ≡ mem b (s .starters)) (b₀ : ℕ) (start : mem b₀ (s .starters) ≡ true)
+      (buffer : List ℕ) (enough : maxRegisters ≤ length buffer) (k : ℕ) where
+    abbrev ws : Supply
+    ws = listed words
+
+    abbrev rs : List ℕ
+    rs = take maxRegisters buffer
+
+    graph-same : graphRunner g starters ≡ graphRunner g (s .starters)
+    graph-same = ap (λ (f : ℕ → Bool). record { unit = λ w n q. runBlock w (blockOf g n) q; arrives = f }) (fun-ext alike)
+
+    graph-accepted : wordsRefusal t buffer b₀ starters ≡ 0
+    unfolding wordsRefusal
+    graph-accepted =
+        rw (
+          none-refused t buffer b₀ (admitted-facts t ok .long) enough ok (starters-below b₀ start),
+          alike 0 ∙ arranged .entry,
+          alike b₀ ∙ start,
+          in-every (λ b. ltb b (getD t 0 0)) starters (λ b i. lt-ltb b (getD t 0 0) (starters-below b (sym (alike b) ∙ In→mem b starters i))),
+        )
+
+    graph-answer : (n : ℕ) → wordsAnswer t buffer b₀ n words starters ≡ answer (graphRunner g (s .starters)) ws n (startAt b₀ rs)
+    unfolding wordsAnswer
+    graph-answer n = rw graph-accepted (ap (λ (r : Runner). answer r ws n (startAt b₀ rs)) graph-same)
+
+    graph-registers : (n : ℕ) → wordsRegisters t buffer b₀ n words starters ≡ registersAfter (graphRunner g (s .starters)) ws n (startAt b₀ rs) ++ drop maxRegisters buffer
+    unfolding wordsRegisters
+    graph-registers n = rw graph-accepted (ap (λ (r : Runner). registersAfter r ws n (startAt b₀ rs) ++ drop maxRegisters buffer) graph-same)
+
+    machine-accepted : refusal table buffer (stateIn s b₀) ≡ 0
+    machine-accepted = refuse-none table buffer (stateIn s b₀) long enough table-admitted (start-known b₀ start)
+
+    answers-alike : (n : ℕ) → SameEnd g s m ws b₀ rs k n → Alike t table s buffer words starters b₀ k n
+    answers-alike n e =
+        rw (graph-answer n, graph-registers n, run-answer ws table buffer (stateIn s b₀) k machine-accepted, run-registers ws table buffer (stateIn s b₀) k machine-accepted)
+        (ends-alike g s m ws b₀ rs k n (drop maxRegisters buffer) e)
+
+    operations-alike : OperationsAlike t table s buffer words starters b₀ k
+    operations-alike =
+        let r = runs-same ws b₀ start rs (length-take-le maxRegisters buffer enough) k in
+        record {
+          blocks = r .blocks;
+          at = answers-alike (r .blocks) (r .at);
+          beyond = λ d n l.
+              answers-alike n (r .beyond (λ z. d (ap outcomeOf (run-answer ws table buffer (stateIn s b₀) k machine-accepted) ∙ z)) n l);
+        }
+
+  pub agreement : Agreement t table
+  agreement =
+      let a = arranged in
+      let h = machine-facts table table-admitted in
+      record {
+        agree = λ ws b start rs size k lasts.
+            subst (λ (x : Runner). AgreeAfter g s x ws b rs k) machine-same (agree-after g s (graph-fits g valid) a ws b start rs size k lasts);
+        alike = runs-same;
+        runs = λ ws b start. run-agrees table long table-admitted ws (stateIn s b) (start-known b start);
+        operations = operations-alike;
+        idle = λ ws c. step-ended m ws c;
+        wires = λ k l.
+            let z = states-length table in
+            rw (registers-is table, state-is table k (omega arith)) (h .valid k (omega arith));
+      }
+
+  -- from block 0 and state 0, where every arrival has a word
+  pub agreement-without-words : AgreementWithoutWords t table
+  agreement-without-words =
+      let zero-is = arranged .entry-state in
+      record {
+        agree = λ rs size k. agreement .agree unread 0 (arranged .entry) rs size k (λ j l. refl);
+        begins = zero-is;
+        silent = λ h. wordless-same (machineOf table) (machineFor g s) (read-states (machine g) rest fits ∙ ap (λ (x : FSMD). x .states) (machine-is g)) ∙ wordless-machine g s h;
+        runs = λ buffer k. rw zero-is at (agreement .runs unread 0 (arranged .entry) buffer k);
+        unmarked = λ rs n.
+            let l = times-level (graphRunner g [] .unit) (λ b. mem b []) (λ b. mem b (s .starters)) n (startAt 0 rs) (startAt 0 rs) (record { place = refl; registers = refl }) in
+            (l .place, l .registers);
+      }
+
+-- while words of a list last
+pub listed-lasts : (ws : List ℕ) (k : ℕ) → k ≤ length ws → LastsTo (listed ws) k
+listed-lasts ws k h j l = lt-ltb j (length ws) (omega arith)
 
 -- ---- and so the words that Synthesise leaves
 
 pub synthesised-agrees : (t old : List ℕ) → synthesisAnswer t old ≡ Made → Agreement t (synthesisWords t old)
 synthesised-agrees t old e = rw (made-words t old e) (agreement t (drop machineWords old) (made-admitted t old e))
+
+pub synthesised-agrees-without-words : (t old : List ℕ) → synthesisAnswer t old ≡ Made → AgreementWithoutWords t (synthesisWords t old)
+synthesised-agrees-without-words t old e = rw (made-words t old e) (agreement-without-words t (drop machineWords old) (made-admitted t old e))

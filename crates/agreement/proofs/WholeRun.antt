@@ -1,282 +1,285 @@
--- Whole runs: after k cycles the machine stands where the graph stands at arrival k, or both have halted. Assumes nothing.
+-- Whole runs: after k cycles the machine stands where the graph stands at arrival k, or both have ended, halted or dry. Assumes nothing.
 use Prim.Native.Nat.{ℕ, zero, suc, _+_, _≤_, _<_}
 use native.Mathlib.Omega.{arith}
 use native.Mathlib.Decide.{decLt}
 use mathlib.Core.Path.{_≡_, refl, sym, ap, _∙_}
 use mathlib.Core.Logic.{_⊎_, inl, inr}
-use mathlib.Core.Bool.{true}
+use mathlib.Core.Bool.{Bool, true, false}
 use mathlib.Core.List.{List}
 use lib.ListN.{length, getD, drop, length-append, length-map, length-drop}
 use borrow.Author.Tests.{lt-ltb, le-ltb}
 use Rattle.runs.specs.Lists.{mem}
-use Rattle.runs.specs.Runs.{Place, standing, halted, Configuration, startAt, times}
-use Rattle.runs.proofs.RunLaws.{never-both, times-zero, times-add, times-last}
-use Rattle.cfg.specs.Graph.{CFG, step}
-use Rattle.fsmd.proofs.Steps.{cycle-stays}
+use Rattle.runs.specs.Runs.{Place, standing, halted, Configuration, standsAt, startAt, Supply, Moved, onward, arrivalsAt, moved, goes, step, times}
+use Rattle.runs.proofs.RunLaws.{never-both, false-true, place-of, registers-of, arrivals-of, going-lasts, goes-standing, halted-ends, dry-ends}
+use Rattle.runs.proofs.RunLaws.{moved-to, step-going, step-ended, times-zero, times-add, times-last, stepsRun-zero, stepsRun-add}
+use Rattle.cfg.specs.Graph.{CFG, graphRunner}
 use Rattle.fsmd.specs.Layout.{maxRegisters, none}
-use Rattle.fsmd.specs.Machine.{State, FSMD, stateOf as stateAt, worked, toState, clock, cycle}
+use Rattle.fsmd.specs.Machine.{State, FSMD, stateOf as stateAt, worked, toState, clock, machineRunner}
 use Rattle.grouping.specs.Grouping.{Groups}
-use Rattle.placement.specs.Placement.{members}
-use Rattle.state.specs.Wires.{nextStateOf, stateOf}
+use Rattle.placement.specs.Placement.{order, members}
+use Rattle.state.specs.Wires.{leaves, nextStateOf, stateOf}
 use Rattle.synthesis.specs.Synthesis.{machineFor}
 use Rattle.synthesis.proofs.GraphFacts.{GraphFits}
 use Rattle.placement.proofs.StateOrder.{Arranged}
 use Rattle.synthesis.proofs.SynthesisedMachine.{states-count, state-at, registers-are}
-use Rattle.agreement.specs.Agreement.{haltedWith, graphAfter, moves, arrivals, Arrival, HaltBefore, EndOfCycle, machineAfter, stateIn, AgreeAfter}
 use Rattle.synthesis.proofs.Readings.{Reads}
 use Rattle.synthesis.proofs.OneCycle.{StateReads, CycleAgrees, cycle-agrees}
-use Rattle.agreement.proofs.Arrivals.{place-of, moves-zero, moves-add, trace-comes, trace-moves, arrival-once, arrival-or-halt, halted-once, standing-before, halting-step}
+use Rattle.agreement.specs.Agreement.{graphAfter, AllRun, Arrival, HaltBefore, EndOfCycle, machineAfter, stateIn, placeIn, inState, AgreeAfter, LastsTo}
+use Rattle.agreement.proofs.Arrivals.{arrival-or-halt, end-once, end-later, trace-comes, trace-run}
 
 -- ---- one cycle of the machine
 
-clock-reads : (m : FSMD) (q : State) (rs : List ℕ) (v : ℕ) (qs : List ℕ)
-    → Reads (m .registers) (drop (m .registers) rs) (worked rs (q .wires)) (q .next) (q .nextRegisters) v qs
-    → clock m q rs ≡ record { place = toState (length (m .states)) v; registers = qs }
+clock-reads : (m : FSMD) (w : ℕ) (q : State) (rs : List ℕ) (v : ℕ) (qs : List ℕ)
+    → Reads (m .registers) (drop (m .registers) rs) (worked w rs (q .wires)) (q .next) (q .nextRegisters) v qs
+    → clock m w q rs ≡ record { place = toState (length (m .states)) v; registers = qs }
 unfolding clock
-clock-reads m q rs v qs l = λ i. record { place = toState (length (m .states)) (l .reads i); registers = l .words i }
+clock-reads m w q rs v qs l = λ i. record { place = toState (length (m .states)) (l .reads i); registers = l .words i }
 
-cycle-clock : (m : FSMD) (k : ℕ) (rs : List ℕ) → cycle m (startAt k rs) ≡ clock m (stateAt m k) rs
-unfolding cycle
-cycle-clock m k rs = refl
-
-module _ (g : CFG) (s : Groups) where
-  cycle-reads : (k : ℕ) (rs : List ℕ) (v : ℕ) (qs : List ℕ) → k < length (s .starters) → StateReads g (stateOf g s k) rs v qs
-      → cycle (machineFor g s) (startAt k rs) ≡ record { place = toState (length (s .starters)) v; registers = qs }
-  cycle-reads k rs v qs h l =
-      cycle-clock (machineFor g s) k rs
-      ∙ ap (λ (q : State). clock (machineFor g s) q rs) (state-at g s k h)
-      ∙ clock-reads (machineFor g s) (stateOf g s k) rs v qs (rw (registers-are g s) l)
-      ∙ ap (λ (n : ℕ). record { place = toState n v; registers = qs }) (states-count g s)
+clocked : (g : CFG) (s : Groups) (w k : ℕ) (rs : List ℕ) (v : ℕ) (qs : List ℕ) → k < length (s .starters) → StateReads g (stateOf g s k) w rs v qs
+    → clock (machineFor g s) w (stateAt (machineFor g s) k) rs ≡ record { place = toState (length (s .starters)) v; registers = qs }
+clocked g s w k rs v qs h l =
+    ap (λ (q : State). clock (machineFor g s) w q rs) (state-at g s k h)
+    ∙ clock-reads (machineFor g s) w (stateOf g s k) rs v qs (rw (registers-are g s) l)
+    ∙ ap (λ (n : ℕ). record { place = toState n v; registers = qs }) (states-count g s)
 
 reads-length : {R : ℕ} {high E : List ℕ} {t : ℕ} {vs : List ℕ} {v : ℕ} {q : List ℕ} → Reads R high E t vs v q → length q ≡ R + length high
 reads-length {R} {high} {E} {t} {vs} l = sym (ap length (l .words)) ∙ simp (length-append, length-map) (let c = l .count in omega arith)
 
+-- ---- a graph's configuration in the machine
+
+onward-in : (s : Groups) (p : Place) (w : Bool) → onward (placeIn s p) w false (λ n. true) ≡ onward p w false (λ n. true)
+onward-in s (standing b) true = refl
+onward-in s (standing b) false = refl
+onward-in s halted w = refl
+
+goes-in : (s : Groups) (ws : Supply) (c : Configuration) → goes ws (inState s c) ≡ goes ws c
+goes-in s ws c = onward-in s (c .place) (ws .lasts (c .arrivals))
+
+module _ (g : CFG) (s : Groups) (a : Arranged g s) where
+  -- at a starter or halted, the next state that is worked out is the place's
+  to-place : (p : Place) → leaves s p ≡ true → toState (length (s .starters)) (nextStateOf s p) ≡ placeIn s p
+  to-place (standing b) h = rw (lt-ltb (stateIn s b) (length (s .starters)) (a .home b h))
+  to-place halted h = rw (le-ltb none (length (s .starters)) (a .few))
+
+  arrivals-in : (p : Place) (k : ℕ) → leaves s p ≡ true → arrivalsAt (λ q. true) (placeIn s p) k ≡ arrivalsAt (λ b. mem b (s .starters)) p k
+  arrivals-in (standing b) k h = rw h
+  arrivals-in halted k h = refl
+
+  moved-in : (k : ℕ) (m : Moved) → leaves s (m .place) ≡ true
+      → moved (λ q. true) k (record { place = toState (length (s .starters)) (nextStateOf s (m .place)); registers = m .registers })
+      ≡ inState s (moved (λ b. mem b (s .starters)) k m)
+  moved-in k m h =
+      ap (λ (p : Place). moved (λ q. true) k (record { place = p; registers = m .registers })) (to-place (m .place) h)
+      ∙ ap (λ (n : ℕ). record { place = placeIn s (m .place); registers = m .registers; arrivals = n }) (arrivals-in (m .place) k h)
+
 -- ---- whole runs
 
-module _ (g : CFG) (s : Groups) (rs : List ℕ) where
-  -- the graph makes arrival k, and the machine stands after k cycles in its starter's state with the same registers
-  record Arrived (k : ℕ) : Type 0 where
-    steps : ℕ
-    block : ℕ
-    registers : List ℕ
-    arrival : Arrival g (s .starters) rs k steps block registers
-    size : length registers ≡ maxRegisters
-    machine : machineAfter (machineFor g s) rs k ≡ startAt (stateIn s block) registers
+-- after k cycles: at arrival k, or ended before it, halted or at a starter without a word
+pub record Here (s : Groups) (k : ℕ) (c : Configuration) : Type 0 where
+  pub block : ℕ
+  pub place : c .place ≡ standing block
+  pub starter : mem block (s .starters) ≡ true
+  pub counted : c .arrivals ≡ k
 
-  -- the graph halts before arrival k, and the machine has halted after k cycles with the same registers
-  record Stopped (k : ℕ) : Type 0 where
-    steps : ℕ
-    registers : List ℕ
-    graph : graphAfter g rs steps ≡ haltedWith registers
-    counted : arrivals g (s .starters) rs steps < k
-    machine : machineAfter (machineFor g s) rs k ≡ haltedWith registers
+pub record Over (s : Groups) (ws : Supply) (k : ℕ) (c : Configuration) : Type 0 where
+  pub place : leaves s (c .place) ≡ true
+  pub ended : goes ws c ≡ false
+  pub counted : c .arrivals < k
 
-module _ (g : CFG) (s : Groups) (f : GraphFits g) (a : Arranged g s) where
-  to-starter : (b : ℕ) → mem b (s .starters) ≡ true → toState (length (s .starters)) (nextStateOf s (standing b)) ≡ standing (stateIn s b)
-  to-starter b h = rw (lt-ltb (stateIn s b) (length (s .starters)) (a .home b h))
+here-is : {s : Groups} {k : ℕ} {c : Configuration} → (h : Here s k c) → c ≡ standsAt k (h .block) (c .registers)
+here-is {s} {k} {c} h = λ i. record { place = h .place i; registers = c .registers; arrivals = h .counted i }
 
-  to-halt : toState (length (s .starters)) (nextStateOf s halted) ≡ halted
-  to-halt = rw (le-ltb none (length (s .starters)) (a .few))
+module _ (g : CFG) (s : Groups) (ws : Supply) (b₀ : ℕ) (rs : List ℕ) where
+  -- the graph's run comes with `steps` steps to where the machine stands after k cycles
+  pub record Both (k : ℕ) : Type 0 where
+    pub steps : ℕ
+    pub run : AllRun g (s .starters) ws b₀ rs steps
+    pub size : length (graphAfter g (s .starters) ws b₀ rs steps .registers) ≡ maxRegisters
+    pub machine : machineAfter (machineRunner (machineFor g s)) ws (stateIn s b₀) rs k ≡ inState s (graphAfter g (s .starters) ws b₀ rs steps)
+    pub met : Here s k (graphAfter g (s .starters) ws b₀ rs steps) ⊎ Over s ws k (graphAfter g (s .starters) ws b₀ rs steps)
 
-module _ (g : CFG) (s : Groups) (f : GraphFits g) (a : Arranged g s) (rs : List ℕ) where
-  -- the next cycle from an arrival
-  module _ (k : ℕ) (r : Arrived g s rs k) where
-    agrees : CycleAgrees g s (r .registers) (stateIn s (r .block)) (r .block)
-    agrees = cycle-agrees g s (r .registers) (r .size) f (stateIn s (r .block)) (r .block) (a .placed (r .block) (r .arrival .starter))
+module _ (g : CFG) (s : Groups) (f : GraphFits g) (a : Arranged g s) (ws : Supply) (b₀ : ℕ) (rs : List ℕ) where
+  abbrev G : ℕ → Configuration
+  G n = graphAfter g (s .starters) ws b₀ rs n
 
-    -- the graph after the cycle's steps
-    reached-at : graphAfter g rs (r .steps + agrees .steps) ≡ agrees .reached
+  abbrev M : ℕ → Configuration
+  M k = machineAfter (machineRunner (machineFor g s)) ws (stateIn s b₀) rs k
+
+  -- the next cycle, from an arrival for which there is a word
+  module _ (k : ℕ) (r : Both g s ws b₀ rs k) (h : Here s k (G (r .steps))) (lasts : ws .lasts k ≡ true) where
+    abbrev q : List ℕ
+    q = G (r .steps) .registers
+
+    agrees : CycleAgrees g s (ws .word k) q (stateIn s (h .block)) (h .block)
+    agrees = cycle-agrees g s (ws .word k) q (r .size) f (stateIn s (h .block)) (h .block) (a .placed (h .block) (h .starter))
+
+    abbrev reached : Configuration
+    reached = moved (λ b. mem b (s .starters)) k (agrees .reached)
+
+    reached-at : G (r .steps + agrees .steps) ≡ reached
     reached-at =
-        times-add (step g) (r .steps) (agrees .steps) (startAt 0 rs)
-        ∙ ap (times (step g) (agrees .steps)) (r .arrival .stands)
-        ∙ trace-comes g (s .starters) (r .block) (r .registers) (agrees .trace)
+        times-add (graphRunner g (s .starters)) ws (r .steps) (agrees .steps) (startAt b₀ rs)
+        ∙ ap (times (graphRunner g (s .starters)) ws (agrees .steps)) (here-is h)
+        ∙ trace-comes g (s .starters) ws k (h .block) q lasts (agrees .trace)
 
-    counted-at : arrivals g (s .starters) rs (r .steps + agrees .steps) ≡ k + moves g (s .starters) (startAt (r .block) (r .registers)) (agrees .steps)
-    counted-at =
-        moves-add g (s .starters) (startAt 0 rs) (r .steps) (agrees .steps)
-        ∙ rw (r .arrival .counted, r .arrival .stands)
+    all-run : AllRun g (s .starters) ws b₀ rs (r .steps + agrees .steps)
+    all-run =
+        stepsRun-add (graphRunner g (s .starters)) ws (r .steps) (agrees .steps) (startAt b₀ rs)
+        ∙ rw (r .run, here-is h, trace-run g (s .starters) ws k (h .block) q lasts (agrees .trace))
 
-    cycled : (p : Place) → agrees .reached .place ≡ p
-        → machineAfter (machineFor g s) rs (suc k) ≡ record { place = toState (length (s .starters)) (nextStateOf s p); registers = agrees .reached .registers }
-    cycled p e =
-        times-last (cycle (machineFor g s)) k (startAt 0 rs)
-        ∙ ap (cycle (machineFor g s)) (r .machine)
-        ∙ cycle-reads g s (stateIn s (r .block)) (r .registers) (nextStateOf s (agrees .reached .place)) (agrees .reached .registers)
-        (a .home (r .block) (r .arrival .starter)) (agrees .state)
-        ∙ ap (λ (p : Place). record { place = toState (length (s .starters)) (nextStateOf s p); registers = agrees .reached .registers }) e
+    cycled : M (suc k) ≡ inState s reached
+    cycled =
+        let m = machineRunner (machineFor g s) in
+        times-last m ws k (startAt (stateIn s b₀) rs)
+        ∙ ap (step m ws) (r .machine ∙ ap (inState s) (here-is h))
+        ∙ step-going m ws (standsAt k (stateIn s (h .block)) q) (stateIn s (h .block)) refl lasts
+        ∙ ap (moved (λ q. true) k) (clocked g s (ws .word k) (stateIn s (h .block)) q (nextStateOf s (agrees .reached .place)) (agrees .reached .registers)
+        (a .home (h .block) (h .starter)) (agrees .state))
+        ∙ moved-in g s a k (agrees .reached) (agrees .leaving)
 
-    -- the graph arrives at a starter
-    arrives : (b : ℕ) → agrees .reached .place ≡ standing b → Arrived g s rs (suc k)
-    arrives b e =
+    met-next : (p : Place) → agrees .reached .place ≡ p → Here s (suc k) reached ⊎ Over s ws (suc k) reached
+    met-next (standing b) e =
         let m : mem b (s .starters) ≡ true = rw e at (agrees .leaving) in
-        let q = agrees .reached .registers in
-        record {
-          steps = r .steps + agrees .steps;
-          block = b;
-          registers = q;
-          arrival = record {
-            stands = reached-at ∙ (λ i. record { place = e i; registers = q });
-            starter = m;
-            counted = counted-at ∙ rw (trace-moves g (s .starters) (r .block) (r .registers) (agrees .trace), e, m) (omega arith);
-          };
-          size = reads-length (agrees .state) ∙ (let z = r .size in let n = f .fewRegisters in simp length-drop (omega arith));
-          machine = cycled (standing b) e ∙ (λ i. record { place = to-starter g s f a b m i; registers = q });
-        }
+        inl (record { block = b; place = e; starter = m; counted = arrivals-of (moved-to (λ b. mem b (s .starters)) k (agrees .reached) b true e m) })
+    met-next halted e = inr (record { place = agrees .leaving; ended = halted-ends ws reached e; counted = rw e (omega arith) })
 
-    -- it halts
-    stops : agrees .reached .place ≡ halted → Stopped g s rs (suc k)
-    stops e =
-        let q = agrees .reached .registers in
-        record {
-          steps = r .steps + agrees .steps;
-          registers = q;
-          graph = reached-at ∙ (λ i. record { place = e i; registers = q });
-          counted = rw (counted-at, trace-moves g (s .starters) (r .block) (r .registers) (agrees .trace), e) (omega arith);
-          machine = cycled halted e ∙ (λ i. record { place = to-halt g s f a i; registers = q });
-        }
+    advance : (n : Both g s ws b₀ rs (suc k)) × (r .steps + 1 ≤ n .steps) × (n .steps ≤ r .steps + length (order g s (stateIn s (h .block))))
+    advance =
+        let o = agrees .some in
+        let l = agrees .few in (
+          record {
+            steps = r .steps + agrees .steps;
+            run = all-run;
+            size = ap length (registers-of reached-at) ∙ reads-length (agrees .state) ∙ (let z = r .size in let n = f .fewRegisters in simp length-drop (omega arith));
+            machine = cycled ∙ ap (inState s) (sym reached-at);
+            met = rw reached-at (met-next (agrees .reached .place) refl);
+          },
+          omega arith,
+          omega arith,
+        )
 
-  -- a halted machine idles
-  stays-stopped : (k : ℕ) → Stopped g s rs k → Stopped g s rs (suc k)
-  stays-stopped k r = record {
-    steps = r .steps;
-    registers = r .registers;
-    graph = r .graph;
-    counted = let c = r .counted in omega arith;
-    machine = times-last (cycle (machineFor g s)) k (startAt 0 rs) ∙ ap (cycle (machineFor g s)) (r .machine) ∙ cycle-stays (machineFor g s) (haltedWith (r .registers)) refl;
-  }
+  -- what has ended stays
+  stays : (k : ℕ) (r : Both g s ws b₀ rs k) → goes ws (G (r .steps)) ≡ false → M (suc k) ≡ inState s (G (r .steps))
+  stays k r e =
+      let m = machineRunner (machineFor g s) in
+      times-last m ws k (startAt (stateIn s b₀) rs) ∙ ap (step m ws) (r .machine) ∙ step-ended m ws (inState s (G (r .steps))) (goes-in s ws (G (r .steps)) ∙ e)
 
-  next-cycle : (k : ℕ) → Arrived g s rs k ⊎ Stopped g s rs k → Arrived g s rs (suc k) ⊎ Stopped g s rs (suc k)
-  next-cycle k (inl r) = go (agrees k r .reached .place) refl
+  stay : (k : ℕ) (r : Both g s ws b₀ rs k) → Over s ws (suc k) (G (r .steps)) → Both g s ws b₀ rs (suc k)
+  stay k r o = record { steps = r .steps; run = r .run; size = r .size; machine = stays k r (o .ended); met = inr o }
+
+  next-cycle : (k : ℕ) → Both g s ws b₀ rs k → Both g s ws b₀ rs (suc k)
+  next-cycle k r = go (r .met)
     where
-      go : (p : Place) → agrees k r .reached .place ≡ p → Arrived g s rs (suc k) ⊎ Stopped g s rs (suc k)
-      go (standing b) e = inl (arrives k r b e)
-      go halted e = inr (stops k r e)
-  next-cycle k (inr r) = inr (stays-stopped k r)
+      here : (h : Here s k (G (r .steps))) (b : Bool) → ws .lasts k ≡ b → Both g s ws b₀ rs (suc k)
+      here h true e = advance k r h e .0
+      here h false e =
+          stay k r (record {
+            place = rw (h .place) (h .starter);
+            ended = dry-ends ws (G (r .steps)) (h .block) (h .place) (rw (h .counted) e);
+            counted = let c = h .counted in omega arith;
+          })
 
-  after-cycles : length rs ≡ maxRegisters → (k : ℕ) → Arrived g s rs k ⊎ Stopped g s rs k
-  after-cycles size zero =
-      inl (record {
+      go : Here s k (G (r .steps)) ⊎ Over s ws k (G (r .steps)) → Both g s ws b₀ rs (suc k)
+      go (inl h) = here h (ws .lasts k) refl
+      go (inr o) = stay k r (record { place = o .place; ended = o .ended; counted = let c = o .counted in omega arith })
+
+  pub after-cycles : mem b₀ (s .starters) ≡ true → length rs ≡ maxRegisters → (k : ℕ) → Both g s ws b₀ rs k
+  after-cycles m size zero =
+      let z = times-zero (graphRunner g (s .starters)) ws (startAt b₀ rs) in
+      record {
         steps = 0;
-        block = 0;
-        registers = rs;
-        arrival = record { stands = times-zero (step g) (startAt 0 rs); starter = a .entry; counted = moves-zero g (s .starters) (startAt 0 rs) };
-        size = size;
-        machine = times-zero (cycle (machineFor g s)) (startAt 0 rs) ∙ ap (λ (k : ℕ). startAt k rs) (sym (a .entry-state));
-      })
-  after-cycles size (suc k) = next-cycle k (after-cycles size k)
+        run = stepsRun-zero (graphRunner g (s .starters)) ws (startAt b₀ rs);
+        size = ap length (registers-of z) ∙ size;
+        machine = times-zero (machineRunner (machineFor g s)) ws (startAt (stateIn s b₀) rs) ∙ ap (inState s) (sym z);
+        met = inl (record { block = b₀; place = place-of z; starter = m; counted = arrivals-of z });
+      }
+  after-cycles m size (suc k) = next-cycle k (after-cycles m size k)
+
+  -- while words last, a cycle ends by its arrival or a halt
+  cycle-ends : (k : ℕ) → LastsTo ws k → (r : Both g s ws b₀ rs k) → EndOfCycle g (s .starters) ws b₀ rs k (r .steps)
+  cycle-ends k lasts r = go (r .met)
+    where
+      over : (p : Place) → G (r .steps) .place ≡ p → Over s ws k (G (r .steps)) → EndOfCycle g (s .starters) ws b₀ rs k (r .steps)
+      over (standing b) e o = absurd (false-true (o .ended) (goes-standing ws (G (r .steps)) b e (lasts (G (r .steps) .arrivals) (o .counted))))
+      over halted e o = inr (G (r .steps) .registers, record { run = r .run; stopped = e; registers = refl; counted = o .counted })
+
+      go : Here s k (G (r .steps)) ⊎ Over s ws k (G (r .steps)) → EndOfCycle g (s .starters) ws b₀ rs k (r .steps)
+      go (inl h) = inl (h .block, G (r .steps) .registers, record { run = r .run; stands = here-is h; starter = h .starter })
+      go (inr o) = over (G (r .steps) .place) refl o
 
 -- ---- the statement on the machine of a grouping
 
-registers-of : {c d : Configuration} → c ≡ d → c .registers ≡ d .registers
-registers-of e = ap (λ (c : Configuration). c .registers) e
-
-standing-of : {b c : ℕ} → standing b ≡ standing c → b ≡ c
+pub standing-of : {b c : ℕ} → standing b ≡ standing c → b ≡ c
 standing-of e = cc
 
-module _ (g : CFG) (s : Groups) (f : GraphFits g) (a : Arranged g s) (rs : List ℕ) (size : length rs ≡ maxRegisters) (k : ℕ) where
-  end-of-cycle : (n : ℕ) × EndOfCycle g (s .starters) rs k n
-  end-of-cycle = go (after-cycles g s f a rs size k)
-    where
-      go : Arrived g s rs k ⊎ Stopped g s rs k → (n : ℕ) × EndOfCycle g (s .starters) rs k n
-      go (inl r) = (r .steps, inl (r .block, r .registers, r .arrival))
-      go (inr r) = let h = halting-step g (s .starters) rs k (r .steps) (r .registers) (r .graph) (r .counted) in (h .0, inr (r .registers, h .2))
+module _ (g : CFG) (s : Groups) (f : GraphFits g) (a : Arranged g s) (ws : Supply) (b₀ : ℕ) (start : mem b₀ (s .starters) ≡ true)
+    (rs : List ℕ) (size : length rs ≡ maxRegisters) (k : ℕ) (lasts : LastsTo ws k) where
+  abbrev graph : ℕ → Configuration
+  graph n = graphAfter g (s .starters) ws b₀ rs n
 
-  never-together : (n b : ℕ) (q : List ℕ) → Arrival g (s .starters) rs k n b q → (n′ : ℕ) (q′ : List ℕ) → HaltBefore g (s .starters) rs k n′ q′ → ⊥
-  never-together n b q r n′ q′ h = arrival-or-halt g (s .starters) rs k n n′ b q q′ r (h .stopped) (h .counted)
+  abbrev machine : Configuration
+  machine = machineAfter (machineRunner (machineFor g s)) ws (stateIn s b₀) rs k
 
-  halted-graph : (q : List ℕ) → machineAfter (machineFor g s) rs k ≡ haltedWith q → (n : ℕ) × HaltBefore g (s .starters) rs k n q
-  halted-graph q e = go (after-cycles g s f a rs size k)
-    where
-      go : Arrived g s rs k ⊎ Stopped g s rs k → (n : ℕ) × HaltBefore g (s .starters) rs k n q
-      go (inl r) = absurd (never-both (machineAfter (machineFor g s) rs k .place) (stateIn s (r .block)) (place-of (r .machine)) (place-of e))
-      go (inr r) =
-          let p : r .registers ≡ q = registers-of (sym (r .machine) ∙ e) in
-          let h = halting-step g (s .starters) rs k (r .steps) q (r .graph ∙ ap haltedWith p) (r .counted) in
-          (h .0, h .2)
+  abbrev both : Both g s ws b₀ rs k
+  both = after-cycles g s f a ws b₀ rs start size k
 
-  halted-machine : (n : ℕ) (q : List ℕ) → HaltBefore g (s .starters) rs k n q → machineAfter (machineFor g s) rs k ≡ haltedWith q
-  halted-machine n q h = go (after-cycles g s f a rs size k)
-    where
-      go : Arrived g s rs k ⊎ Stopped g s rs k → machineAfter (machineFor g s) rs k ≡ haltedWith q
-      go (inl r) = absurd (never-together (r .steps) (r .block) (r .registers) (r .arrival) n q h)
-      go (inr r) = r .machine ∙ ap haltedWith (halted-once g (s .starters) rs (r .steps) n (r .registers) q (r .graph) (h .stopped))
+  end-of-cycle : EndOfCycle g (s .starters) ws b₀ rs k (both .steps)
+  end-of-cycle = cycle-ends g s f a ws b₀ rs k lasts both
 
-  standing-graph : (b : ℕ) (q : List ℕ) → mem b (s .starters) ≡ true → machineAfter (machineFor g s) rs k ≡ startAt (stateIn s b) q
-      → (n : ℕ) × Arrival g (s .starters) rs k n b q
-  standing-graph b q m e = go (after-cycles g s f a rs size k)
+  -- wherever the cycle ends, the machine stands alike
+  machine-alike : (n : ℕ) → EndOfCycle g (s .starters) ws b₀ rs k n → machine ≡ inState s (graph n)
+  machine-alike n e = rw (← end-once g (s .starters) ws b₀ rs k (both .steps) n end-of-cycle e) (both .machine)
+
+  halted-graph : (q : List ℕ) → machine .place ≡ halted → machine .registers ≡ q → (n : ℕ) × HaltBefore g (s .starters) ws b₀ rs k n q
+  halted-graph q e d = go end-of-cycle
     where
-      go : Arrived g s rs k ⊎ Stopped g s rs k → (n : ℕ) × Arrival g (s .starters) rs k n b q
+      go : EndOfCycle g (s .starters) ws b₀ rs k (both .steps) → (n : ℕ) × HaltBefore g (s .starters) ws b₀ rs k n q
+      go (inl r) = absurd (never-both (machine .place) (stateIn s (r .0)) (place-of (both .machine ∙ ap (inState s) (r .2 .stands))) e)
+      go (inr h) = (both .steps, record { run = h .1 .run; stopped = h .1 .stopped; registers = sym (registers-of (both .machine)) ∙ d; counted = h .1 .counted })
+
+  halted-machine : (n : ℕ) (q : List ℕ) → HaltBefore g (s .starters) ws b₀ rs k n q → (machine .place ≡ halted) × (machine .registers ≡ q)
+  halted-machine n q h =
+      let e = machine-alike n (inr (q, h)) in
+      (place-of e ∙ ap (placeIn s) (h .stopped), registers-of e ∙ h .registers)
+
+  standing-graph : (b : ℕ) (q : List ℕ) → mem b (s .starters) ≡ true → machine ≡ standsAt k (stateIn s b) q
+      → (n : ℕ) × Arrival g (s .starters) ws b₀ rs k n b q
+  standing-graph b q m e = go end-of-cycle
+    where
+      go : EndOfCycle g (s .starters) ws b₀ rs k (both .steps) → (n : ℕ) × Arrival g (s .starters) ws b₀ rs k n b q
       go (inl r) =
-          let z : stateIn s (r .block) ≡ stateIn s b = standing-of (place-of (sym (r .machine) ∙ e)) in
-          let c : r .block ≡ b =
-          sym (a .own (r .block) (r .arrival .starter)) ∙ ap (λ (k : ℕ). getD (s .starters) k none) z ∙ a .own b m in
-          (r .steps, rw (c, registers-of (sym (r .machine) ∙ e)) at (r .arrival))
-      go (inr r) = absurd (never-both (machineAfter (machineFor g s) rs k .place) (stateIn s b) (place-of e) (place-of (r .machine)))
+          let z : standsAt k (stateIn s (r .0)) (r .1) ≡ standsAt k (stateIn s b) q = sym (both .machine ∙ ap (inState s) (r .2 .stands)) ∙ e in
+          let c : r .0 ≡ b =
+          sym (a .own (r .0) (r .2 .starter)) ∙ ap (λ (k : ℕ). getD (s .starters) k none) (standing-of (place-of z)) ∙ a .own b m in
+          (both .steps, rw (c, registers-of z) at (r .2))
+      go (inr h) = absurd (never-both (machine .place) (stateIn s b) (place-of e) (halted-machine (both .steps) (h .0) (h .1) .0))
 
-  standing-machine : (n b : ℕ) (q : List ℕ) → Arrival g (s .starters) rs k n b q → machineAfter (machineFor g s) rs k ≡ startAt (stateIn s b) q
-  standing-machine n b q h = go (after-cycles g s f a rs size k)
-    where
-      go : Arrived g s rs k ⊎ Stopped g s rs k → machineAfter (machineFor g s) rs k ≡ startAt (stateIn s b) q
-      go (inl r) =
-          let t : r .steps ≡ n = arrival-once g (s .starters) rs k (r .steps) n (r .block) b (r .registers) q (r .arrival) h in
-          let c : startAt (r .block) (r .registers) ≡ startAt b q = sym (r .arrival .stands) ∙ rw t (h .stands) in
-          let d : r .block ≡ b = standing-of (place-of c) in
-          r .machine ∙ rw (d, registers-of c)
-      go (inr r) = absurd (arrival-or-halt g (s .starters) rs k n (r .steps) b q (r .registers) h (r .graph) (r .counted))
-
-  -- the steps of the next cycle, from an arrival
-  module _ (r : Arrived g s rs k) where
-    abbrev cycled-to : CycleAgrees g s (r .registers) (stateIn s (r .block)) (r .block)
-    cycled-to = agrees g s f a rs k r
-
-    next-steps : (n′ : ℕ) → EndOfCycle g (s .starters) rs (suc k) n′ → (p : Place) → cycled-to .reached .place ≡ p
-        → (r .steps + 1 ≤ n′) × (n′ ≤ r .steps + cycled-to .steps)
-    unfolding agrees arrives stops
-    next-steps n′ (inl e) (standing c) h =
-        let t = arrives g s f a rs k r c h .arrival in
-        let i : r .steps + cycled-to .steps ≡ n′ =
-        arrival-once g (s .starters) rs (suc k) (r .steps + cycled-to .steps) n′ c (e .0) (cycled-to .reached .registers) (e .1) t (e .2) in
-        let o = cycled-to .some in
-        (omega arith, omega arith)
-    next-steps n′ (inl e) halted h =
-        let t = stops g s f a rs k r h in
-        absurd (arrival-or-halt g (s .starters) rs (suc k) n′ (t .steps) (e .0) (e .1) (t .registers) (e .2) (t .graph) (t .counted))
-    next-steps n′ (inr e) (standing c) h =
-        let t = arrives g s f a rs k r c h .arrival in
-        absurd (arrival-or-halt g (s .starters) rs (suc k) (r .steps + cycled-to .steps) n′ c (cycled-to .reached .registers) (e .0) t (e .1 .stopped) (e .1 .counted))
-    next-steps n′ (inr e) halted h = (after (decLt (r .steps) n′), before (decLt (r .steps + cycled-to .steps) n′))
-      where
-        after : Dec (r .steps < n′) → r .steps + 1 ≤ n′
-        after (yes d) = omega arith
-        after (no d) =
-            absurd (standing-before g (s .starters) rs (r .steps) (r .block) (place-of (r .arrival .stands)) n′ (omega arith) (place-of (e .1 .stopped)))
-
-        before : Dec (r .steps + cycled-to .steps < n′) → n′ ≤ r .steps + cycled-to .steps
-        before (yes d) = absurd (e .1 .running (r .steps + cycled-to .steps) d (place-of (stops g s f a rs k r h .graph)))
-        before (no d) = omega arith
-
-  next-blocks : (n b : ℕ) (q : List ℕ) → Arrival g (s .starters) rs k n b q → (n′ : ℕ) → EndOfCycle g (s .starters) rs (suc k) n′
+  next-blocks : (n b : ℕ) (q : List ℕ) → Arrival g (s .starters) ws b₀ rs k n b q → (n′ : ℕ) → EndOfCycle g (s .starters) ws b₀ rs (suc k) n′
       → (n + 1 ≤ n′) × (n′ ≤ n + length (members g s (stateIn s b)))
-  next-blocks n b q h n′ e = go (after-cycles g s f a rs size k)
+  next-blocks n b q r n′ e =
+      let t : both .steps ≡ n = end-once g (s .starters) ws b₀ rs k (both .steps) n end-of-cycle (inl (b, q, r)) in
+      let c : graph (both .steps) ≡ standsAt k b q = ap graph t ∙ r .stands in
+      let h : Here s k (graph (both .steps)) = record { block = b; place = place-of c; starter = r .starter; counted = arrivals-of c } in
+      let w : ws .lasts k ≡ true = ap (λ (i : ℕ). ws .lasts i) (sym (arrivals-of (r .stands))) ∙ going-lasts ws (graph n) (end-later g (s .starters) ws b₀ rs k n b q r n′ e) in
+      let x = advance g s f a ws b₀ rs k both h w in
+      let i : x .0 .steps ≡ n′ = end-once g (s .starters) ws b₀ rs (suc k) (x .0 .steps) n′ (cycle-ends g s f a ws b₀ rs (suc k) (lasts-on w) (x .0)) e in
+      let u = x .1 in
+      let v = x .2 in
+      let y = a .sized (stateIn s b) in
+      (omega arith, omega arith)
     where
-      go : Arrived g s rs k ⊎ Stopped g s rs k → (n + 1 ≤ n′) × (n′ ≤ n + length (members g s (stateIn s b)))
-      go (inl r) =
-          let t : r .steps ≡ n = arrival-once g (s .starters) rs k (r .steps) n (r .block) b (r .registers) q (r .arrival) h in
-          let c : startAt (r .block) (r .registers) ≡ startAt b q = sym (r .arrival .stands) ∙ rw t (h .stands) in
-          let d : r .block ≡ b = standing-of (place-of c) in
-          let z = next-steps r n′ e (cycled-to r .reached .place) refl in
-          let u = z .0 in
-          let v = z .1 in
-          let w = cycled-to r .few in
-          let y = a .sized (stateIn s (r .block)) in
-          rw (← d) (omega arith, omega arith)
-      go (inr r) = absurd (arrival-or-halt g (s .starters) rs k n (r .steps) b q (r .registers) h (r .graph) (r .counted))
+      lasts-on : ws .lasts k ≡ true → LastsTo ws (suc k)
+      lasts-on w j l = go (decLt j k)
+        where
+          go : Dec (j < k) → ws .lasts j ≡ true
+          go (yes d) = lasts j d
+          go (no d) = let e : j ≡ k = omega arith in rw e w
 
-  pub agree-after : AgreeAfter g s (machineFor g s) rs k
+  pub agree-after : AgreeAfter g s (machineRunner (machineFor g s)) ws b₀ rs k
   agree-after = record {
-    either = end-of-cycle;
-    apart = never-together;
-    halts = λ q. (halted-graph q, λ h. halted-machine (h .0) q (h .1));
-    stands = λ b q m. (standing-graph b q m, λ h. standing-machine (h .0) b q (h .1));
+    either = (both .steps, end-of-cycle);
+    apart = arrival-or-halt g (s .starters) ws b₀ rs k;
+    halts = λ q. (λ h. halted-graph q (h .0) (h .1), λ h. halted-machine (h .0) q (h .1));
+    stands = λ b q m. (standing-graph b q m, λ h. machine-alike (h .0) (inl (b, q, h .1)) ∙ ap (inState s) (h .1 .stands));
     blocks = next-blocks;
   }

@@ -1,58 +1,47 @@
--- Demand 3, the per-cycle agreement: one statement on whole runs, over all registers and every k. Assumes nothing.
--- To be read beside "The mission" and "Runs" of paper 01.
-use Prim.Native.Nat.{ℕ, zero, suc, _+_, _≤_, _<_}
+-- Demand 3, the per-cycle agreement on equal words: one statement on whole runs, over all starters, words, registers and every k. Assumes nothing.
+-- To be read beside "The mission" and "Runs" of paper 01, and R-1 of paper 02.
+use Prim.Native.Nat.{ℕ, suc, _+_, _≤_, _<_}
 use mathlib.Core.Path.{_≡_}
 use mathlib.Core.Logic.{_⊎_, _↔_, _≢_}
-use mathlib.Core.Bool.{Bool, true, false}
-use mathlib.Core.List.{List, _++_}
+use mathlib.Core.Bool.{true, false}
+use mathlib.Core.List.{List, [], _++_}
 use lib.ListN.{length, getD, take, drop}
-use Rattle.word.specs.Word.{truth}
 use Rattle.runs.specs.Lists.{mem}
-use Rattle.runs.specs.Runs.{Place, standing, halted, Configuration, startAt, times, numberOf, haltedOf, countOf, nextOf}
+use Rattle.runs.specs.Runs.{Place, standing, halted, Configuration, standsAt, startAt, Supply, listed, unread, Runner, goes, step, times, stepsRun, answer, numberOf, outcomeOf, countOf, nextOf}
 use Rattle.runs.specs.declared.RunAnswer.{RunAnswer}
-use Rattle.cfg.specs.Graph.{CFG, step}
+use Rattle.cfg.specs.Graph.{CFG, graphRunner, wordless}
 use Rattle.cfg.specs.Table.{graphOf}
+use Rattle.cfg.specs.Run.{wordsAnswer, wordsRegisters}
 use Rattle.fsmd.specs.Layout.{maxRegisters, none}
-use Rattle.fsmd.specs.Machine.{FSMD, stateOf, cycle}
+use Rattle.fsmd.specs.Machine.{stateOf, machineRunner, wordless as wordlessMachine}
 use Rattle.fsmd.specs.Table.{machineOf, validState}
 use Rattle.fsmd.specs.Run.{runAnswer, runRegisters}
 use Rattle.grouping.specs.Grouping.{Groups, groups}
 use Rattle.placement.specs.Placement.{members}
 
-abbrev pub haltedWith : List ℕ → Configuration
-haltedWith q = record { place = halted; registers = q }
+-- ---- the graph's side: the sequence of configurations of its own run, from block b₀ with registers rs, on the words ws
 
--- ---- the graph's side: the sequence of configurations of its own run
+module _ (g : CFG) (starters : List ℕ) (ws : Supply) (b₀ : ℕ) (rs : List ℕ) where
+  -- the graph after n steps; no step follows a halt, or where it is dry
+  abbrev pub graphAfter : ℕ → Configuration
+  graphAfter n = times (graphRunner g starters) ws n (startAt b₀ rs)
 
--- the graph after n steps from block 0 with registers rs; no step follows a halt
-abbrev pub graphAfter : CFG → List ℕ → ℕ → Configuration
-graphAfter g rs n = times (step g) n (startAt 0 rs)
-
--- at one of the starters; a halt is no arrival
-abbrev pub atStarter : List ℕ → Place → Bool
-atStarter starters (standing b) = mem b starters
-atStarter starters halted = false
-
--- how many of the first n steps from c move to a starter, be it the block just run or another
-unfoldable pub moves : CFG → List ℕ → Configuration → ℕ → ℕ
-moves g starters c zero = 0
-moves g starters c (suc n) = moves g starters c n + truth (atStarter starters (times (step g) (suc n) c .place))
-
-module _ (g : CFG) (starters rs : List ℕ) where
-  abbrev pub arrivals : ℕ → ℕ
-  arrivals n = moves g starters (startAt 0 rs) n
+  -- all of the first n steps are run
+  abbrev pub AllRun : ℕ → Type 0
+  AllRun n = stepsRun (graphRunner g starters) ws n (startAt b₀ rs) ≡ n
 
   -- Arrival k comes with step n: the graph then stands at the starter b with registers q. The start is arrival 0.
   pub record Arrival (k n b : ℕ) (q : List ℕ) : Type 0 where
-    pub stands : graphAfter g rs n ≡ startAt b q
+    pub run : AllRun n
+    pub stands : graphAfter n ≡ standsAt k b q
     pub starter : mem b starters ≡ true
-    pub counted : arrivals n ≡ k
 
   -- The run halts with step n and registers q, without reaching arrival k.
   pub record HaltBefore (k n : ℕ) (q : List ℕ) : Type 0 where
-    pub running : (i : ℕ) → i < n → graphAfter g rs i .place ≢ halted
-    pub stopped : graphAfter g rs n ≡ haltedWith q
-    pub counted : arrivals n < k
+    pub run : AllRun n
+    pub stopped : graphAfter n .place ≡ halted
+    pub registers : graphAfter n .registers ≡ q
+    pub counted : graphAfter n .arrivals < k
 
   -- Cycle k, from 1, ends with step n: the step that makes arrival k, or halts.
   abbrev pub EndOfCycle : ℕ → ℕ → Type 0
@@ -60,34 +49,67 @@ module _ (g : CFG) (starters rs : List ℕ) where
 
 -- ---- the machine's side
 
--- the machine after k cycles from state 0 with registers rs
-abbrev pub machineAfter : FSMD → List ℕ → ℕ → Configuration
-machineAfter m rs k = times (cycle m) k (startAt 0 rs)
+-- the machine m after k cycles from state q₀ with registers rs, on the words ws
+abbrev pub machineAfter : Runner → Supply → ℕ → List ℕ → ℕ → Configuration
+machineAfter m ws q₀ rs k = times m ws k (startAt q₀ rs)
 
 -- a block's state
 abbrev pub stateIn : Groups → ℕ → ℕ
 stateIn s b = getD (s .states) b none
 
--- Graph and machine after k cycles, both from registers rs.
-pub record AgreeAfter (g : CFG) (s : Groups) (m : FSMD) (rs : List ℕ) (k : ℕ) : Type 0 where
+abbrev pub placeIn : Groups → Place → Place
+placeIn s (standing b) = standing (stateIn s b)
+placeIn s halted = halted
+
+-- what a graph's configuration is in the machine: the block's state, and all else equal
+abbrev pub inState : Groups → Configuration → Configuration
+inState s c = record { place = placeIn s (c .place); registers = c .registers; arrivals = c .arrivals }
+
+-- Graph and machine after k cycles, from the starter b₀ and its state, both with registers rs, on equal words.
+pub record AgreeAfter (g : CFG) (s : Groups) (m : Runner) (ws : Supply) (b₀ : ℕ) (rs : List ℕ) (k : ℕ) : Type 0 where
   -- the graph reaches arrival k, or halts without reaching it; never both
-  pub either : (n : ℕ) × EndOfCycle g (s .starters) rs k n
-  pub apart : (n b : ℕ) (q : List ℕ) → Arrival g (s .starters) rs k n b q → (n′ : ℕ) (q′ : List ℕ) → HaltBefore g (s .starters) rs k n′ q′ → ⊥
+  pub either : (n : ℕ) × EndOfCycle g (s .starters) ws b₀ rs k n
+  pub apart : (n b : ℕ) (q : List ℕ) → Arrival g (s .starters) ws b₀ rs k n b q → (n′ : ℕ) (q′ : List ℕ) → HaltBefore g (s .starters) ws b₀ rs k n′ q′ → ⊥
   -- the machine has halted exactly when the graph's run halts without reaching arrival k, and then both have equal registers
-  pub halts : (q : List ℕ) → (machineAfter m rs k ≡ haltedWith q) ↔ ((n : ℕ) × HaltBefore g (s .starters) rs k n q)
+  pub halts : (q : List ℕ)
+      → ((machineAfter m ws (stateIn s b₀) rs k .place ≡ halted) × (machineAfter m ws (stateIn s b₀) rs k .registers ≡ q))
+      ↔ ((n : ℕ) × HaltBefore g (s .starters) ws b₀ rs k n q)
   -- otherwise the graph reaches arrival k, and the machine stands in its starter's state with equal registers
   pub stands : (b : ℕ) (q : List ℕ) → mem b (s .starters) ≡ true
-      → (machineAfter m rs k ≡ startAt (stateIn s b) q) ↔ ((n : ℕ) × Arrival g (s .starters) rs k n b q)
+      → (machineAfter m ws (stateIn s b₀) rs k ≡ standsAt k (stateIn s b) q) ↔ ((n : ℕ) × Arrival g (s .starters) ws b₀ rs k n b q)
   -- in the next cycle the graph runs at least one block and at most as many as the state has
-  pub blocks : (n b : ℕ) (q : List ℕ) → Arrival g (s .starters) rs k n b q → (n′ : ℕ) → EndOfCycle g (s .starters) rs (suc k) n′
+  pub blocks : (n b : ℕ) (q : List ℕ) → Arrival g (s .starters) ws b₀ rs k n b q → (n′ : ℕ) → EndOfCycle g (s .starters) ws b₀ rs (suc k) n′
       → (n + 1 ≤ n′) × (n′ ≤ n + length (members g s (stateIn s b)))
 
--- ---- Run machine on a table from state 0, with a register buffer and budget k
+-- ---- whole runs with budgets, on equal words
+
+-- With a budget of n blocks the graph's run ends as the machine's with k cycles: spent, halted or dry alike,
+-- at the same arrival with equal registers, the one at a starter and the other in its state.
+pub record SameEnd (g : CFG) (s : Groups) (m : Runner) (ws : Supply) (b₀ : ℕ) (rs : List ℕ) (k n : ℕ) : Type 0 where
+  pub outcome : outcomeOf (answer (graphRunner g (s .starters)) ws n (startAt b₀ rs)) ≡ outcomeOf (answer m ws k (startAt (stateIn s b₀) rs))
+  pub same : machineAfter m ws (stateIn s b₀) rs k ≡ inState s (graphAfter g (s .starters) ws b₀ rs n)
+  pub starter : (b : ℕ) → graphAfter g (s .starters) ws b₀ rs n .place ≡ standing b → mem b (s .starters) ≡ true
+
+-- There is a budget of blocks at which they do and, where the machine's run is halted or dry, from which on they do.
+pub record RunsAlike (g : CFG) (s : Groups) (m : Runner) (ws : Supply) (b₀ : ℕ) (rs : List ℕ) (k : ℕ) : Type 0 where
+  pub blocks : ℕ
+  pub at : SameEnd g s m ws b₀ rs k blocks
+  pub beyond : outcomeOf (answer m ws k (startAt (stateIn s b₀) rs)) ≢ 0 → (n : ℕ) → blocks ≤ n → SameEnd g s m ws b₀ rs k n
+
+-- ---- Run machine on a table from state q₀, with a register buffer and budget k, on the words ws
 
 -- c is the number of the cycle in which the machine halts
-pub record HaltingCycle (m : FSMD) (rs : List ℕ) (c : ℕ) : Type 0 where
-  pub running : (i : ℕ) → i < c → machineAfter m rs i .place ≢ halted
-  pub stopped : machineAfter m rs c .place ≡ halted
+pub record HaltingCycle (m : Runner) (ws : Supply) (q₀ : ℕ) (rs : List ℕ) (c : ℕ) : Type 0 where
+  pub running : (i : ℕ) → i < c → goes ws (machineAfter m ws q₀ rs i) ≡ true
+  pub stopped : machineAfter m ws q₀ rs c .place ≡ halted
+
+-- after c cycles, fewer than k, the machine makes arrival c, for which there is no word
+pub record DryCycle (m : Runner) (ws : Supply) (q₀ : ℕ) (rs : List ℕ) (k c : ℕ) : Type 0 where
+  pub running : (i : ℕ) → i < c → goes ws (machineAfter m ws q₀ rs i) ≡ true
+  pub standing : machineAfter m ws q₀ rs c .place ≢ halted
+  pub arrival : machineAfter m ws q₀ rs c .arrivals ≡ c
+  pub dry : ws .lasts c ≡ false
+  pub left : c < k
 
 -- the state stood in, or 255
 abbrev pub stoodIn : Place → ℕ
@@ -95,33 +117,83 @@ stoodIn (standing k) = k
 stoodIn halted = none
 
 -- the answer a of k cycles from the buffer's registers, and the buffer after, where not refused
-pub record Answers (m : FSMD) (k : ℕ) (buffer after : List ℕ) (a : RunAnswer) : Type 0 where
+pub record Answers (m : Runner) (ws : Supply) (q₀ k : ℕ) (buffer after : List ℕ) (a : RunAnswer) : Type 0 where
   -- halted exactly when the machine has halted after k cycles
-  pub halts : (haltedOf a ≡ 1) ↔ (machineAfter m (take maxRegisters buffer) k .place ≡ halted)
+  pub halts : (outcomeOf a ≡ 1) ↔ (machineAfter m ws q₀ (take maxRegisters buffer) k .place ≡ halted)
   -- the registers of that moment, words past 16 as before
-  pub registers : after ≡ machineAfter m (take maxRegisters buffer) k .registers ++ drop maxRegisters buffer
+  pub registers : after ≡ machineAfter m ws q₀ (take maxRegisters buffer) k .registers ++ drop maxRegisters buffer
   -- the state then stood in, or 255
-  pub next : nextOf a ≡ stoodIn (machineAfter m (take maxRegisters buffer) k .place)
-  -- the count: k, or the halting cycle's number
-  pub spent : haltedOf a ≡ 0 → countOf a ≡ k
-  pub ended : haltedOf a ≡ 1 → HaltingCycle m (take maxRegisters buffer) (countOf a)
+  pub next : nextOf a ≡ stoodIn (machineAfter m ws q₀ (take maxRegisters buffer) k .place)
+  -- the count: k, or the halting cycle's number, or the cycles before the arrival that has no word
+  pub spent : outcomeOf a ≡ 0 → countOf a ≡ k
+  pub ended : outcomeOf a ≡ 1 → HaltingCycle m ws q₀ (take maxRegisters buffer) (countOf a)
+  pub dried : outcomeOf a ≡ 2 → DryCycle m ws q₀ (take maxRegisters buffer) k (countOf a)
 
-pub record RunAgrees (table buffer : List ℕ) (k : ℕ) : Type 0 where
+pub record RunAgrees (table buffer : List ℕ) (ws : Supply) (q₀ k : ℕ) : Type 0 where
   -- never refused 9 or 10, and not at all where the buffer has its 16 words
-  pub not9 : numberOf (runAnswer table buffer 0 k) ≢ 9
-  pub not10 : numberOf (runAnswer table buffer 0 k) ≢ 10
-  pub accepted : maxRegisters ≤ length buffer → numberOf (runAnswer table buffer 0 k) ≡ 0
-  pub answers : numberOf (runAnswer table buffer 0 k) ≡ 0 → Answers (machineOf table) k buffer (runRegisters table buffer 0 k) (runAnswer table buffer 0 k)
+  pub not9 : numberOf (runAnswer ws table buffer q₀ k) ≢ 9
+  pub not10 : numberOf (runAnswer ws table buffer q₀ k) ≢ 10
+  pub accepted : maxRegisters ≤ length buffer → numberOf (runAnswer ws table buffer q₀ k) ≡ 0
+  pub answers : numberOf (runAnswer ws table buffer q₀ k) ≡ 0
+      → Answers (machineRunner (machineOf table)) ws q₀ k buffer (runRegisters ws table buffer q₀ k) (runAnswer ws table buffer q₀ k)
+
+-- ---- Run graph with words and starters beside Run machine with words
+
+-- the graph's answer and buffer, and the machine's: the same outcome, equal registers, and next the starter of the machine's next state
+pub record SameAnswer (s : Groups) (graph machine : RunAnswer) (after after′ : List ℕ) : Type 0 where
+  pub accepted : (numberOf graph ≡ 0) × (numberOf machine ≡ 0)
+  pub outcome : outcomeOf graph ≡ outcomeOf machine
+  pub registers : after ≡ after′
+  pub next : (outcomeOf machine ≡ 1) ⊎ ((mem (nextOf graph) (s .starters) ≡ true) × (nextOf machine ≡ stateIn s (nextOf graph)))
+
+module _ (graphTable machineTable : List ℕ) (s : Groups) (buffer words starters : List ℕ) (b₀ k : ℕ) where
+  -- with a budget of n blocks and one of k cycles
+  abbrev pub Alike : ℕ → Type 0
+  Alike n =
+      SameAnswer s (wordsAnswer graphTable buffer b₀ n words starters) (runAnswer (listed words) machineTable buffer (stateIn s b₀) k)
+      (wordsRegisters graphTable buffer b₀ n words starters) (runRegisters (listed words) machineTable buffer (stateIn s b₀) k)
+
+  -- there is a budget of blocks at which they are and, where the machine's run is halted or dry, from which on they are
+  pub record OperationsAlike : Type 0 where
+    pub blocks : ℕ
+    pub at : Alike blocks
+    pub beyond : outcomeOf (runAnswer (listed words) machineTable buffer (stateIn s b₀) k) ≢ 0 → (n : ℕ) → blocks ≤ n → Alike n
 
 -- ---- demand 3, on the words of a graph table and a machine table
 
+-- there is a word for each arrival below k: any k without words, and k up to its length on a list
+abbrev pub LastsTo : Supply → ℕ → Type 0
+LastsTo ws k = (j : ℕ) → j < k → ws .lasts j ≡ true
+
+-- Synthesise's machine and its graph, from every starter and its state, on equal words
 pub record Agreement (graphTable machineTable : List ℕ) : Type 0 where
-  pub agree : (rs : List ℕ) → length rs ≡ maxRegisters → (k : ℕ)
-      → AgreeAfter (graphOf graphTable) (groups (graphOf graphTable)) (machineOf machineTable) rs k
-  -- a halted machine's further cycles change nothing
-  pub idle : (c : Configuration) → c .place ≡ halted → cycle (machineOf machineTable) c ≡ c
+  pub agree : (ws : Supply) (b₀ : ℕ) → mem b₀ (groups (graphOf graphTable) .starters) ≡ true → (rs : List ℕ) → length rs ≡ maxRegisters
+      → (k : ℕ) → LastsTo ws k → AgreeAfter (graphOf graphTable) (groups (graphOf graphTable)) (machineRunner (machineOf machineTable)) ws b₀ rs k
+  -- every k, also where the words do not last
+  pub alike : (ws : Supply) (b₀ : ℕ) → mem b₀ (groups (graphOf graphTable) .starters) ≡ true → (rs : List ℕ) → length rs ≡ maxRegisters
+      → (k : ℕ) → RunsAlike (graphOf graphTable) (groups (graphOf graphTable)) (machineRunner (machineOf machineTable)) ws b₀ rs k
+  -- every k, and so each that a budget can hold
+  pub runs : (ws : Supply) (b₀ : ℕ) → mem b₀ (groups (graphOf graphTable) .starters) ≡ true → (buffer : List ℕ)
+      → (k : ℕ) → RunAgrees machineTable buffer ws (stateIn (groups (graphOf graphTable)) b₀) k
+  -- a starter list that holds the machine's starters and no others
+  pub operations : (words starters : List ℕ) → ((b : ℕ) → mem b starters ≡ mem b (groups (graphOf graphTable) .starters))
+      → (b₀ : ℕ) → mem b₀ (groups (graphOf graphTable) .starters) ≡ true → (buffer : List ℕ) → maxRegisters ≤ length buffer
+      → (k : ℕ) → OperationsAlike graphTable machineTable (groups (graphOf graphTable)) buffer words starters b₀ k
+  -- further cycles of a machine that has halted or is dry change nothing
+  pub idle : (ws : Supply) (c : Configuration) → goes ws c ≡ false → step (machineRunner (machineOf machineTable)) ws c ≡ c
   -- each wire reads only registers at the start of the cycle and earlier wires
   pub wires : (k : ℕ) → k < length (machineOf machineTable .states)
       → validState (machineOf machineTable .registers) (stateOf (machineOf machineTable) k) ≡ true
-  -- every k, and so each that a budget can hold
-  pub runs : (buffer : List ℕ) (k : ℕ) → RunAgrees machineTable buffer k
+
+-- Demand 3 without words: from block 0 and state 0, for graphs without code 20, whose machine has none either.
+pub record AgreementWithoutWords (graphTable machineTable : List ℕ) : Type 0 where
+  pub agree : (rs : List ℕ) → length rs ≡ maxRegisters → (k : ℕ)
+      → AgreeAfter (graphOf graphTable) (groups (graphOf graphTable)) (machineRunner (machineOf machineTable)) unread 0 rs k
+  pub begins : stateIn (groups (graphOf graphTable)) 0 ≡ 0
+  pub silent : wordless (graphOf graphTable) ≡ true → wordlessMachine (machineOf machineTable) ≡ true
+  pub runs : (buffer : List ℕ) (k : ℕ) → RunAgrees machineTable buffer unread 0 k
+  -- the graph's run without words, which knows no starters, goes through the same places and registers
+  pub unmarked : (rs : List ℕ) (n : ℕ)
+      → let run = graphAfter (graphOf graphTable) [] unread 0 rs n in
+      let marked = graphAfter (graphOf graphTable) (groups (graphOf graphTable) .starters) unread 0 rs n in
+      (run .place ≡ marked .place) × (run .registers ≡ marked .registers)

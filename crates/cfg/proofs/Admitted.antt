@@ -2,6 +2,7 @@
 use Prim.Native.Nat.{ℕ, _+_, _-_, _≤_, _<_}
 use native.Mathlib.Omega.{arith}
 use mathlib.Core.Path.{_≡_, refl, sym, ap, _∙_}
+use mathlib.Core.Logic.{_⊎_, inl, inr}
 use mathlib.Core.Bool.{Bool, true, false, _&&_, _||_}
 use mathlib.Core.List.{List, [], _∷_}
 use lib.Dec.{eqb, leb, ltb}
@@ -18,7 +19,7 @@ use Rattle.cfg.specs.declared.Ending.{Ending}
 use Rattle.cfg.specs.declared.Ending.the-variants.{Goto, Ite, Halt}
 use Rattle.cfg.specs.declared.Block.{Block}
 use Rattle.cfg.specs.Layout.{maxBlocks, maxRegisters, maxInstructions, graphWords}
-use Rattle.cfg.specs.Graph.{CFG, noInstruction, emptyBlock, blockOf, codeOf, targets, successors, validInstruction, validEnding, unused, validBlock, validGraph}
+use Rattle.cfg.specs.Graph.{CFG, noInstruction, emptyBlock, blockOf, codeOf, targets, successors, instructionCode, validInstruction, validEnding, unused, validBlock, validGraph}
 use Rattle.cfg.specs.Table.{tableOf, blockAt, graphOf, admitted}
 
 -- ---- the blocks of a table
@@ -46,11 +47,11 @@ no-successors t n h = rw (block-past t n h)
 -- ---- valid instructions, endings and blocks
 
 pub record ValidInstruction (r : ℕ) (i : Instruction) : Type 0 where
-  pub codeLow : 1 ≤ i .code
-  pub codeHigh : i .code ≤ 11
+  pub known : ((1 ≤ i .code) × (i .code ≤ 11)) ⊎ (i .code ≡ 20)
   pub written : i .d < r
   -- of a set the first operand is a literal
-  pub first : (i .code ≡ 1 → ⊥) → i .a < r
+  pub first : 0 < arity (i .code) → (i .code ≡ 1 → ⊥) → i .a < r
+  pub noFirst : arity (i .code) ≡ 0 → i .a ≡ 0
   pub second : arity (i .code) ≡ 2 → i .b < r
   pub noSecond : (arity (i .code) ≡ 2 → ⊥) → i .b ≡ 0
 
@@ -83,24 +84,33 @@ choose-false : (c a b : Bool) → choose c a b ≡ true → c ≡ false → b �
 choose-false true a b h e = absurd (let z : _≡_ {A = ℕ} 0 1 = cc in omega arith)
 choose-false false a b h e = h
 
+known-code : (k : ℕ) → instructionCode k ≡ true → ((1 ≤ k) × (k ≤ 11)) ⊎ (k ≡ 20)
+known-code k h = go (leb 1 k && leb k 11) refl
+  where
+    go : (b : Bool) → (leb 1 k && leb k 11) ≡ b → ((1 ≤ k) × (k ≤ 11)) ⊎ (k ≡ 20)
+    go true e = inl (leb-true 1 k (and-left (leb 1 k) (leb k 11) e), leb-true k 11 (and-right (leb 1 k) (leb k 11) e))
+    go false e = inr (eqb-true k 20 (either (leb 1 k && leb k 11) (eqb k 20) h e))
+
 pub valid-instruction : (r : ℕ) (i : Instruction) → validInstruction r i ≡ true → ValidInstruction r i
 unfolding validInstruction
 valid-instruction r i h =
-    let low = leb 1 (i .code) in
-    let high = leb (i .code) 11 in
+    let n = arity (i .code) in
+    let k = instructionCode (i .code) in
     let d = ltb (i .d) r in
-    let a = eqb (i .code) 1 || ltb (i .a) r in
-    let b = choose (eqb (arity (i .code)) 2) (ltb (i .b) r) (eqb (i .b) 0) in
-    let h₃ = and-left (low && high && d && a) b h in
-    let h₂ = and-left (low && high && d) a h₃ in
-    let h₁ = and-left (low && high) d h₂ in
+    let a′ = eqb (i .code) 1 || ltb (i .a) r in
+    let a = choose (eqb n 0) (eqb (i .a) 0) a′ in
+    let b = choose (eqb n 2) (ltb (i .b) r) (eqb (i .b) 0) in
+    let h₂ = and-left (k && d && a) b h in
+    let h₁ = and-left (k && d) a h₂ in
+    let firsts = and-right (k && d) a h₂ in
+    let seconds = and-right (k && d && a) b h in
     record {
-      codeLow = leb-true 1 (i .code) (and-left low high h₁);
-      codeHigh = leb-true (i .code) 11 (and-right low high h₁);
-      written = ltb-true (i .d) r (and-right (low && high) d h₂);
-      first = λ e. ltb-true (i .a) r (either (eqb (i .code) 1) (ltb (i .a) r) (and-right (low && high && d) a h₃) (ne-eqb (i .code) 1 e));
-      second = λ e. ltb-true (i .b) r (choose-true (eqb (arity (i .code)) 2) (ltb (i .b) r) (eqb (i .b) 0) (and-right (low && high && d && a) b h) (eq-eqb (arity (i .code)) 2 e));
-      noSecond = λ e. eqb-true (i .b) 0 (choose-false (eqb (arity (i .code)) 2) (ltb (i .b) r) (eqb (i .b) 0) (and-right (low && high && d && a) b h) (ne-eqb (arity (i .code)) 2 e));
+      known = known-code (i .code) (and-left k d h₁);
+      written = ltb-true (i .d) r (and-right k d h₁);
+      first = λ o e. ltb-true (i .a) r (either (eqb (i .code) 1) (ltb (i .a) r) (choose-false (eqb n 0) (eqb (i .a) 0) a′ firsts (ne-eqb n 0 (λ z. omega arith))) (ne-eqb (i .code) 1 e));
+      noFirst = λ e. eqb-true (i .a) 0 (choose-true (eqb n 0) (eqb (i .a) 0) a′ firsts (eq-eqb n 0 e));
+      second = λ e. ltb-true (i .b) r (choose-true (eqb n 2) (ltb (i .b) r) (eqb (i .b) 0) seconds (eq-eqb n 2 e));
+      noSecond = λ e. eqb-true (i .b) 0 (choose-false (eqb n 2) (ltb (i .b) r) (eqb (i .b) 0) seconds (ne-eqb n 2 e));
     }
 
 pub valid-ending : (b r : ℕ) (e : Ending) → validEnding b r e ≡ true → ValidEnding b r e

@@ -10,15 +10,16 @@ use lib.ListN.{length, getD, take, drop, set, drop-of-length-le}
 use lib.Seq.{drop-cons, getD-take, length-take-le}
 use borrow.Author.Tests.{eqb-true, eqb-false, eq-eqb, ne-eqb, lt-ltb, le-ltb}
 use Rattle.word.specs.Word.{choose, evalOf, arity}
-use Rattle.runs.specs.Runs.{Place, standing, halted, Configuration, startAt, answer, registersAfter}
+use Rattle.runs.specs.Lists.{mem}
+use Rattle.runs.specs.Runs.{Place, standing, halted, Configuration, standsAt, startAt, Supply, unread, moved, step, answer, registersAfter}
 use Rattle.runs.specs.declared.RunAnswer.the-variants.{Refused}
-use Rattle.runs.proofs.RunLaws.{Reached, reached-step}
+use Rattle.runs.proofs.RunLaws.{goes-standing, step-going, Reached, reached-step}
 use Rattle.cfg.specs.declared.Instruction.{Instruction}
 use Rattle.cfg.specs.declared.Ending.{Ending}
 use Rattle.cfg.specs.declared.Ending.the-variants.{Goto, Ite, Halt}
 use Rattle.cfg.specs.declared.Block.{Block}
 use Rattle.cfg.specs.Layout.{maxRegisters, graphWords}
-use Rattle.cfg.specs.Graph.{CFG, noInstruction, blockOf, codeOf, execute, executeAll, holds, leave, runBlock, step}
+use Rattle.cfg.specs.Graph.{noInstruction, codeOf, execute, executeAll, holds, leave, runBlock, graphRunner}
 use Rattle.cfg.specs.Table.{blockAt, graphOf, admitted}
 use Rattle.cfg.specs.Run.{refusal, runAnswer, runRegisters}
 use Rattle.cfg.specs.Steps.{Within, EndingWithin, BlockWithin}
@@ -27,28 +28,28 @@ use Rattle.cfg.proofs.Admitted.{Admitted, ValidInstruction, ValidEnding
 
 -- ---- one instruction
 
-module _ (k a x y : ℕ) where
+module _ (s k a x y : ℕ) where
   -- a set's value is its literal
-  pub value-set : k ≡ 1 → evalOf k (choose (eqb k 1) a x) y 0 ≡ a
+  pub value-set : k ≡ 1 → evalOf s k (choose (eqb k 1) a x) y 0 ≡ a
   unfolding evalOf
   value-set h =
       let first : choose (eqb k 1) a x ≡ a = rw (eq-eqb k 1 h) in
-      ap (λ (z : ℕ). evalOf k z y 0) first ∙ rw h
+      ap (λ (z : ℕ). evalOf s k z y 0) first ∙ rw h
 
-  pub value-other : (k ≡ 1 → ⊥) → evalOf k (choose (eqb k 1) a x) y 0 ≡ evalOf k x y 0
+  pub value-other : (k ≡ 1 → ⊥) → evalOf s k (choose (eqb k 1) a x) y 0 ≡ evalOf s k x y 0
   value-other h = rw (ne-eqb k 1 h)
 
-execute-opens : (i : Instruction) (rs : List ℕ)
-    → execute i rs ≡ set rs (i .d) (evalOf (i .code) (choose (eqb (i .code) 1) (i .a) (getD rs (i .a) 0)) (getD rs (i .b) 0) 0)
+execute-opens : (s : ℕ) (i : Instruction) (rs : List ℕ)
+    → execute s i rs ≡ set rs (i .d) (evalOf s (i .code) (choose (eqb (i .code) 1) (i .a) (getD rs (i .a) 0)) (getD rs (i .b) 0) 0)
 unfolding execute
-execute-opens i rs = refl
+execute-opens s i rs = refl
 
 -- only registers of the file are read, so their numbers may be taken modulo 16
-pub execute-is : (i : Instruction) (rs : List ℕ) → Within i
-    → execute i rs ≡ set rs (i .d) (evalOf (i .code) (choose (eqb (i .code) 1) (i .a) (getD rs (i .a % maxRegisters) 0)) (getD rs (i .b % maxRegisters) 0) 0)
-execute-is i rs w =
+pub execute-is : (s : ℕ) (i : Instruction) (rs : List ℕ) → Within i
+    → execute s i rs ≡ set rs (i .d) (evalOf s (i .code) (choose (eqb (i .code) 1) (i .a) (getD rs (i .a % maxRegisters) 0)) (getD rs (i .b % maxRegisters) 0) 0)
+execute-is s i rs w =
     let second : i .b % maxRegisters ≡ i .b = (let l = w .second in omega arith) in
-    execute-opens i rs ∙ rw second (ap (λ (z : ℕ). set rs (i .d) (evalOf (i .code) z (getD rs (i .b) 0) 0)) (first (eqb (i .code) 1) refl))
+    execute-opens s i rs ∙ rw second (ap (λ (z : ℕ). set rs (i .d) (evalOf s (i .code) z (getD rs (i .b) 0) 0)) (first (eqb (i .code) 1) refl))
   where
     first : (t : Bool) → eqb (i .code) 1 ≡ t → choose t (i .a) (getD rs (i .a) 0) ≡ choose t (i .a) (getD rs (i .a % maxRegisters) 0)
     first true e = refl
@@ -59,37 +60,44 @@ execute-is i rs w =
 
 -- ---- a block's instructions, one after another
 
-execute-nil : (rs : List ℕ) → executeAll [] rs ≡ rs
+execute-nil : (s : ℕ) (rs : List ℕ) → executeAll s [] rs ≡ rs
 unfolding executeAll
-execute-nil rs = refl
+execute-nil s rs = refl
 
-execute-cons : (i : Instruction) (is : List Instruction) (rs : List ℕ) → executeAll (i ∷ is) rs ≡ executeAll is (execute i rs)
+execute-cons : (s : ℕ) (i : Instruction) (is : List Instruction) (rs : List ℕ) → executeAll s (i ∷ is) rs ≡ executeAll s is (execute s i rs)
 unfolding executeAll
-execute-cons i is rs = refl
+execute-cons s i is rs = refl
 
-module _ (k : Block) (fits : k .count ≤ length (k .instructions)) where
+module _ (s : ℕ) (k : Block) (fits : k .count ≤ length (k .instructions)) where
   pub code-next : (i : ℕ) (rs : List ℕ) → i < k .count
-      → executeAll (drop i (codeOf k)) rs ≡ executeAll (drop (i + 1) (codeOf k)) (execute (getD (k .instructions) i noInstruction) rs)
+      → executeAll s (drop i (codeOf k)) rs ≡ executeAll s (drop (i + 1) (codeOf k)) (execute s (getD (k .instructions) i noInstruction) rs)
   code-next i rs h =
       let n = length-take-le (k .count) (k .instructions) fits in
       let e = getD-take (k .count) (k .instructions) i noInstruction h in
-      ap (λ (l : List Instruction). executeAll l rs) (drop-cons (codeOf k) i noInstruction (omega arith))
-      ∙ execute-cons (getD (codeOf k) i noInstruction) (drop (suc i) (codeOf k)) rs
+      ap (λ (l : List Instruction). executeAll s l rs) (drop-cons (codeOf k) i noInstruction (omega arith))
+      ∙ execute-cons s (getD (codeOf k) i noInstruction) (drop (suc i) (codeOf k)) rs
       ∙ rw (e, add-one)
 
-  pub code-done : (i : ℕ) (rs : List ℕ) → k .count ≤ i → executeAll (drop i (codeOf k)) rs ≡ rs
+  pub code-done : (i : ℕ) (rs : List ℕ) → k .count ≤ i → executeAll s (drop i (codeOf k)) rs ≡ rs
   code-done i rs h =
       let n = length-take-le (k .count) (k .instructions) fits in
-      ap (λ (l : List Instruction). executeAll l rs) (drop-of-length-le (codeOf k) {i = i} (omega arith)) ∙ execute-nil rs
+      ap (λ (l : List Instruction). executeAll s l rs) (drop-of-length-le (codeOf k) {i = i} (omega arith)) ∙ execute-nil s rs
 
 -- ---- what admission gives of a block that is run
 
+nonzero : {n : ℕ} → (n ≡ 0 → ⊥) → 0 < n
+nonzero {n} h = omega arith
+
 within-valid : (r : ℕ) (i : Instruction) → 1 ≤ r → r ≤ maxRegisters → ValidInstruction r i → Within i
 within-valid r i s h v = record {
-  first = λ e. let l = v .first e in omega arith;
+  first = low (eqb (arity (i .code)) 0) refl;
   second = go (eqb (arity (i .code)) 2) refl;
 }
   where
+    low : (t : Bool) → eqb (arity (i .code)) 0 ≡ t → (i .code ≡ 1 → ⊥) → i .a < maxRegisters
+    low true z e = let l = v .noFirst (eqb-true (arity (i .code)) 0 z) in omega arith
+    low false z e = let o = eqb-false (arity (i .code)) 0 z in let l = v .first (nonzero o) e in omega arith
+
     go : (t : Bool) → eqb (arity (i .code)) 2 ≡ t → i .b < maxRegisters
     go true e = let l = v .second (eqb-true (arity (i .code)) 2 e) in omega arith
     go false e = let l = v .noSecond (eqb-false (arity (i .code)) 2 e) in omega arith
@@ -136,32 +144,27 @@ next-below t a n l rs m h = leave-below (getD t 0 0) (getD t 1 0) (blockAt t n .
 
 -- ---- one step
 
-pub halted-stays : (g : CFG) (c : Configuration) → c .place ≡ halted → step g c ≡ c
-unfolding step
-halted-stays g c h = rw h
-
-run-is : (k : Block) (rs : List ℕ) → runBlock k rs ≡ record { place = leave (k .ending) (executeAll (codeOf k) rs); registers = executeAll (codeOf k) rs }
+run-is : (w : ℕ) (k : Block) (rs : List ℕ)
+    → runBlock w k rs ≡ record { place = leave (k .ending) (executeAll w (codeOf k) rs); registers = executeAll w (codeOf k) rs }
 unfolding runBlock
-run-is k rs = refl
+run-is w k rs = refl
 
-step-is : (g : CFG) (n : ℕ) (rs : List ℕ) → step g (startAt n rs) ≡ runBlock (blockOf g n) rs
-unfolding step
-step-is g n rs = refl
-
--- the block stood at is run
-pub step-block : (t : List ℕ) (n : ℕ) (rs : List ℕ) → n < getD t 0 0
-    → step (graphOf t) (startAt n rs)
-    ≡ record { place = leave (blockAt t n .ending) (executeAll (codeOf (blockAt t n)) rs); registers = executeAll (codeOf (blockAt t n)) rs }
-step-block t n rs h = step-is (graphOf t) n rs ∙ ap (λ (k : Block). runBlock k rs) (block-below t n h) ∙ run-is (blockAt t n) rs
-
--- a turn of the loop
-pub turn : (t : List ℕ) (budget : ℕ) (c₀ : Configuration) (count n : ℕ) (rs after : List ℕ) (p : Place) → n < getD t 0 0 → count < budget
-    → Reached (step (graphOf t)) budget c₀ count (startAt n rs)
-    → after ≡ executeAll (codeOf (blockAt t n)) rs
+-- a turn of the loop, from arrival k, for which there is a word
+pub turn : (t starters : List ℕ) (ws : Supply) (budget : ℕ) (c₀ : Configuration) (count k n : ℕ) (rs after : List ℕ) (p : Place)
+    → n < getD t 0 0 → count < budget → ws .lasts k ≡ true
+    → Reached (graphRunner (graphOf t) starters) ws budget c₀ count (standsAt k n rs)
+    → after ≡ executeAll (ws .word k) (codeOf (blockAt t n)) rs
     → p ≡ leave (blockAt t n .ending) after
-    → Reached (step (graphOf t)) budget c₀ (count + 1) (record { place = p; registers = after })
-turn t budget c₀ count n rs after p l h r e q =
-    rw (q, e, ← step-block t n rs l) (reached-step (step (graphOf t)) budget c₀ count (startAt n rs) r n refl h)
+    → Reached (graphRunner (graphOf t) starters) ws budget c₀ (count + 1) (moved (λ b. mem b starters) k (record { place = p; registers = after }))
+turn t starters ws budget c₀ count k n rs after p l h w r e q =
+    let g = graphRunner (graphOf t) starters in
+    let c = standsAt k n rs in
+    let m : step g ws c ≡ moved (g .arrives) k (record { place = p; registers = after }) =
+    step-going g ws c n refl w
+    ∙ ap (λ (b : Block). moved (g .arrives) k (runBlock (ws .word k) b rs)) (block-below t n l)
+    ∙ ap (moved (g .arrives) k) (run-is (ws .word k) (blockAt t n) rs)
+    ∙ rw (← e, ← q) in
+    rw (← m) (reached-step g ws budget c₀ count c r (goes-standing ws c n refl w) h)
 
 -- ---- refusals, and the answer where there is none
 
@@ -195,14 +198,14 @@ module _ (t rs : List ℕ) (start : ℕ) where
 module _ (t rs : List ℕ) (start budget : ℕ) where
   answer-is : runAnswer t rs start budget
       ≡ choose (eqb (refusal t rs start) 0)
-      (answer (step (graphOf t)) budget (startAt start (take maxRegisters rs)))
+      (answer (graphRunner (graphOf t) []) unread budget (startAt start (take maxRegisters rs)))
       (Refused (refusal t rs start))
   unfolding runAnswer
   answer-is = refl
 
   after-is : runRegisters t rs start budget
       ≡ choose (eqb (refusal t rs start) 0)
-      (registersAfter (step (graphOf t)) budget (startAt start (take maxRegisters rs)) ++ drop maxRegisters rs)
+      (registersAfter (graphRunner (graphOf t) []) unread budget (startAt start (take maxRegisters rs)) ++ drop maxRegisters rs)
       rs
   unfolding runRegisters
   after-is = refl
@@ -215,9 +218,9 @@ module _ (t rs : List ℕ) (start budget : ℕ) where
     refused-registers = after-is ∙ rw (h, ne-eqb (suc n) 0 (λ e. omega arith))
 
   module _ (h : refusal t rs start ≡ 0) where
-    pub accepted : runAnswer t rs start budget ≡ answer (step (graphOf t)) budget (startAt start (take maxRegisters rs))
+    pub accepted : runAnswer t rs start budget ≡ answer (graphRunner (graphOf t) []) unread budget (startAt start (take maxRegisters rs))
     accepted = answer-is ∙ rw h
 
     pub accepted-registers : runRegisters t rs start budget
-        ≡ registersAfter (step (graphOf t)) budget (startAt start (take maxRegisters rs)) ++ drop maxRegisters rs
+        ≡ registersAfter (graphRunner (graphOf t) []) unread budget (startAt start (take maxRegisters rs)) ++ drop maxRegisters rs
     accepted-registers = after-is ∙ rw h

@@ -1,12 +1,12 @@
 -- A control-flow graph and what it does ("The graph" and "Runs" of paper 01). Assumes nothing.
-use Prim.Native.Nat.{ℕ, _+_}
-use mathlib.Core.Bool.{Bool, true, false, _&&_, _||_}
+use Prim.Native.Nat.{ℕ}
+use mathlib.Core.Bool.{Bool, true, false, not, _&&_, _||_}
 use mathlib.Core.List.{List, [], _∷_}
 use lib.ListN.{length, getD, set, take, drop, replicate}
 use lib.Dec.{eqb, leb, ltb}
 use Rattle.word.specs.Word.{choose, evalOf, arity, compareOf}
-use Rattle.runs.specs.Lists.{every}
-use Rattle.runs.specs.Runs.{Place, standing, halted, Configuration, onward}
+use Rattle.runs.specs.Lists.{mem, every}
+use Rattle.runs.specs.Runs.{Place, standing, halted, Moved, Runner}
 use Rattle.cfg.specs.declared.Instruction.{Instruction}
 use Rattle.cfg.specs.declared.Condition.{Condition}
 use Rattle.cfg.specs.declared.Ending.{Ending}
@@ -41,22 +41,22 @@ targets Halt = []
 abbrev pub successors : CFG → ℕ → List ℕ
 successors g n = targets (blockOf g n .ending)
 
--- ---- what a block does
+-- ---- what a block does, where `sampled` is the word of the last arrival
 
 -- the word that code k gives of operands a and b, where `at` reads a register; a set's a is its literal
-abbrev pub valueOf : (ℕ → ℕ) → ℕ → ℕ → ℕ → ℕ
-valueOf at k a b = evalOf k (choose (eqb k 1) a (at a)) (at b) 0
+abbrev pub valueOf : ℕ → (ℕ → ℕ) → ℕ → ℕ → ℕ → ℕ
+valueOf sampled at k a b = evalOf sampled k (choose (eqb k 1) a (at a)) (at b) 0
 
 -- an instruction writes one register and no other
-unfoldable pub execute : Instruction → List ℕ → List ℕ
+unfoldable pub execute : ℕ → Instruction → List ℕ → List ℕ
 unfolding evalOf
-execute i rs = set rs (i .d) (valueOf (λ r. getD rs r 0) (i .code) (i .a) (i .b))
+execute sampled i rs = set rs (i .d) (valueOf sampled (λ r. getD rs r 0) (i .code) (i .a) (i .b))
 
 -- in order, each seeing the one before
-unfoldable pub executeAll : List Instruction → List ℕ → List ℕ
+unfoldable pub executeAll : ℕ → List Instruction → List ℕ → List ℕ
 unfolding execute
-executeAll [] rs = rs
-executeAll (i ∷ is) rs = executeAll is (execute i rs)
+executeAll sampled [] rs = rs
+executeAll sampled (i ∷ is) rs = executeAll sampled is (execute sampled i rs)
 
 abbrev pub holds : Condition → List ℕ → Bool
 holds c rs = compareOf (c .comparison) (getD rs (c .a) 0) (getD rs (c .b) 0)
@@ -67,23 +67,30 @@ leave (Goto t) rs = standing t
 leave (Ite c t f) rs = standing (choose (holds c rs) t f)
 leave Halt rs = halted
 
-unfoldable pub runBlock : Block → List ℕ → Configuration
+unfoldable pub runBlock : ℕ → Block → List ℕ → Moved
 unfolding executeAll leave
-runBlock b rs = let after = executeAll (codeOf b) rs in record { place = leave (b .ending) after; registers = after }
+runBlock sampled b rs = let after = executeAll sampled (codeOf b) rs in record { place = leave (b .ending) after; registers = after }
 
--- one step runs the block stood at; a halted graph stays
-unfoldable pub step : CFG → Configuration → Configuration
-unfolding runBlock
-step g c = onward (c .place) c (λ n. runBlock (blockOf g n) (c .registers))
+-- one step runs the block stood at; each that moves to a starter makes the next arrival
+abbrev pub graphRunner : CFG → List ℕ → Runner
+graphRunner g starters = record { unit = λ sampled n rs. runBlock sampled (blockOf g n) rs; arrives = λ n. mem n starters }
+
+-- no instruction reads the sampled word
+unfoldable pub wordless : CFG → Bool
+wordless g = every (λ b. every (λ i. not (eqb (i .code) 20)) (codeOf b)) (g .blocks)
 
 -- ---- which graphs there are
 
--- codes 1 to 11; registers below R where the code reads one, and 0 where it does not
+-- codes 1 to 11, and 20
+abbrev pub instructionCode : ℕ → Bool
+instructionCode k = leb 1 k && leb k 11 || eqb k 20
+
+-- a known code; registers below R where the code reads one, and 0 where it does not
 unfoldable pub validInstruction : ℕ → Instruction → Bool
 unfolding arity
 validInstruction r i =
-    leb 1 (i .code) && leb (i .code) 11 && ltb (i .d) r
-    && (eqb (i .code) 1 || ltb (i .a) r)
+    instructionCode (i .code) && ltb (i .d) r
+    && choose (eqb (arity (i .code)) 0) (eqb (i .a) 0) (eqb (i .code) 1 || ltb (i .a) r)
     && choose (eqb (arity (i .code)) 2) (ltb (i .b) r) (eqb (i .b) 0)
 
 unfoldable pub validEnding : ℕ → ℕ → Ending → Bool

@@ -4,7 +4,7 @@ use crate::Graph;
 use crate::Instruction;
 use crate::decode;
 ghost use mathlib.Core.Path.{_≡_};
-ghost use mathlib.Core.Bool.{_&&_};
+ghost use mathlib.Core.Bool.{_&&_, _||_};
 ghost use mathlib.Core.List.{map};
 ghost use Prim.Native.Nat.{_+_, _-_, _≤_, _<_};
 ghost use lib.ListN.{length};
@@ -13,7 +13,7 @@ ghost use Rattle.word.specs.Word.{choose, arity, codeOf};
 ghost use Rattle.runs.specs.Lists.{upFrom, every};
 ghost use Rattle.cfg.specs.declared.Ending.the-variants.{Ite};
 ghost use Rattle.cfg.specs.Layout.{maxBlocks, maxInstructions, endingWords, blockWords, graphWords};
-ghost use Rattle.cfg.specs.Graph.{validInstruction, validEnding};
+ghost use Rattle.cfg.specs.Graph.{instructionCode, validInstruction, validEnding};
 ghost use Rattle.cfg.specs.Table.{comparisonAt, instructionAt, admitted};
 ghost use Rattle.cfg.specs.Fits.{zeros, endingFits, blockFits};
 
@@ -45,22 +45,42 @@ fn second_valid(i: Instruction, registers: u32) -> bool
     }
 }
 
+// The codes that stand in instructions.
+fn known(code: u32) -> bool
+    ensures { λ r. ⌜ r ≡ instructionCode code ⌝ }
+{
+    if code < 1 {
+        return code == 20;
+    }
+    if 11 < code {
+        return code == 20;
+    }
+    true
+}
+
+// The first operand: a literal or a register where the code reads one, else 0.
+fn first_valid(i: Instruction, registers: u32) -> bool
+    ensures { λ r. ⌜ r ≡ choose (eqb (arity (i .code)) 0) (eqb (i .a) 0) (eqb (i .code) 1 || ltb (i .a) registers) ⌝ }
+{
+    if word::arity(i.code) == 0 {
+        return i.a == 0;
+    }
+    if i.code == 1 {
+        return true;
+    }
+    i.a < registers
+}
+
 fn instruction_valid(i: Instruction, registers: u32) -> bool
     ensures { λ r. ⌜ r ≡ validInstruction registers i ⌝ }
 {
-    if i.code < 1 {
-        return false;
-    }
-    if 11 < i.code {
+    if !known(i.code) {
         return false;
     }
     if registers <= i.d {
         return false;
     }
-    if i.code == 1 {
-        return second_valid(i, registers);
-    }
-    if registers <= i.a {
+    if !first_valid(i, registers) {
         return false;
     }
     second_valid(i, registers)

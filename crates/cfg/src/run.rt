@@ -9,12 +9,13 @@ use runs::RunAnswer;
 use word::Registers;
 ghost use mathlib.Core.Bool.{true};
 ghost use mathlib.Core.Path.{_≡_};
+ghost use mathlib.Core.List.{[]};
 ghost use Prim.Native.Nat.{_≤_, _<_};
 ghost use lib.Dec.{eqb};
 ghost use lib.ListN.{length, getD};
 ghost use Rattle.word.specs.Word.{choose, evalOf};
-ghost use Rattle.runs.specs.Runs.{startAt, answer, registersAfter};
-ghost use Rattle.cfg.specs.Graph.{codeOf, executeAll, leave, step};
+ghost use Rattle.runs.specs.Runs.{startAt, unread, answer, registersAfter};
+ghost use Rattle.cfg.specs.Graph.{codeOf, executeAll, leave, graphRunner};
 ghost use Rattle.cfg.specs.Layout.{maxBlocks, graphWords};
 ghost use Rattle.cfg.specs.Table.{blockAt, graphOf, admitted};
 ghost use Rattle.cfg.specs.Steps.{EndingWithin, BlockWithin, placeOf};
@@ -34,19 +35,19 @@ pub struct Ran {
 
 // What the instruction writes, of the words in the registers that its operands name.
 fn value_of(i: Instruction, x: u32, y: u32) -> u32
-    ensures { λ r. ⌜ r ≡ evalOf (i .code) (choose (eqb (i .code) 1) (i .a) x) y 0 ⌝ }
+    ensures { λ r. ⌜ r ≡ evalOf 0 (i .code) (choose (eqb (i .code) 1) (i .a) x) y 0 ⌝ }
 {
     if i.code == 1 {
         return i.a;
     }
-    word::eval(i.code, x, y, 0)
+    word::eval(0, i.code, x, y, 0)
 }
 
 // The instructions of block n in order, each seeing the one before. They are read where they stand: a block's record would be a copy
 // of all eight.
 fn execute_all(table: &[u32], n: usize, file: Registers) -> Registers
     requires { ⌜ (n < maxBlocks) × (graphWords ≤ length (now table)) × BlockWithin (blockAt (now table) n) ⌝ }
-    ensures { λ r. ⌜ r .words ≡ executeAll (codeOf (blockAt (now (table .entry)) n)) (file .words) ⌝ }
+    ensures { λ r. ⌜ r .words ≡ executeAll 0 (codeOf (blockAt (now (table .entry)) n)) (file .words) ⌝ }
 {
     let start = Graph::HEAD + Block::WORDS * n;
     let count = table[start] as usize;
@@ -88,7 +89,7 @@ fn next_of(ending: Ending, file: Registers) -> Next
 // The table is checked before: nothing of admission is done here.
 fn run_blocks(table: &[u32], start: u32, budget: u32, file: Registers) -> Ran
     requires { ⌜ (admitted (now table) ≡ true) × (start < getD (now table) 0 0) ⌝ }
-    ensures { λ r. ⌜ (r .answer ≡ answer (step (graphOf (now (table .entry)))) budget (startAt start (file .words))) × (r .registers .words ≡ registersAfter (step (graphOf (now (table .entry)))) budget (startAt start (file .words))) ⌝ }
+    ensures { λ r. ⌜ (r .answer ≡ answer (graphRunner (graphOf (now (table .entry))) []) unread budget (startAt start (file .words))) × (r .registers .words ≡ registersAfter (graphRunner (graphOf (now (table .entry))) []) unread budget (startAt start (file .words))) ⌝ }
 {
     let mut at = start;
     let mut current = file;

@@ -3,7 +3,7 @@ use Prim.Native.Nat.{ℕ, _+_, _<_, _≤_}
 use native.Mathlib.Omega.{arith}
 use mathlib.Core.Bool.{true, _||_}
 use mathlib.Core.List.{List, [], _++_, map}
-use mathlib.Core.Path.{_≡_, refl, ap, ap₂, _∙_, fun-ext}
+use mathlib.Core.Path.{_≡_, refl, ap, ap₂, _∙_}
 use lib.Dec.{eqb}
 use lib.ListN.{length, getD, take, drop, length-append, length-map}
 use lib.Seq.{ext-getD}
@@ -11,9 +11,9 @@ use borrow.Author.Tests.{le-leb}
 use Rattle.runs.proofs.ListLaws.{length-upFrom, getD-map-upFrom}
 use Rattle.runs.proofs.Tests.{or-right}
 use Rattle.runs.specs.Lists.{upFrom}
-use Rattle.runs.specs.Runs.{Configuration, startAt, answer, registersAfter}
+use Rattle.runs.specs.Runs.{Supply, Runner, startAt, answer, registersAfter}
 use Rattle.fsmd.specs.Layout.{maxStates, maxRegisters, maxWires, machineWords}
-use Rattle.fsmd.specs.Machine.{State, wireCount, FSMD, emptyState, stateOf, clock, cycle}
+use Rattle.fsmd.specs.Machine.{State, wireCount, FSMD, emptyState, stateOf, clock, machineRunner}
 use Rattle.fsmd.specs.Run.{refusal, runAnswer, runRegisters}
 use Rattle.fsmd.specs.Table.{tableOf, firstWireAt, wireCountAt, stateAt, machineOf, validState, admitted}
 use Rattle.fsmd.proofs.Machines.{facts-admitted}
@@ -37,10 +37,10 @@ pub record Sound (m : FSMD) : Type 0 where
 -- ---- the machine that a machine's table holds
 
 -- a cycle goes by the registers and the states alone
-same-cycle : (m n : FSMD) → m .registers ≡ n .registers → m .states ≡ n .states → (c : Configuration) → cycle m c ≡ cycle n c
-unfolding cycle clock
-same-cycle m n e s c =
-    ap₂ {C = Configuration} (λ (r : ℕ) (qs : List State). cycle (record { registers = r; starters = []; blockStates = []; states = qs }) c) e s
+same-runner : (m n : FSMD) → m .registers ≡ n .registers → m .states ≡ n .states → machineRunner m ≡ machineRunner n
+unfolding clock
+same-runner m n e s =
+    ap₂ {C = Runner} (λ (r : ℕ) (qs : List State). machineRunner (record { registers = r; starters = []; blockStates = []; states = qs })) e s
 
 module _ (m : FSMD) (rest : List ℕ) (f : Fits m) where
   pub read-state : (k : ℕ) → k < length (m .states) → stateAt (tableOf m ++ rest) k ≡ stateOf m k
@@ -60,8 +60,8 @@ module _ (m : FSMD) (rest : List ℕ) (f : Fits m) where
       getD-map-upFrom (stateAt t) (getD t 0 0) k emptyState (omega (arith, count-is m rest)) ∙ read-state k b)
 
   -- so the two have the same cycles
-  pub read-cycle : cycle (machineOf (tableOf m ++ rest)) ≡ cycle m
-  read-cycle = fun-ext (same-cycle (machineOf (tableOf m ++ rest)) m read-registers read-states)
+  pub read-runner : machineRunner (machineOf (tableOf m ++ rest)) ≡ machineRunner m
+  read-runner = same-runner (machineOf (tableOf m ++ rest)) m read-registers read-states
 
 -- ---- its table is admitted, and run
 
@@ -105,13 +105,13 @@ module _ (m : FSMD) (rest : List ℕ) (s : Sound m) where
       pub read-refusal : refusal (tableOf m ++ rest) rs start ≡ 0
       read-refusal = refuse-none (tableOf m ++ rest) rs start whole space read-admitted (rw (count-is m rest) h)
 
-      pub read-answer : (budget : ℕ) → runAnswer (tableOf m ++ rest) rs start budget ≡ answer (cycle m) budget (startAt start (take maxRegisters rs))
-      read-answer budget =
-          run-answer (tableOf m ++ rest) rs start budget read-refusal
-          ∙ ap (λ (f : Configuration → Configuration). answer f budget (startAt start (take maxRegisters rs))) (read-cycle m rest (s .fits))
+      pub read-answer : (ws : Supply) (budget : ℕ) → runAnswer ws (tableOf m ++ rest) rs start budget ≡ answer (machineRunner m) ws budget (startAt start (take maxRegisters rs))
+      read-answer ws budget =
+          run-answer ws (tableOf m ++ rest) rs start budget read-refusal
+          ∙ ap (λ (r : Runner). answer r ws budget (startAt start (take maxRegisters rs))) (read-runner m rest (s .fits))
 
-      pub read-left : (budget : ℕ)
-          → runRegisters (tableOf m ++ rest) rs start budget ≡ registersAfter (cycle m) budget (startAt start (take maxRegisters rs)) ++ drop maxRegisters rs
-      read-left budget =
-          run-registers (tableOf m ++ rest) rs start budget read-refusal
-          ∙ ap (λ (f : Configuration → Configuration). registersAfter f budget (startAt start (take maxRegisters rs)) ++ drop maxRegisters rs) (read-cycle m rest (s .fits))
+      pub read-left : (ws : Supply) (budget : ℕ)
+          → runRegisters ws (tableOf m ++ rest) rs start budget ≡ registersAfter (machineRunner m) ws budget (startAt start (take maxRegisters rs)) ++ drop maxRegisters rs
+      read-left ws budget =
+          run-registers ws (tableOf m ++ rest) rs start budget read-refusal
+          ∙ ap (λ (r : Runner). registersAfter r ws budget (startAt start (take maxRegisters rs)) ++ drop maxRegisters rs) (read-runner m rest (s .fits))

@@ -4,7 +4,7 @@ use mathlib.Core.Bool.{true}
 use mathlib.Core.List.{List}
 use mathlib.Core.Path.{_≡_}
 use lib.ListN.{length, getD}
-use Rattle.runs.specs.Runs.{Configuration}
+use Rattle.runs.specs.Runs.{Moved}
 use Rattle.fsmd.specs.declared.clock.Next.{Next}
 use Rattle.fsmd.specs.Layout.{maxStates, maxRegisters, maxWires, machineWords}
 use Rattle.fsmd.specs.Machine.{toState}
@@ -18,6 +18,6 @@ pub record Ready (t : List ℕ) (k : ℕ) : Type 0 where
   pub registers : getD t 1 0 ≤ maxRegisters
   pub valid : validState (getD t 1 0) (stateAt t k) ≡ true
 
--- the configuration that a cycle hands back
-abbrev pub after : List ℕ → Next → Configuration
+-- what a cycle hands back
+abbrev pub after : List ℕ → Next → Moved
 after t r = record { place = toState (getD t 0 0) (r .state); registers = r .registers .words }

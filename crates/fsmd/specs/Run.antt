@@ -5,11 +5,11 @@ use mathlib.Core.List.{List, _++_}
 use lib.ListN.{length, getD, take, drop}
 use lib.Dec.{eqb, ltb}
 use Rattle.word.specs.Word.{choose}
-use Rattle.runs.specs.Runs.{startAt, times, answer, registersAfter}
+use Rattle.runs.specs.Runs.{Supply, startAt, answer, registersAfter}
 use Rattle.runs.specs.declared.RunAnswer.{RunAnswer}
 use Rattle.runs.specs.declared.RunAnswer.the-variants.{Refused}
 use Rattle.fsmd.specs.Layout.{maxRegisters, machineWords}
-use Rattle.fsmd.specs.Machine.{cycle}
+use Rattle.fsmd.specs.Machine.{clock, machineRunner}
 use Rattle.fsmd.specs.Table.{machineOf, admitted}
 
 -- the refusal's number, or 0: 7 a short table, 10 one that is not admitted, 9 a start that is no state
@@ -20,17 +20,18 @@ refusal t rs start =
     (choose (not (admitted t)) 10
     (choose (not (ltb start (getD t 0 0))) 9 0))
 
-unfoldable pub runAnswer : List ℕ → List ℕ → ℕ → ℕ → RunAnswer
-unfolding refusal machineOf cycle answer
-runAnswer t rs start budget =
+-- on the words ws; `unread` in a run without words
+unfoldable pub runAnswer : Supply → List ℕ → List ℕ → ℕ → ℕ → RunAnswer
+unfolding refusal machineOf clock answer
+runAnswer ws t rs start budget =
     choose (eqb (refusal t rs start) 0)
-    (answer (cycle (machineOf t)) budget (startAt start (take maxRegisters rs)))
+    (answer (machineRunner (machineOf t)) ws budget (startAt start (take maxRegisters rs)))
     (Refused (refusal t rs start))
 
 -- the words from 16 up stay
-unfoldable pub runRegisters : List ℕ → List ℕ → ℕ → ℕ → List ℕ
-unfolding refusal machineOf cycle registersAfter
-runRegisters t rs start budget =
+unfoldable pub runRegisters : Supply → List ℕ → List ℕ → ℕ → ℕ → List ℕ
+unfolding refusal machineOf clock registersAfter
+runRegisters ws t rs start budget =
     choose (eqb (refusal t rs start) 0)
-    (registersAfter (cycle (machineOf t)) budget (startAt start (take maxRegisters rs)) ++ drop maxRegisters rs)
+    (registersAfter (machineRunner (machineOf t)) ws budget (startAt start (take maxRegisters rs)) ++ drop maxRegisters rs)
     rs

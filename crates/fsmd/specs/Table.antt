@@ -82,8 +82,8 @@ validReference r n x = ltb x r || (leb maxRegisters x && ltb x (maxRegisters + n
 unfoldable pub validWire : ℕ → ℕ → Wire → Bool
 unfolding arity
 validWire r n w =
-    leb 1 (w .code) && leb (w .code) 19
-    && (eqb (w .code) 1 || validReference r n (w .a))
+    leb 1 (w .code) && leb (w .code) 20
+    && (eqb (w .code) 1 || (ltb (arity (w .code)) 1 || validReference r n (w .a)))
     && (ltb (arity (w .code)) 2 || validReference r n (w .b))
     && (ltb (arity (w .code)) 3 || validReference r n (w .c))
 

@@ -30,17 +30,6 @@ fn valid_reference(registers: usize, n: usize, x: u32) -> bool
     i - Machine::REGISTERS < n
 }
 
-// Operand a of wire n: a set's is its literal and no reference.
-fn valid_first(registers: usize, n: usize, code: u32, x: u32) -> bool
-    ensures { λ v. ⌜ v ≡ (eqb code 1 || validReference registers n x) ⌝ }
-{
-    if code == Wire::SET {
-        true
-    } else {
-        valid_reference(registers, n, x)
-    }
-}
-
 // Operand number `place` of wire n, where the code reads that many.
 fn valid_operand(registers: usize, n: usize, reads: u32, place: u32, x: u32) -> bool
     ensures { λ v. ⌜ v ≡ (ltb reads place || validReference registers n x) ⌝ }
@@ -49,6 +38,17 @@ fn valid_operand(registers: usize, n: usize, reads: u32, place: u32, x: u32) -> 
         true
     } else {
         valid_reference(registers, n, x)
+    }
+}
+
+// Operand a of wire n: a set's is its literal and no reference.
+fn valid_first(registers: usize, n: usize, code: u32, reads: u32, x: u32) -> bool
+    ensures { λ v. ⌜ v ≡ (eqb code 1 || (ltb reads 1 || validReference registers n x)) ⌝ }
+{
+    if code == Wire::SET {
+        true
+    } else {
+        valid_operand(registers, n, reads, 1, x)
     }
 }
 
@@ -64,7 +64,7 @@ fn valid_wire(registers: usize, n: usize, w: Wire) -> bool
         return false;
     }
     let reads = word::arity(code);
-    if !valid_first(registers, n, code, w.a) {
+    if !valid_first(registers, n, code, reads, w.a) {
         return false;
     }
     if !valid_operand(registers, n, reads, 2, w.b) {

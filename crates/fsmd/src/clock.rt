@@ -35,9 +35,9 @@ fn read(words: &[u32], n: usize, x: u32) -> u32
 
 // The word of a wire. A reference is taken modulo the room, which costs no branch: those that the code of an admitted machine's wire
 // reads lie in it, and the others do not matter.
-fn value(words: &[u32], w: Wire) -> u32
+fn value(words: &[u32], w: Wire, sampled: u32) -> u32
     requires { ⌜ length (now words) ≡ roomWords ⌝ }
-    ensures { λ v. ⌜ v ≡ wireValue (λ x. getD (now (words .entry)) (x % roomWords) 0) w ⌝ }
+    ensures { λ v. ⌜ v ≡ wireValue sampled (λ x. getD (now (words .entry)) (x % roomWords) 0) w ⌝ }
 {
     if w.code == Wire::SET {
         return w.a;
@@ -45,22 +45,22 @@ fn value(words: &[u32], w: Wire) -> u32
     let a = wide(w.a) % Machine::REFERENCES;
     let b = wide(w.b) % Machine::REFERENCES;
     let c = wide(w.c) % Machine::REFERENCES;
-    word::eval(w.code, words[a], words[b], words[c])
+    word::eval(sampled, w.code, words[a], words[b], words[c])
 }
 
 // The wires in order, after the sixteen registers.
-fn work(words: &mut [u32], table: &[u32], first: usize, count: usize)
+fn work(words: &mut [u32], table: &[u32], first: usize, count: usize, sampled: u32)
     requires { ⌜ machineWords ≤ length (now table) ⌝ }
     requires { ⌜ first + count ≤ maxWires ⌝ }
     requires { ⌜ getD (now table) 1 0 ≤ maxRegisters ⌝ }
     requires { ⌜ validWires (getD (now table) 1 0) 0 (map (wireAt (now table)) (upFrom first count)) ≡ true ⌝ }
     requires { ⌜ length (now words) ≡ roomWords ⌝ }
-    ensures { λ _. ⌜ take (maxRegisters + count) (now (words .exit)) ≡ worked (take maxRegisters (now (words .entry))) (map (wireAt (now (table .entry))) (upFrom first count)) ⌝ }
+    ensures { λ _. ⌜ take (maxRegisters + count) (now (words .exit)) ≡ worked sampled (take maxRegisters (now (words .entry))) (map (wireAt (now (table .entry))) (upFrom first count)) ⌝ }
 {
     let mut n = 0;
     while n < count {
         let at = Machine::REGISTERS + n;
-        let v = value(words, wire(table, first + n));
+        let v = value(words, wire(table, first + n), sampled);
         words[at] = v;
         n += 1;
     }
@@ -89,17 +89,17 @@ fn taken(
     next
 }
 
-// One cycle of state k. `words` is room for what references read.
-pub fn cycle(table: &[u32], k: usize, registers: Registers, words: &mut [u32]) -> Next
+// One cycle of state k, on a sampled word. `words` is room for what references read.
+pub fn cycle(table: &[u32], k: usize, registers: Registers, sampled: u32, words: &mut [u32]) -> Next
     requires { ⌜ Ready (now table) k ⌝ }
     requires { ⌜ length (now words) ≡ roomWords ⌝ }
-    ensures { λ r. ⌜ after (now (table .entry)) r ≡ clock (machineOf (now (table .entry))) (stateAt (now (table .entry)) k) (registers .words) ⌝ }
+    ensures { λ r. ⌜ after (now (table .entry)) r ≡ clock (machineOf (now (table .entry))) sampled (stateAt (now (table .entry)) k) (registers .words) ⌝ }
 {
     let at = record(k);
     let count = wire_count(table, k);
     let n = Machine::REGISTERS + count;
     runs::store(words, registers);
-    work(words, table, first_wire(table, k), count);
+    work(words, table, first_wire(table, k), count, sampled);
     let state = read(words, n, table[at + Machine::NEXT_STATE]);
     let next = taken(
         words,

@@ -54,5 +54,5 @@ impl Wire {
     // The first code, a set, whose a is a literal; the last one.
     pub const SET: u32 = 1;
 
-    pub const LAST: u32 = 19;
+    pub const LAST: u32 = 20;
 }

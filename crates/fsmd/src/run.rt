@@ -3,9 +3,9 @@ ghost use mathlib.Core.Path.{_≡_};
 ghost use mathlib.Core.Bool.{true};
 ghost use Prim.Native.Nat.{_<_, _≤_};
 ghost use lib.ListN.{length, getD};
-ghost use Rattle.runs.specs.Runs.{startAt, answer, registersAfter};
+ghost use Rattle.runs.specs.Runs.{startAt, unread, answer, registersAfter};
 ghost use Rattle.fsmd.specs.Layout.{machineWords};
-ghost use Rattle.fsmd.specs.Machine.{cycle as cycleOf};
+ghost use Rattle.fsmd.specs.Machine.{machineRunner};
 ghost use Rattle.fsmd.specs.Table.{machineOf, admitted as admittedOf};
 ghost use Rattle.fsmd.specs.Run.{runAnswer, runRegisters};
 use super::Machine;
@@ -26,8 +26,8 @@ pub fn run(table: &[u32], registers: Registers, start: u32, budget: u32) -> Ran
     requires { ⌜ machineWords ≤ length (now table) ⌝ }
     requires { ⌜ admittedOf (now table) ≡ true ⌝ }
     requires { ⌜ start < getD (now table) 0 0 ⌝ }
-    ensures { λ r. ⌜ r .answer ≡ answer (cycleOf (machineOf (now (table .entry)))) budget (startAt start (registers .words)) ⌝ }
-    ensures { λ r. ⌜ r .registers .words ≡ registersAfter (cycleOf (machineOf (now (table .entry)))) budget (startAt start (registers .words)) ⌝ }
+    ensures { λ r. ⌜ r .answer ≡ answer (machineRunner (machineOf (now (table .entry)))) unread budget (startAt start (registers .words)) ⌝ }
+    ensures { λ r. ⌜ r .registers .words ≡ registersAfter (machineRunner (machineOf (now (table .entry)))) unread budget (startAt start (registers .words)) ⌝ }
 {
     let states = table[0];
     let mut words = [0u32; Machine::REFERENCES];
@@ -35,7 +35,7 @@ pub fn run(table: &[u32], registers: Registers, start: u32, budget: u32) -> Ran
     let mut state = start;
     let mut count: u32 = 0;
     while count < budget {
-        let next = cycle(table, wide(state), file, &mut words);
+        let next = cycle(table, wide(state), file, 0, &mut words);
         file = next.registers;
         state = next.state;
         count += 1;
@@ -54,8 +54,8 @@ pub fn run(table: &[u32], registers: Registers, start: u32, budget: u32) -> Ran
 
 // "Run machine": the answer, and the registers left in the first sixteen words of the buffer.
 pub fn run_machine(table: &[u32], registers: &mut [u32], start: u32, budget: u32) -> RunAnswer
-    ensures { λ r. ⌜ r ≡ runAnswer (now (table .entry)) (now (registers .entry)) start budget ⌝ }
-    ensures { λ _. ⌜ now (registers .exit) ≡ runRegisters (now (table .entry)) (now (registers .entry)) start budget ⌝ }
+    ensures { λ r. ⌜ r ≡ runAnswer unread (now (table .entry)) (now (registers .entry)) start budget ⌝ }
+    ensures { λ _. ⌜ now (registers .exit) ≡ runRegisters unread (now (table .entry)) (now (registers .entry)) start budget ⌝ }
 {
     // The refusals of paper 01, in its order: 7 short tables, 10 not admitted, 9 no such start.
     if table.len() < Machine::WORDS {

@@ -1,9 +1,12 @@
--- Runs ("Runs" of paper 01), for graphs and machines alike. Assumes nothing.
+-- Runs ("Runs" of paper 01, R-1 of paper 02), for graphs and machines alike. Assumes nothing.
 use Prim.Native.Nat.{ℕ, zero, suc}
 use mathlib.Core.Bool.{Bool, true, false}
 use mathlib.Core.List.{List}
+use lib.Dec.{ltb}
+use lib.ListN.{length, getD}
+use Rattle.word.specs.Word.{choose}
 use Rattle.runs.specs.declared.RunAnswer.{RunAnswer}
-use Rattle.runs.specs.declared.RunAnswer.the-variants.{Refused, Halted, Spent}
+use Rattle.runs.specs.declared.RunAnswer.the-variants.{Refused, Halted, Spent, Dry}
 
 -- where control stands: at a block or in a state, or it has halted
 pub data Place : Type 0 where
@@ -13,59 +16,115 @@ pub data Place : Type 0 where
 pub record Configuration : Type 0 where
   pub place : Place
   pub registers : List ℕ
+  -- the number of the last arrival; the start is arrival 0
+  pub arrivals : ℕ
+
+abbrev pub standsAt : ℕ → ℕ → List ℕ → Configuration
+standsAt k n rs = record { place = standing n; registers = rs; arrivals = k }
 
 -- a run's start
 abbrev pub startAt : ℕ → List ℕ → Configuration
-startAt n rs = record { place = standing n; registers = rs }
+startAt n rs = standsAt 0 n rs
 
--- f from a place, where it has not halted
-abbrev pub onward {ℓ} : {X : Type ℓ} → Place → X → (ℕ → X) → X
-onward (standing n) x f = f n
-onward halted x f = x
+-- ---- the words of a run
 
-module _ (step : Configuration → Configuration) where
-  -- k steps; a step of a halted configuration changes nothing
+-- arrival k uses word k, where there is one
+pub record Supply : Type 0 where
+  pub word : ℕ → ℕ
+  pub lasts : ℕ → Bool
+
+abbrev pub listed : List ℕ → Supply
+listed ws = record { word = λ k. getD ws k 0; lasts = λ k. ltb k (length ws) }
+
+-- of a run without words: every arrival has one, which nothing reads
+abbrev pub unread : Supply
+unread = record { word = λ k. 0; lasts = λ k. true }
+
+-- ---- what runs: a graph with its starters, or a machine
+
+-- where a block or a cycle leads, and the registers then
+pub record Moved : Type 0 where
+  pub place : Place
+  pub registers : List ℕ
+
+pub record Runner : Type 0 where
+  -- what one block or cycle does, from the sampled word, the block or state, and the registers
+  pub unit : ℕ → ℕ → List ℕ → Moved
+  -- the blocks or states whose every coming to is an arrival
+  pub arrives : ℕ → Bool
+
+-- ---- a run
+
+-- f of the block or state that a run goes on from: it stands there, and there is a word for the arrival. Otherwise it has halted or is dry.
+abbrev pub onward {ℓ} : {X : Type ℓ} → Place → Bool → X → (ℕ → X) → X
+onward (standing n) true x f = f n
+onward (standing n) false x f = x
+onward halted word x f = x
+
+-- the last arrival, where it was k, after a move to a place; a halt is no arrival
+abbrev pub arrivalsAt : (ℕ → Bool) → Place → ℕ → ℕ
+arrivalsAt arrives (standing n) k = choose (arrives n) (suc k) k
+arrivalsAt arrives halted k = k
+
+abbrev pub moved : (ℕ → Bool) → ℕ → Moved → Configuration
+moved arrives k m = record { place = m .place; registers = m .registers; arrivals = arrivalsAt arrives (m .place) k }
+
+-- halted, or with budget left dry, or spent: with the next block or state
+abbrev pub outcome : Place → Bool → ℕ → RunAnswer
+outcome halted left count = Halted count
+outcome (standing n) true count = Dry count n
+outcome (standing n) false count = Spent count n
+
+-- it goes on: it has not halted and is not dry
+abbrev pub goes : Supply → Configuration → Bool
+goes ws c = onward (c .place) (ws .lasts (c .arrivals)) false (λ n. true)
+
+module _ (r : Runner) (ws : Supply) where
+  -- one step; a configuration that has halted or is dry stays
+  unfoldable pub step : Configuration → Configuration
+  step c = onward (c .place) (ws .lasts (c .arrivals)) c (λ n. moved (r .arrives) (c .arrivals) (r .unit (ws .word (c .arrivals)) n (c .registers)))
+
   unfoldable pub times : ℕ → Configuration → Configuration
+  unfolding step
   times zero c = c
   times (suc k) c = times k (step c)
 
-  -- how many of k steps are run: all, or those up to the halting one
+  -- how many of k steps are run: all, or those up to the halting one or to where it is dry
   unfoldable pub stepsRun : ℕ → Configuration → ℕ
+  unfolding step
   stepsRun zero c = zero
-  stepsRun (suc k) c = onward (c .place) zero (λ n. suc (stepsRun k (step c)))
+  stepsRun (suc k) c = onward (c .place) (ws .lasts (c .arrivals)) zero (λ n. suc (stepsRun k (step c)))
 
--- halted, or spent with the next block or state
-abbrev pub outcome : Place → ℕ → RunAnswer
-outcome halted count = Halted count
-outcome (standing n) count = Spent count n
-
--- the answer of a run with a budget, and the registers that it leaves
-module _ (step : Configuration → Configuration) (budget : ℕ) (c : Configuration) where
-  unfoldable pub answer : RunAnswer
+  -- the answer of a run with a budget, and the registers that it leaves
+  unfoldable pub answer : ℕ → Configuration → RunAnswer
   unfolding times stepsRun
-  answer = outcome (times step budget c .place) (stepsRun step budget c)
+  answer budget c = let count = stepsRun budget c in outcome (times budget c .place) (ltb count budget) count
 
-  unfoldable pub registersAfter : List ℕ
+  unfoldable pub registersAfter : ℕ → Configuration → List ℕ
   unfolding times
-  registersAfter = times step budget c .registers
+  registersAfter budget c = times budget c .registers
 
--- paper 01's fields of an answer: the refusal's number, halted, the count, what is next
+-- paper 01's fields of an answer: the refusal's number, the outcome (0 spent, 1 halted, 2 dry), the count, what is next
 abbrev pub numberOf : RunAnswer → ℕ
 numberOf (Refused n) = n
 numberOf (Halted k) = 0
 numberOf (Spent k n) = 0
+numberOf (Dry k n) = 0
 
-abbrev pub haltedOf : RunAnswer → ℕ
-haltedOf (Refused n) = 0
-haltedOf (Halted k) = 1
-haltedOf (Spent k n) = 0
+abbrev pub outcomeOf : RunAnswer → ℕ
+outcomeOf (Refused n) = 0
+outcomeOf (Halted k) = 1
+outcomeOf (Spent k n) = 0
+outcomeOf (Dry k n) = 2
 
 abbrev pub countOf : RunAnswer → ℕ
 countOf (Refused n) = 0
 countOf (Halted k) = k
 countOf (Spent k n) = k
+countOf (Dry k n) = k
 
 abbrev pub nextOf : RunAnswer → ℕ
 nextOf (Refused n) = 0
 nextOf (Halted k) = 255
 nextOf (Spent k n) = n
+nextOf (Dry k n) = n

@@ -13,6 +13,8 @@ pub enum RunAnswer {
     Halted(u32),
     // The blocks or cycles run, and the block or state that comes next.
     Spent(u32, u32),
+    // The same, where budget is left and the words are used up.
+    Dry(u32, u32),
 }
 
 // The first 16 words of a buffer.

@@ -90,7 +90,10 @@ start r ws = record { arrival = fresh ws; values = upFrom 0 r; wires = ws ++ (se
 unfoldable pub instructionWire : (ℕ → ℕ) → Instruction → Wire
 unfolding arity
 instructionWire at i =
-    wire (i .code) (choose (eqb (i .code) 1) (i .a) (at (i .a))) (choose (ltb (arity (i .code)) 2) 0 (at (i .b))) 0
+    wire (i .code)
+    (choose (ltb (arity (i .code)) 1) 0 (choose (eqb (i .code) 1) (i .a) (at (i .a))))
+    (choose (ltb (arity (i .code)) 2) 0 (at (i .b)))
+    0
 
 unfoldable pub assign : Instruction → Point → Point
 unfolding instructionWire

@@ -43,8 +43,11 @@ fn set_value(values: &mut [u32], register: u32, reference: u32)
 
 // A set's is its literal.
 fn first_operand(values: &[u32], i: Instruction) -> u32
-    ensures { λ r. ⌜ r ≡ choose (eqb (i .code) 1) (i .a) (getD (now (values .entry)) (i .a) 0) ⌝ }
+    ensures { λ r. ⌜ r ≡ choose (ltb (arity (i .code)) 1) 0 (choose (eqb (i .code) 1) (i .a) (getD (now (values .entry)) (i .a) 0)) ⌝ }
 {
+    if word::arity(i.code) < 1 {
+        return 0;
+    }
     if i.code == 1 {
         return i.a;
     }

@@ -23,26 +23,26 @@ Below n (v ∷ vs) = (v < n) × Below n vs
 
 -- ---- wires one after another
 
-pub worked-append : (E : List ℕ) (ws vs : List Wire) → worked E (ws ++ vs) ≡ worked (worked E ws) vs
+pub worked-append : (sampled : ℕ) (E : List ℕ) (ws vs : List Wire) → worked sampled E (ws ++ vs) ≡ worked sampled (worked sampled E ws) vs
 unfolding worked
-worked-append E [] vs = refl
-worked-append E (w ∷ ws) vs = worked-append (E ++ (wireValue (at E) w ∷ [])) ws vs
+worked-append sampled E [] vs = refl
+worked-append sampled E (w ∷ ws) vs = worked-append sampled (E ++ (wireValue sampled (at E) w ∷ [])) ws vs
 
-pub worked-nil : (E : List ℕ) → worked E [] ≡ E
+pub worked-nil : (sampled : ℕ) (E : List ℕ) → worked sampled E [] ≡ E
 unfolding worked
-worked-nil E = refl
+worked-nil sampled E = refl
 
-pub worked-cons : (E : List ℕ) (w : Wire) (ws : List Wire) (x : ℕ) → wireValue (at E) w ≡ x → worked E (w ∷ ws) ≡ worked (E ++ (x ∷ [])) ws
+pub worked-cons : (sampled : ℕ) (E : List ℕ) (w : Wire) (ws : List Wire) (x : ℕ) → wireValue sampled (at E) w ≡ x → worked sampled E (w ∷ ws) ≡ worked sampled (E ++ (x ∷ [])) ws
 unfolding worked
-worked-cons E w ws x e = ap (λ (y : ℕ). worked (E ++ (y ∷ [])) ws) e
+worked-cons sampled E w ws x e = ap (λ (y : ℕ). worked sampled (E ++ (y ∷ [])) ws) e
 
 pub snoc-length : (E : List ℕ) (x : ℕ) → length (E ++ (x ∷ [])) ≡ suc (length E)
 snoc-length E x = simp length-append (omega arith)
 
-pub length-worked : (E : List ℕ) (ws : List Wire) → length (worked E ws) ≡ length E + length ws
+pub length-worked : (sampled : ℕ) (E : List ℕ) (ws : List Wire) → length (worked sampled E ws) ≡ length E + length ws
 unfolding worked
-length-worked E [] = omega arith
-length-worked E (w ∷ ws) = omega (arith, length-worked (E ++ (wireValue (at E) w ∷ [])) ws, snoc-length E (wireValue (at E) w))
+length-worked sampled E [] = omega arith
+length-worked sampled E (w ∷ ws) = omega (arith, length-worked sampled (E ++ (wireValue sampled (at E) w ∷ [])) ws, snoc-length E (wireValue sampled (at E) w))
 
 -- E is the beginning of E′
 abbrev pub Grows : List ℕ → List ℕ → Type 0
@@ -54,15 +54,15 @@ grows-refl E = ([], sym (append-nil E))
 pub grows-trans : (E F G : List ℕ) → Grows E F → Grows F G → Grows E G
 grows-trans E F G a b = (a .0 ++ b .0, b .1 ∙ ap (λ (l : List ℕ). l ++ b .0) (a .1) ∙ append-assoc E (a .0) (b .0))
 
-pub worked-grows : (E : List ℕ) (ws : List Wire) → Grows E (worked E ws)
+pub worked-grows : (sampled : ℕ) (E : List ℕ) (ws : List Wire) → Grows E (worked sampled E ws)
 unfolding worked
-worked-grows E [] = grows-refl E
-worked-grows E (w ∷ ws) =
-    let F = E ++ (wireValue (at E) w ∷ []) in
-    grows-trans E F (worked E (w ∷ ws)) (wireValue (at E) w ∷ [], refl) (worked-grows F ws)
+worked-grows sampled E [] = grows-refl E
+worked-grows sampled E (w ∷ ws) =
+    let F = E ++ (wireValue sampled (at E) w ∷ []) in
+    grows-trans E F (worked sampled E (w ∷ ws)) (wireValue sampled (at E) w ∷ [], refl) (worked-grows sampled F ws)
 
-pub wires-grow : (rs : List ℕ) (ws vs : List Wire) → Grows (worked rs ws) (worked rs (ws ++ vs))
-wires-grow rs ws vs = rw (worked-append rs ws vs) (worked-grows (worked rs ws) vs)
+pub wires-grow : (sampled : ℕ) (rs : List ℕ) (ws vs : List Wire) → Grows (worked sampled rs ws) (worked sampled rs (ws ++ vs))
+wires-grow sampled rs ws vs = rw (worked-append sampled rs ws vs) (worked-grows sampled (worked sampled rs ws) vs)
 
 -- ---- lists of references
 
@@ -121,26 +121,26 @@ choose-map : (f : ℕ → ℕ) (b : Bool) (v s : ℕ) (vs ss : List ℕ) → map
 choose-map f true v s vs ss = refl
 choose-map f false v s vs ss = refl
 
-select-old : (E F : List ℕ) (t v s : ℕ) (b : Bool) → t < length E → v < length E → s < length E → at E t ≡ truth b
-    → wireValue (at (E ++ F)) (select-wire t v s) ≡ choose b (at E v) (at E s)
-select-old E F t v s b h k l p =
-    select-value (at (E ++ F)) t v s b (List·getD-append E F 0 t h ∙ p)
+select-old : (sampled : ℕ) (E F : List ℕ) (t v s : ℕ) (b : Bool) → t < length E → v < length E → s < length E → at E t ≡ truth b
+    → wireValue sampled (at (E ++ F)) (select-wire t v s) ≡ choose b (at E v) (at E s)
+select-old sampled E F t v s b h k l p =
+    select-value sampled (at (E ++ F)) t v s b (List·getD-append E F 0 t h ∙ p)
     ∙ ap₂ (λ (x y : ℕ). choose b x y) (List·getD-append E F 0 v k) (List·getD-append E F 0 s l)
 
-selects-behind : (E F : List ℕ) (t : ℕ) (b : Bool) (vs ss : List ℕ) → t < length E → at E t ≡ truth b → Below (length E) vs → Below (length E) ss
-    → length vs ≡ length ss → worked (E ++ F) (selects t vs ss) ≡ E ++ F ++ map (at E) (choose b vs ss)
-selects-behind E F t b [] [] h p k l e = worked-nil (E ++ F) ∙ rw (choose-none (at E) b) (sym (append-nil (E ++ F)))
-selects-behind E F t b [] (s ∷ ss) h p k l e = absurd (omega arith)
-selects-behind E F t b (v ∷ vs) [] h p k l e = absurd (omega arith)
-selects-behind E F t b (v ∷ vs) (s ∷ ss) h p k l e =
+selects-behind : (sampled : ℕ) (E F : List ℕ) (t : ℕ) (b : Bool) (vs ss : List ℕ) → t < length E → at E t ≡ truth b → Below (length E) vs → Below (length E) ss
+    → length vs ≡ length ss → worked sampled (E ++ F) (selects t vs ss) ≡ E ++ F ++ map (at E) (choose b vs ss)
+selects-behind sampled E F t b [] [] h p k l e = worked-nil sampled (E ++ F) ∙ rw (choose-none (at E) b) (sym (append-nil (E ++ F)))
+selects-behind sampled E F t b [] (s ∷ ss) h p k l e = absurd (omega arith)
+selects-behind sampled E F t b (v ∷ vs) [] h p k l e = absurd (omega arith)
+selects-behind sampled E F t b (v ∷ vs) (s ∷ ss) h p k l e =
     let x = choose b (at E v) (at E s) in
-    worked-cons (E ++ F) (select-wire t v s) (selects t vs ss) x (select-old E F t v s b h (k .0) (l .0) p)
-    ∙ rw (choose-map (at E) b v s vs ss, append-assoc E F (x ∷ [])) (selects-behind E (F ++ (x ∷ [])) t b vs ss h p (k .1) (l .1) (omega arith)
+    worked-cons sampled (E ++ F) (select-wire t v s) (selects t vs ss) x (select-old sampled E F t v s b h (k .0) (l .0) p)
+    ∙ rw (choose-map (at E) b v s vs ss, append-assoc E F (x ∷ [])) (selects-behind sampled E (F ++ (x ∷ [])) t b vs ss h p (k .1) (l .1) (omega arith)
     ∙ simp append-assoc)
 
 -- a wire of value x and the selections
-pub worked-selects : (E : List ℕ) (w : Wire) (x t : ℕ) (b : Bool) (vs ss : List ℕ) → wireValue (at E) w ≡ x → t < length E → at E t ≡ truth b
+pub worked-selects : (sampled : ℕ) (E : List ℕ) (w : Wire) (x t : ℕ) (b : Bool) (vs ss : List ℕ) → wireValue sampled (at E) w ≡ x → t < length E → at E t ≡ truth b
     → Below (length E) vs → Below (length E) ss → length vs ≡ length ss
-    → worked E (w ∷ selects t vs ss) ≡ E ++ x ∷ map (at E) (choose b vs ss)
-worked-selects E w x t b vs ss e h p k l c =
-    worked-cons E w (selects t vs ss) x e ∙ selects-behind E (x ∷ []) t b vs ss h p k l c ∙ append-snoc E x (map (at E) (choose b vs ss))
+    → worked sampled E (w ∷ selects t vs ss) ≡ E ++ x ∷ map (at E) (choose b vs ss)
+worked-selects sampled E w x t b vs ss e h p k l c =
+    worked-cons sampled E w (selects t vs ss) x e ∙ selects-behind sampled E (x ∷ []) t b vs ss h p k l c ∙ append-snoc E x (map (at E) (choose b vs ss))

@@ -3,6 +3,7 @@ use Prim.Native.Nat.{ℕ, zero, suc, _≤_, _<_}
 use native.Mathlib.Omega.{arith}
 use native.Mathlib.Decide.{decLt}
 use mathlib.Core.Path.{_≡_, refl}
+use mathlib.Core.Logic.{_⊎_, inl, inr}
 use mathlib.Core.Bool.{true}
 use mathlib.Core.List.{List, [], _∷_}
 use lib.ListN.{length, getD, take, length-take, List·getD-eq-default}
@@ -90,4 +91,16 @@ low (x ∷ l) (suc n) h (suc k) d = low l n (and-right (leb x 2) (every (λ x. l
 
 pub two-operands : {R : ℕ} {i : Instruction} → ValidInstruction R i → arity (i .code) ≤ 2
 unfolding arity
-two-operands {R} {i} v = low arities 12 refl (i .code) (let h = v .codeHigh in omega arith)
+two-operands {R} {i} v = go (v .known)
+  where
+    go : ((1 ≤ i .code) × (i .code ≤ 11)) ⊎ (i .code ≡ 20) → arity (i .code) ≤ 2
+    go (inl h) = low arities 12 refl (i .code) (let l = h .1 in omega arith)
+    go (inr h) = rw h (omega arith)
+
+-- an instruction's code is a wire's
+pub code-range : {R : ℕ} {i : Instruction} → ValidInstruction R i → (1 ≤ i .code) × (i .code ≤ 20)
+code-range {R} {i} v = go (v .known)
+  where
+    go : ((1 ≤ i .code) × (i .code ≤ 11)) ⊎ (i .code ≡ 20) → (1 ≤ i .code) × (i .code ≤ 20)
+    go (inl h) = let l = h .0 in let m = h .1 in (omega arith, omega arith)
+    go (inr h) = (omega arith, omega arith)

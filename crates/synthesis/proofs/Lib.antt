@@ -5,6 +5,7 @@ pub mod Readings
 pub mod TakenEdges
 pub mod OneCycle
 pub mod FoundEdges
+pub mod WireCodes
 pub mod WireValidity
 pub mod StateValidity
 pub mod WireCount

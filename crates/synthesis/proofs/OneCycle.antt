@@ -11,7 +11,7 @@ use lib.ListN.{length, drop}
 use borrow.Author.Tests.{eqb-true}
 use Rattle.word.specs.Word.{choose}
 use Rattle.runs.specs.Lists.{mem}
-use Rattle.runs.specs.Runs.{Place, standing, halted, Configuration}
+use Rattle.runs.specs.Runs.{Place, standing, halted, Moved}
 use Rattle.cfg.specs.declared.Ending.{Ending}
 use Rattle.cfg.specs.declared.Ending.the-variants.{Goto, Ite, Halt}
 use Rattle.cfg.specs.Graph.{CFG, blockOf, codeOf, targets, successors, executeAll, holds, leave, runBlock}
@@ -26,11 +26,11 @@ use Rattle.synthesis.proofs.Readings.{Reads, start-reads}
 use Rattle.synthesis.proofs.TakenEdges.{OneTaken, none-grow, one-grow, one-towards, one-away, arrive-grow, arrive-none, arrive-one}
 use Rattle.synthesis.proofs.TakenEdges.{blockMade, made-reached, made-passed, close-state-one}
 
--- The graph's run from block b with registers r: in j steps it comes to c, and no step but the last moves to one of the blocks st.
-pub data Trace (g : CFG) (st : List ℕ) (b : ℕ) (r : List ℕ) : ℕ → Configuration → Type 0 where
-  first : {c : Configuration} → c ≡ runBlock (blockOf g b) r → Trace g st b r 1 c
-  next : {j : ℕ} {c c′ : Configuration} → Trace g st b r j c → (x : ℕ) → c .place ≡ standing x → mem x st ≡ false
-      → c′ ≡ runBlock (blockOf g x) (c .registers) → Trace g st b r (suc j) c′
+-- The graph's blocks from block b with registers r, on a sampled word: in j steps they come to c, and no step but the last moves to one of the blocks st.
+pub data Trace (g : CFG) (st : List ℕ) (sampled b : ℕ) (r : List ℕ) : ℕ → Moved → Type 0 where
+  first : {c : Moved} → c ≡ runBlock sampled (blockOf g b) r → Trace g st sampled b r 1 c
+  next : {j : ℕ} {c c′ : Moved} → Trace g st sampled b r j c → (x : ℕ) → c .place ≡ standing x → mem x st ≡ false
+      → c′ ≡ runBlock sampled (blockOf g x) (c .registers) → Trace g st sampled b r (suc j) c′
 
 -- ---- where the blocks still to place are come to
 
@@ -68,14 +68,14 @@ towards-none s halted b = refl
 
 -- ---- the token
 
-module _ (g : CFG) (s : Groups) (rs : List ℕ) (b₀ : ℕ) where
+module _ (g : CFG) (s : Groups) (sampled : ℕ) (rs : List ℕ) (b₀ : ℕ) where
   -- the blocks xs are still to place, and at most n are placed: the taken edge leads to `reached`, where the graph's run comes in `steps` steps
   pub record Token (xs : List ℕ) (b : Build) (n : ℕ) : Type 0 where
-    pub reached : Configuration
+    pub reached : Moved
     pub steps : ℕ
-    pub taken : OneTaken (g .registers) (drop (g .registers) rs) (worked rs (b .wires)) reached (b .edges)
+    pub taken : OneTaken (g .registers) (drop (g .registers) rs) (worked sampled rs (b .wires)) reached (b .edges)
     pub onward : Towards (s .starters) xs (reached .place)
-    pub trace : Trace g (s .starters) b₀ rs steps reached
+    pub trace : Trace g (s .starters) sampled b₀ rs steps reached
     pub some : 1 ≤ steps
     pub few : steps ≤ n
 
@@ -94,24 +94,24 @@ module _ (g : CFG) (s : Groups) where
 abbrev none-built : Build
 none-built = record { wires = []; edges = [] }
 
-module _ (g : CFG) (s : Groups) (rs : List ℕ) (size : length rs ≡ maxRegisters) (f : GraphFits g) (b₀ : ℕ) where
-  first-token : (xs : List ℕ) → mem b₀ (s .starters) ≡ true → Ahead (s .starters) xs (successors g b₀) → Token g s rs b₀ xs (put g s b₀ none-built) 1
+module _ (g : CFG) (s : Groups) (sampled : ℕ) (rs : List ℕ) (size : length rs ≡ maxRegisters) (f : GraphFits g) (b₀ : ℕ) where
+  first-token : (xs : List ℕ) → mem b₀ (s .starters) ≡ true → Ahead (s .starters) xs (successors g b₀) → Token g s sampled rs b₀ xs (put g s b₀ none-built) 1
   unfolding start runBlock
   first-token xs h a =
       let R = g .registers in
       rw (put-starter g s b₀ none-built h) (record {
-        reached = runBlock (blockOf g b₀) rs;
+        reached = runBlock sampled (blockOf g b₀) rs;
         steps = 1;
-        taken = made-reached rs size R (blockOf g b₀) (f .block b₀) (start R []) rs [] (start-reads rs size R [] 1 (f .fewRegisters)) tt;
-        onward = towards-leave (s .starters) xs (blockOf g b₀ .ending) (executeAll (codeOf (blockOf g b₀)) rs) a;
+        taken = made-reached sampled rs size R (blockOf g b₀) (f .block b₀) (start R []) rs [] (start-reads sampled rs size R [] 1 (f .fewRegisters)) tt;
+        onward = towards-leave (s .starters) xs (blockOf g b₀ .ending) (executeAll sampled (codeOf (blockOf g b₀)) rs) a;
         trace = first refl;
         some = omega arith;
         few = omega arith;
       })
 
   -- the taken edge leads to x: x is run
-  reach : (x : ℕ) (xs : List ℕ) (b : Build) (n : ℕ) → Ordered g (s .starters) (x ∷ xs) → (t : Token g s rs b₀ (x ∷ xs) b n) → leadsTo x (t .reached .place) ≡ true
-      → Token g s rs b₀ xs (put g s x b) (suc n)
+  reach : (x : ℕ) (xs : List ℕ) (b : Build) (n : ℕ) → Ordered g (s .starters) (x ∷ xs) → (t : Token g s sampled rs b₀ (x ∷ xs) b n) → leadsTo x (t .reached .place) ≡ true
+      → Token g s sampled rs b₀ xs (put g s x b) (suc n)
   unfolding runBlock
   reach x xs b n o t h =
       let R = g .registers in
@@ -119,38 +119,38 @@ module _ (g : CFG) (s : Groups) (rs : List ℕ) (size : length rs ≡ maxRegiste
       let rest = towards (λ p. not (leadsTo x p)) (b .edges) in
       let p = arrive R into (b .wires) in
       let c = t .reached in
-      let E = worked rs (b .wires) in
+      let E = worked sampled rs (b .wires) in
       let k = t .few in
       rw (put-inner g s x b (o .0)) (record {
-        reached = runBlock (blockOf g x) (c .registers);
+        reached = runBlock sampled (blockOf g x) (c .registers);
         steps = suc (t .steps);
-        taken = made-reached rs size R (blockOf g x) (f .block x) p (c .registers) rest
-            (arrive-one rs size R into (b .wires) c (one-towards R (drop R rs) E (leadsTo x) c (b .edges) h (t .taken)))
-            (none-grow R (drop R rs) E (worked rs (p .wires)) (arrive-grow rs size R into (b .wires)) rest
+        taken = made-reached sampled rs size R (blockOf g x) (f .block x) p (c .registers) rest
+            (arrive-one sampled rs size R into (b .wires) c (one-towards R (drop R rs) E (leadsTo x) c (b .edges) h (t .taken)))
+            (none-grow R (drop R rs) E (worked sampled rs (p .wires)) (arrive-grow sampled rs size R into (b .wires)) rest
             (one-away R (drop R rs) E (λ p. not (leadsTo x p)) c (b .edges) (ap not h) (t .taken)));
-        onward = towards-leave (s .starters) xs (blockOf g x .ending) (executeAll (codeOf (blockOf g x)) (c .registers)) (o .1);
+        onward = towards-leave (s .starters) xs (blockOf g x .ending) (executeAll sampled (codeOf (blockOf g x)) (c .registers)) (o .1);
         trace = next (t .trace) x (leads-to x (c .place) h) (o .0) refl;
         some = omega arith;
         few = omega arith;
       })
 
   -- it leads elsewhere
-  pass : (x : ℕ) (xs : List ℕ) (b : Build) (n : ℕ) → Ordered g (s .starters) (x ∷ xs) → (t : Token g s rs b₀ (x ∷ xs) b n) → leadsTo x (t .reached .place) ≡ false
-      → Token g s rs b₀ xs (put g s x b) (suc n)
+  pass : (x : ℕ) (xs : List ℕ) (b : Build) (n : ℕ) → Ordered g (s .starters) (x ∷ xs) → (t : Token g s sampled rs b₀ (x ∷ xs) b n) → leadsTo x (t .reached .place) ≡ false
+      → Token g s sampled rs b₀ xs (put g s x b) (suc n)
   pass x xs b n o t h =
       let R = g .registers in
       let into = towards (leadsTo x) (b .edges) in
       let rest = towards (λ p. not (leadsTo x p)) (b .edges) in
       let p = arrive R into (b .wires) in
       let c = t .reached in
-      let E = worked rs (b .wires) in
+      let E = worked sampled rs (b .wires) in
       let k = t .few in
-      let none = arrive-none rs size R (f .fewRegisters) into (b .wires) (one-away R (drop R rs) E (leadsTo x) c (b .edges) h (t .taken)) in
+      let none = arrive-none sampled rs size R (f .fewRegisters) into (b .wires) (one-away R (drop R rs) E (leadsTo x) c (b .edges) h (t .taken)) in
       rw (put-inner g s x b (o .0)) (record {
         reached = c;
         steps = t .steps;
-        taken = made-passed rs size R (blockOf g x) (f .block x) p c rest (none .1)
-            (one-grow R (drop R rs) E (worked rs (p .wires)) (arrive-grow rs size R into (b .wires)) c rest
+        taken = made-passed sampled rs size R (blockOf g x) (f .block x) p c rest (none .1)
+            (one-grow R (drop R rs) E (worked sampled rs (p .wires)) (arrive-grow sampled rs size R into (b .wires)) c rest
             (one-towards R (drop R rs) E (λ p. not (leadsTo x p)) c (b .edges) (ap not h) (t .taken)));
         onward = towards-next (s .starters) xs x (c .place) (t .onward) h;
         trace = t .trace;
@@ -158,14 +158,14 @@ module _ (g : CFG) (s : Groups) (rs : List ℕ) (size : length rs ≡ maxRegiste
         few = omega arith;
       })
 
-  put-token : (x : ℕ) (xs : List ℕ) (b : Build) (n : ℕ) → Ordered g (s .starters) (x ∷ xs) → Token g s rs b₀ (x ∷ xs) b n → Token g s rs b₀ xs (put g s x b) (suc n)
+  put-token : (x : ℕ) (xs : List ℕ) (b : Build) (n : ℕ) → Ordered g (s .starters) (x ∷ xs) → Token g s sampled rs b₀ (x ∷ xs) b n → Token g s sampled rs b₀ xs (put g s x b) (suc n)
   put-token x xs b n o t = either (leadsTo x (t .reached .place)) refl
     where
-      either : (c : Bool) → leadsTo x (t .reached .place) ≡ c → Token g s rs b₀ xs (put g s x b) (suc n)
+      either : (c : Bool) → leadsTo x (t .reached .place) ≡ c → Token g s sampled rs b₀ xs (put g s x b) (suc n)
       either true h = reach x xs b n o t h
       either false h = pass x xs b n o t h
 
-  build-token : (xs : List ℕ) (b : Build) (n : ℕ) → Ordered g (s .starters) xs → Token g s rs b₀ xs b n → Token g s rs b₀ [] (build g s xs b) (n + length xs)
+  build-token : (xs : List ℕ) (b : Build) (n : ℕ) → Ordered g (s .starters) xs → Token g s sampled rs b₀ xs b n → Token g s sampled rs b₀ [] (build g s xs b) (n + length xs)
   unfolding build
   build-token [] b n o t = rw add-zero t
   build-token (x ∷ xs) b n o t = rw (add-suc, ← suc-add) (build-token xs (put g s x b) (suc n) (o .2) (put-token x xs b n o t))
@@ -173,19 +173,19 @@ module _ (g : CFG) (s : Groups) (rs : List ℕ) (size : length rs ≡ maxRegiste
 -- ---- one cycle
 
 -- the next state and the registers that a state's references read, in a cycle that starts with the registers rs
-abbrev pub StateReads : CFG → State → List ℕ → ℕ → List ℕ → Type 0
-StateReads g q rs v qs = Reads (g .registers) (drop (g .registers) rs) (worked rs (q .wires)) (q .next) (q .nextRegisters) v qs
+abbrev pub StateReads : CFG → State → ℕ → List ℕ → ℕ → List ℕ → Type 0
+StateReads g q sampled rs v qs = Reads (g .registers) (drop (g .registers) rs) (worked sampled rs (q .wires)) (q .next) (q .nextRegisters) v qs
 
 -- the graph's run from block b with rs comes in `steps` steps to `reached`, where it arrives at a starter or has halted, and not before;
 -- and the references of state k read that place's state and those registers
-pub record CycleAgrees (g : CFG) (s : Groups) (rs : List ℕ) (k b : ℕ) : Type 0 where
-  pub reached : Configuration
+pub record CycleAgrees (g : CFG) (s : Groups) (sampled : ℕ) (rs : List ℕ) (k b : ℕ) : Type 0 where
+  pub reached : Moved
   pub steps : ℕ
-  pub trace : Trace g (s .starters) b rs steps reached
+  pub trace : Trace g (s .starters) sampled b rs steps reached
   pub leaving : leaves s (reached .place) ≡ true
   pub some : 1 ≤ steps
   pub few : steps ≤ length (order g s k)
-  pub state : StateReads g (stateOf g s k) rs (nextStateOf s (reached .place)) (reached .registers)
+  pub state : StateReads g (stateOf g s k) sampled rs (nextStateOf s (reached .place)) (reached .registers)
 
 state-is : (g : CFG) (s : Groups) (k : ℕ) (xs : List ℕ) → order g s k ≡ xs
     → let z = build g s xs none-built in
@@ -194,12 +194,12 @@ state-is : (g : CFG) (s : Groups) (k : ℕ) (xs : List ℕ) → order g s k ≡ 
 unfolding stateOf
 state-is g s k xs h = rw h
 
-pub cycle-agrees : (g : CFG) (s : Groups) (rs : List ℕ) → length rs ≡ maxRegisters → GraphFits g → (k b : ℕ) → StateOrder g s k b → CycleAgrees g s rs k b
+pub cycle-agrees : (g : CFG) (s : Groups) (sampled : ℕ) (rs : List ℕ) → length rs ≡ maxRegisters → GraphFits g → (k b : ℕ) → StateOrder g s k b → CycleAgrees g s sampled rs k b
 unfolding build
-cycle-agrees g s rs size f k b h =
+cycle-agrees g s sampled rs size f k b h =
     let R = g .registers in
     let xs = h .others in
-    let t = build-token g s rs size f b xs (put g s b none-built) 1 (h .ordered) (first-token g s rs size f b xs (h .starter) (h .ahead)) in
+    let t = build-token g s sampled rs size f b xs (put g s b none-built) 1 (h .ordered) (first-token g s sampled rs size f b xs (h .starter) (h .ahead)) in
     let z = build g s xs (put g s b none-built) in
     let l = towards-none s (t .reached .place) (t .onward) in
     let m = t .few in
@@ -210,6 +210,6 @@ cycle-agrees g s rs size f k b h =
       leaving = l;
       some = t .some;
       few = rw (h .order-is) (omega arith);
-      state = rw (state-is g s k (b ∷ xs) (h .order-is)) (close-state-one rs size R s (towards (leaves s) (z .edges)) (z .wires) (t .reached)
-          (one-towards R (drop R rs) (worked rs (z .wires)) (leaves s) (t .reached) (z .edges) l (t .taken)));
+      state = rw (state-is g s k (b ∷ xs) (h .order-is)) (close-state-one sampled rs size R s (towards (leaves s) (z .edges)) (z .wires) (t .reached)
+          (one-towards R (drop R rs) (worked sampled rs (z .wires)) (leaves s) (t .reached) (z .edges) l (t .taken)));
     }

@@ -75,12 +75,12 @@ module _ {R : ℕ} {high : List ℕ} where
   selected E false l m = (simp length-map (l .count), l .words)
 
   -- a wire of value x, then a selection for each register
-  pub reads-select : (E : List ℕ) (w : Wire) (b : Bool) (x : ℕ) {t₁ t₂ : ℕ} {vs₁ vs₂ : List ℕ} {v : ℕ} {q₁ q₂ : List ℕ}
-      → wireValue (at E) w ≡ x → Reads R high E t₁ vs₁ v q₁ → Reads R high E t₂ vs₂ (truth b) q₂
-      → Reads R high (worked E (w ∷ selects t₂ vs₂ vs₁)) (length E) (upFrom (suc (length E)) (length vs₂)) x (choose b q₂ q₁)
-  reads-select E w b x {t₁} {t₂} {vs₁} {vs₂} {v} {q₁} {q₂} e l m =
+  pub reads-select : (sampled : ℕ) (E : List ℕ) (w : Wire) (b : Bool) (x : ℕ) {t₁ t₂ : ℕ} {vs₁ vs₂ : List ℕ} {v : ℕ} {q₁ q₂ : List ℕ}
+      → wireValue sampled (at E) w ≡ x → Reads R high E t₁ vs₁ v q₁ → Reads R high E t₂ vs₂ (truth b) q₂
+      → Reads R high (worked sampled E (w ∷ selects t₂ vs₂ vs₁)) (length E) (upFrom (suc (length E)) (length vs₂)) x (choose b q₂ q₁)
+  reads-select sampled E w b x {t₁} {t₂} {vs₁} {vs₂} {v} {q₁} {q₂} e l m =
       let s = selected E b l m in
-      rw (worked-selects E w x t₂ b vs₂ vs₁ e (m .low) (m .reads) (m .lows) (l .lows) (m .count ∙ sym (l .count)), m .count)
+      rw (worked-selects sampled E w x t₂ b vs₂ vs₁ e (m .low) (m .reads) (m .lows) (l .lows) (m .count ∙ sym (l .count)), m .count)
       (reads-fresh E x (map (at E) (choose b vs₂ vs₁)) (choose b q₂ q₁) (s .0) (s .1))
 
   -- what the references of the registers read
@@ -91,15 +91,15 @@ module _ {R : ℕ} {high : List ℕ} where
       ∙ ap (λ (q : List ℕ). getD q r 0) (l .words)
 
   -- the wire of an instruction
-  pub reads-execute : (E : List ℕ) (i : Instruction) {t : ℕ} {vs : List ℕ} {v : ℕ} {q : List ℕ} → ValidInstruction R i → Reads R high E t vs v q
-      → Reads R high (worked E (instructionWire (λ r. getD vs r 0) i ∷ [])) t (set vs (i .d) (length E)) v (execute i q)
+  pub reads-execute : (sampled : ℕ) (E : List ℕ) (i : Instruction) {t : ℕ} {vs : List ℕ} {v : ℕ} {q : List ℕ} → ValidInstruction R i → Reads R high E t vs v q
+      → Reads R high (worked sampled E (instructionWire (λ r. getD vs r 0) i ∷ [])) t (set vs (i .d) (length E)) v (execute sampled i q)
   unfolding execute
-  reads-execute E i {t} {vs} {v} {q} f l =
+  reads-execute sampled E i {t} {vs} {v} {q} f l =
       let w : Wire = instructionWire (λ r. getD vs r 0) i in
-      let x : ℕ = valueOf (λ r. getD q r 0) (i .code) (i .a) (i .b) in
-      let e : wireValue (at E) w ≡ x = instruction-value (at E) (λ r. getD vs r 0) R q i f (reads-at E l) in
+      let x : ℕ = valueOf sampled (λ r. getD q r 0) (i .code) (i .a) (i .b) in
+      let e : wireValue sampled (at E) w ≡ x = instruction-value sampled (at E) (λ r. getD vs r 0) R q i f (reads-at E l) in
       let m : Reads R high (E ++ (x ∷ [])) t vs v q = reads-append E (x ∷ []) l in
-      rw (worked-cons E w [] x e, worked-nil) (record {
+      rw (worked-cons sampled E w [] x e, worked-nil) (record {
         low = m .low;
         reads = m .reads;
         count = length-set vs (i .d) (length E) ∙ l .count;
@@ -119,10 +119,10 @@ module _ {R : ℕ} {high : List ℕ} where
       (rw e₁ (reads-append E₂ (z ∷ []) m), rw e₂ (reads-put E₂ z m))
 
   -- the three wires of an ite
-  pub reads-ite : (E : List ℕ) (c : Condition) (s : Bool) {t : ℕ} {vs : List ℕ} {q : List ℕ} → c .a < R → c .b < R → Reads R high E t vs (truth s) q
-      → let E′ = worked E (wire (codeOf (c .comparison)) (getD vs (c .a) 0) (getD vs (c .b) 0) 0 ∷ and-wire t (length E) ∷ and-not-wire t (length E) ∷ []) in
+  pub reads-ite : (sampled : ℕ) (E : List ℕ) (c : Condition) (s : Bool) {t : ℕ} {vs : List ℕ} {q : List ℕ} → c .a < R → c .b < R → Reads R high E t vs (truth s) q
+      → let E′ = worked sampled E (wire (codeOf (c .comparison)) (getD vs (c .a) 0) (getD vs (c .b) 0) 0 ∷ and-wire t (length E) ∷ and-not-wire t (length E) ∷ []) in
       Reads R high E′ (1 + length E) vs (truth (s && holds c q)) q × Reads R high E′ (2 + length E) vs (truth (s && not (holds c q))) q
-  reads-ite E c s {t} {vs} {q} ha hb l =
+  reads-ite sampled E c s {t} {vs} {q} ha hb l =
       let h : Bool = holds c q in
       let x : ℕ = truth h in
       let y : ℕ = truth (s && h) in
@@ -134,59 +134,59 @@ module _ {R : ℕ} {high : List ℕ} where
       let m₁ : Reads R high E₁ (length E) vs x q = reads-put E x l in
       let l₂ : Reads R high E₂ t vs (truth s) q = reads-append E₁ (y ∷ []) l₁ in
       let m₂ : Reads R high E₂ (length E) vs x q = reads-append E₁ (y ∷ []) m₁ in
-      let e₁ : wireValue (at E) w ≡ x =
-      comparison-value (at E) (c .comparison) (getD vs (c .a) 0) (getD vs (c .b) 0) ∙ rw (reads-at E l (c .a) ha, reads-at E l (c .b) hb) in
-      let e₂ = and-value (at E₁) t (length E) s h (l₁ .reads) (m₁ .reads) in
-      let e₃ = and-not-value (at E₂) t (length E) s h (l₂ .reads) (m₂ .reads) in
+      let e₁ : wireValue sampled (at E) w ≡ x =
+      comparison-value sampled (at E) (c .comparison) (getD vs (c .a) 0) (getD vs (c .b) 0) ∙ rw (reads-at E l (c .a) ha, reads-at E l (c .b) hb) in
+      let e₂ = and-value sampled (at E₁) t (length E) s h (l₁ .reads) (m₁ .reads) in
+      let e₃ = and-not-value sampled (at E₂) t (length E) s h (l₂ .reads) (m₂ .reads) in
       rw (
-        worked-cons E w (and-wire t (length E) ∷ and-not-wire t (length E) ∷ []) x e₁,
-        worked-cons E₁ (and-wire t (length E)) (and-not-wire t (length E) ∷ []) y e₂,
-        worked-cons E₂ (and-not-wire t (length E)) [] z e₃,
+        worked-cons sampled E w (and-wire t (length E) ∷ and-not-wire t (length E) ∷ []) x e₁,
+        worked-cons sampled E₁ (and-wire t (length E)) (and-not-wire t (length E) ∷ []) y e₂,
+        worked-cons sampled E₂ (and-not-wire t (length E)) [] z e₃,
         worked-nil,
       )
       (three-behind E x y z l)
 
   -- the wires of a further exit
-  pub reads-exit : (E : List ℕ) (k : ℕ) (b : Bool) {t₁ t₂ : ℕ} {vs₁ vs₂ : List ℕ} {v : ℕ} {q₁ q₂ : List ℕ} → Reads R high E t₁ vs₁ v q₁ → Reads R high E t₂ vs₂ (truth b) q₂
-      → Reads R high (worked E (set-wire k ∷ select-wire t₂ (length E) t₁ ∷ selects t₂ vs₂ vs₁)) (1 + length E) (upFrom (2 + length E) (length vs₂)) (choose b k v) (choose b q₂ q₁)
-  reads-exit E k b {t₁} {t₂} {vs₁} {vs₂} {v} {q₁} {q₂} l m =
+  pub reads-exit : (sampled : ℕ) (E : List ℕ) (k : ℕ) (b : Bool) {t₁ t₂ : ℕ} {vs₁ vs₂ : List ℕ} {v : ℕ} {q₁ q₂ : List ℕ} → Reads R high E t₁ vs₁ v q₁ → Reads R high E t₂ vs₂ (truth b) q₂
+      → Reads R high (worked sampled E (set-wire k ∷ select-wire t₂ (length E) t₁ ∷ selects t₂ vs₂ vs₁)) (1 + length E) (upFrom (2 + length E) (length vs₂)) (choose b k v) (choose b q₂ q₁)
+  reads-exit sampled E k b {t₁} {t₂} {vs₁} {vs₂} {v} {q₁} {q₂} l m =
       let E₁ = E ++ (k ∷ []) in
       let l₁ : Reads R high E₁ t₁ vs₁ v q₁ = reads-append E (k ∷ []) l in
       let m₁ : Reads R high E₁ t₂ vs₂ (truth b) q₂ = reads-append E (k ∷ []) m in
       let n₁ : Reads R high E₁ (length E) vs₁ k q₁ = reads-put E k l in
       let e₁ : 1 + length E ≡ length E₁ = omega (arith, snoc-length E k) in
       let e₂ : 2 + length E ≡ suc (length E₁) = omega (arith, snoc-length E k) in
-      rw (worked-cons E (set-wire k) (select-wire t₂ (length E) t₁ ∷ selects t₂ vs₂ vs₁) k (set-value (at E) k), e₁, e₂)
-      (reads-select E₁ (select-wire t₂ (length E) t₁) b (choose b k v)
-      (select-value (at E₁) t₂ (length E) t₁ b (m₁ .reads) ∙ rw (n₁ .reads, l₁ .reads)) l₁ m₁)
+      rw (worked-cons sampled E (set-wire k) (select-wire t₂ (length E) t₁ ∷ selects t₂ vs₂ vs₁) k (set-value sampled (at E) k), e₁, e₂)
+      (reads-select sampled E₁ (select-wire t₂ (length E) t₁) b (choose b k v)
+      (select-value sampled (at E₁) t₂ (length E) t₁ b (m₁ .reads) ∙ rw (n₁ .reads, l₁ .reads)) l₁ m₁)
 
 -- ---- a point of the builder, in a cycle that starts with the registers rs
 
-abbrev pub PointReads : (rs : List ℕ) (R : ℕ) → Point → ℕ → List ℕ → Type 0
-PointReads rs R p v q = Reads R (drop R rs) (worked rs (p .wires)) (p .arrival) (p .values) v q
+abbrev pub PointReads : (sampled : ℕ) (rs : List ℕ) (R : ℕ) → Point → ℕ → List ℕ → Type 0
+PointReads sampled rs R p v q = Reads R (drop R rs) (worked sampled rs (p .wires)) (p .arrival) (p .values) v q
 
-module _ (rs : List ℕ) (size : length rs ≡ maxRegisters) where
-  pub fresh-is : (ws : List Wire) → fresh ws ≡ length (worked rs ws)
-  fresh-is ws = omega (arith, length-worked rs ws)
+module _ (sampled : ℕ) (rs : List ℕ) (size : length rs ≡ maxRegisters) where
+  pub fresh-is : (ws : List Wire) → fresh ws ≡ length (worked sampled rs ws)
+  fresh-is ws = omega (arith, length-worked sampled rs ws)
 
-module _ (rs : List ℕ) (size : length rs ≡ maxRegisters) (R : ℕ) where
-  pub assign-reads : (i : Instruction) (p : Point) {v : ℕ} {q : List ℕ} → ValidInstruction R i → PointReads rs R p v q → PointReads rs R (assign i p) v (execute i q)
+module _ (sampled : ℕ) (rs : List ℕ) (size : length rs ≡ maxRegisters) (R : ℕ) where
+  pub assign-reads : (i : Instruction) (p : Point) {v : ℕ} {q : List ℕ} → ValidInstruction R i → PointReads sampled rs R p v q → PointReads sampled rs R (assign i p) v (execute sampled i q)
   unfolding assign
-  assign-reads i p f l = rw (worked-append rs (p .wires), fresh-is rs size (p .wires)) (reads-execute (worked rs (p .wires)) i f l)
+  assign-reads i p f l = rw (worked-append sampled rs (p .wires), fresh-is sampled rs size (p .wires)) (reads-execute sampled (worked sampled rs (p .wires)) i f l)
 
-  pub join-reads : (e : Edge) (p : Point) (s b : Bool) {q q′ : List ℕ} → PointReads rs R p (truth s) q
-      → Reads R (drop R rs) (worked rs (p .wires)) (e .taken) (e .values) (truth b) q′
-      → PointReads rs R (join e p) (truth (s || b)) (choose b q′ q)
+  pub join-reads : (e : Edge) (p : Point) (s b : Bool) {q q′ : List ℕ} → PointReads sampled rs R p (truth s) q
+      → Reads R (drop R rs) (worked sampled rs (p .wires)) (e .taken) (e .values) (truth b) q′
+      → PointReads sampled rs R (join e p) (truth (s || b)) (choose b q′ q)
   unfolding join
   join-reads e p s b l m =
-      rw (worked-append rs (p .wires), fresh-is rs size (p .wires))
-      (reads-select (worked rs (p .wires)) (or-wire (p .arrival) (e .taken)) b (truth (s || b))
-      (or-value (at (worked rs (p .wires))) (p .arrival) (e .taken) s b (l .reads) (m .reads)) l m)
+      rw (worked-append sampled rs (p .wires), fresh-is sampled rs size (p .wires))
+      (reads-select sampled (worked sampled rs (p .wires)) (or-wire (p .arrival) (e .taken)) b (truth (s || b))
+      (or-value sampled (at (worked sampled rs (p .wires))) (p .arrival) (e .taken) s b (l .reads) (m .reads)) l m)
 
   -- the point of a `set` and the start values
-  pub start-reads : (ws : List Wire) (k : ℕ) → R ≤ maxRegisters → Reads R (drop R rs) (worked rs (ws ++ (set-wire k ∷ []))) (fresh ws) (upFrom 0 R) k rs
+  pub start-reads : (ws : List Wire) (k : ℕ) → R ≤ maxRegisters → Reads R (drop R rs) (worked sampled rs (ws ++ (set-wire k ∷ []))) (fresh ws) (upFrom 0 R) k rs
   start-reads ws k h =
-      let E = worked rs ws in
+      let E = worked sampled rs ws in
       let base : Reads R (drop R rs) rs 0 (upFrom 0 R) (at rs 0) rs = record {
         low = omega arith;
         reads = refl;
@@ -194,5 +194,5 @@ module _ (rs : List ℕ) (size : length rs ≡ maxRegisters) (R : ℕ) where
         lows = below-upFrom (length rs) 0 R (omega arith);
         words = rw (map-registers rs R (omega arith)) (take-append-drop R rs);
       } in
-      rw (worked-append rs ws, worked-cons E (set-wire k) [] k (set-value (at E) k), worked-nil, fresh-is rs size ws)
-      (reads-put E k (reads-grow rs E (worked-grows rs ws) base))
+      rw (worked-append sampled rs ws, worked-cons sampled E (set-wire k) [] k (set-value sampled (at E) k), worked-nil, fresh-is sampled rs size ws)
+      (reads-put E k (reads-grow rs E (worked-grows sampled rs ws) base))

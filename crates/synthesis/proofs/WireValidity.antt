@@ -21,7 +21,7 @@ use Rattle.fsmd.specs.declared.Wire.{Wire}
 use Rattle.fsmd.specs.Table.{validReference, validWire, validWires}
 use Rattle.state.specs.Wires.{wire, set-wire, select-wire, selects}
 use Rattle.state.specs.Wires.{instructionWire}
-use Rattle.synthesis.proofs.GraphFacts.{two-operands}
+use Rattle.synthesis.proofs.GraphFacts.{two-operands, code-range}
 
 -- ---- references, where the next wire is number n
 
@@ -77,37 +77,38 @@ or-made true b h = refl
 or-made false b h = h refl
 
 -- each operand that the code reads is a reference
-wire-valid : (R n : ℕ) (w : Wire) → 1 ≤ w .code → w .code ≤ 19 → ((w .code ≡ 1 → ⊥) → Reference R n (w .a))
+wire-valid : (R n : ℕ) (w : Wire) → 1 ≤ w .code → w .code ≤ 20 → (1 ≤ arity (w .code) → (w .code ≡ 1 → ⊥) → Reference R n (w .a))
     → (2 ≤ arity (w .code) → Reference R n (w .b)) → (3 ≤ arity (w .code) → Reference R n (w .c)) → validWire R n w ≡ true
 unfolding validWire
 wire-valid R n w low high a b c =
     let k = w .code in
-    let pa = eqb k 1 || validReference R n (w .a) in
+    let a′ = ltb (arity k) 1 || validReference R n (w .a) in
+    let pa = eqb k 1 || a′ in
     let pb = ltb (arity k) 2 || validReference R n (w .b) in
     let pc = ltb (arity k) 3 || validReference R n (w .c) in
-    and-both (leb 1 k && leb k 19 && pa && pb) pc
-    (and-both (leb 1 k && leb k 19 && pa) pb
-    (and-both (leb 1 k && leb k 19) pa
-    (and-both (leb 1 k) (leb k 19) (le-leb 1 k low) (le-leb k 19 high))
-    (or-made (eqb k 1) (validReference R n (w .a)) (λ e. reference-valid R n (w .a) (a (eqb-false k 1 e)))))
+    and-both (leb 1 k && leb k 20 && pa && pb) pc
+    (and-both (leb 1 k && leb k 20 && pa) pb
+    (and-both (leb 1 k && leb k 20) pa
+    (and-both (leb 1 k) (leb k 20) (le-leb 1 k low) (le-leb k 20 high))
+    (or-made (eqb k 1) a′ (λ e. or-made (ltb (arity k) 1) (validReference R n (w .a)) (λ l. reference-valid R n (w .a) (a (ltb-false (arity k) 1 l) (eqb-false k 1 e))))))
     (or-made (ltb (arity k) 2) (validReference R n (w .b)) (λ e. reference-valid R n (w .b) (b (ltb-false (arity k) 2 e)))))
     (or-made (ltb (arity k) 3) (validReference R n (w .c)) (λ e. reference-valid R n (w .c) (c (ltb-false (arity k) 3 e))))
 
 pub set-valid : (R n x : ℕ) → validWire R n (set-wire x) ≡ true
 unfolding arity
-set-valid R n x = wire-valid R n (set-wire x) (omega arith) (omega arith) (λ e. absurd (e refl)) (λ h. absurd (omega arith)) (λ h. absurd (omega arith))
+set-valid R n x = wire-valid R n (set-wire x) (omega arith) (omega arith) (λ d e. absurd (e refl)) (λ h. absurd (omega arith)) (λ h. absurd (omega arith))
 
 pub select-valid : (R n t v s : ℕ) → Reference R n t → Reference R n v → Reference R n s → validWire R n (select-wire t v s) ≡ true
-select-valid R n t v s a b c = wire-valid R n (select-wire t v s) (omega arith) (omega arith) (λ e. a) (λ h. b) (λ h. c)
+select-valid R n t v s a b c = wire-valid R n (select-wire t v s) (omega arith) (omega arith) (λ d e. a) (λ h. b) (λ h. c)
 
 -- a code of two operands
 pub record Two (code : ℕ) : Type 0 where
   pub low : 1 ≤ code
-  pub high : code ≤ 19
+  pub high : code ≤ 20
   pub few : arity code ≤ 2
 
 pub two-valid : (R n code a b : ℕ) → Two code → Reference R n a → Reference R n b → validWire R n (wire code a b 0) ≡ true
-two-valid R n code a b t ra rb = let few = t .few in wire-valid R n (wire code a b 0) (t .low) (t .high) (λ e. ra) (λ h. rb) (λ h. absurd (omega arith))
+two-valid R n code a b t ra rb = let few = t .few in wire-valid R n (wire code a b 0) (t .low) (t .high) (λ d e. ra) (λ h. rb) (λ h. absurd (omega arith))
 
 pub and-two : Two 5
 unfolding arity
@@ -139,9 +140,10 @@ unfolding instructionWire
 instruction-valid R n vs i c a v =
     let f : ℕ → ℕ = λ r. getD vs r 0 in
     let t = two-operands v in
-    let high = v .codeHigh in
-    wire-valid R n (instructionWire f i) (v .codeLow) (omega arith)
-    (λ e. choose-read (eqb (i .code) 1) (i .a) (f (i .a)) R n (ne-eqb (i .code) 1 e) (reference-at R n vs (i .a) a (let l = v .first e in omega arith)))
+    let known = code-range v in
+    wire-valid R n (instructionWire f i) (known .0) (known .1)
+    (λ d e. choose-read (ltb (arity (i .code)) 1) 0 (choose (eqb (i .code) 1) (i .a) (f (i .a))) R n (le-ltb (arity (i .code)) 1 d)
+    (choose-read (eqb (i .code) 1) (i .a) (f (i .a)) R n (ne-eqb (i .code) 1 e) (reference-at R n vs (i .a) a (let l = v .first d e in omega arith))))
     (λ h. choose-read (ltb (arity (i .code)) 2) 0 (f (i .b)) R n (le-ltb (arity (i .code)) 2 h) (reference-at R n vs (i .b) a (let l = v .second (omega arith) in omega arith)))
     (λ h. absurd (omega arith))
 

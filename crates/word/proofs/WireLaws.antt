@@ -9,7 +9,7 @@ use lib.ListN.{getD}
 use Rattle.word.specs.declared.Comparison.the-variants.{Eq, Ne, Lt, Ge, Ltu, Geu}
 use Rattle.word.specs.Word.{choose, addOf, subOf, shlOf, shrOf, sarOf, sxOf, andNotOf, compareOf, truth, results, evalOf, arities, arity}
 
-module _ (a b c a′ b′ c′ : ℕ) where
+module _ (s a b c a′ b′ c′ : ℕ) where
   -- x and y are the same where the first n operands are
   abbrev Rule : ℕ → ℕ → ℕ → Type 0
   Rule n x y = (0 < n → a ≡ a′) → (1 < n → b ≡ b′) → (2 < n → c ≡ c′) → x ≡ y
@@ -25,8 +25,8 @@ module _ (a b c a′ b′ c′ : ℕ) where
   at (h then t) zero p q r = h p q r
   at (h then t) (suc k) p q r = at t k p q r
 
-  none : Rule 0 0 0
-  none p q r = refl
+  none : (x : ℕ) → Rule 0 x x
+  none x p q r = refl
 
   one : (f : ℕ → ℕ) → Rule 1 (f a) (f a′)
   one f p q r = ap f (p (lit< tt))
@@ -41,11 +41,11 @@ module _ (a b c a′ b′ c′ : ℕ) where
   test f = two (λ x y. truth (f x y))
 
   -- operands past a code's arity do not matter
-  pub eval-uses : (k : ℕ) → (0 < arity k → a ≡ a′) → (1 < arity k → b ≡ b′) → (2 < arity k → c ≡ c′) → evalOf k a b c ≡ evalOf k a′ b′ c′
+  pub eval-uses : (k : ℕ) → (0 < arity k → a ≡ a′) → (1 < arity k → b ≡ b′) → (2 < arity k → c ≡ c′) → evalOf s k a b c ≡ evalOf s k a′ b′ c′
   unfolding evalOf arity
   eval-uses =
-      at {ns = arities} {l = results a b c} {m = results a′ b′ c′} (
-      none
+      at {ns = arities} {l = results s a b c} {m = results s a′ b′ c′} (
+      none 0
       then one (λ x. x)
       then one (λ x. x)
       then two addOf
@@ -65,29 +65,30 @@ module _ (a b c a′ b′ c′ : ℕ) where
       then test (compareOf Geu)
       then two andNotOf
       then three (λ x y z. choose (eqb x 0) z y)
+      then none s
       then end)
 
 -- ---- at truth values
 
-pub and-truth : (s t : Bool) → evalOf 5 (truth s) (truth t) 0 ≡ truth (s && t)
+pub and-truth : (w : ℕ) (s t : Bool) → evalOf w 5 (truth s) (truth t) 0 ≡ truth (s && t)
 unfolding evalOf
-and-truth true true = refl
-and-truth true false = refl
-and-truth false t = refl
+and-truth w true true = refl
+and-truth w true false = refl
+and-truth w false t = refl
 
-pub or-truth : (s t : Bool) → evalOf 6 (truth s) (truth t) 0 ≡ truth (s || t)
+pub or-truth : (w : ℕ) (s t : Bool) → evalOf w 6 (truth s) (truth t) 0 ≡ truth (s || t)
 unfolding evalOf
-or-truth true true = refl
-or-truth true false = refl
-or-truth false t = refl
+or-truth w true true = refl
+or-truth w true false = refl
+or-truth w false t = refl
 
-pub and-not-truth : (s t : Bool) → evalOf 18 (truth s) (truth t) 0 ≡ truth (s && not t)
+pub and-not-truth : (w : ℕ) (s t : Bool) → evalOf w 18 (truth s) (truth t) 0 ≡ truth (s && not t)
 unfolding evalOf
-and-not-truth true true = refl
-and-not-truth true false = refl
-and-not-truth false t = refl
+and-not-truth w true true = refl
+and-not-truth w true false = refl
+and-not-truth w false t = refl
 
-pub select-truth : (s : Bool) (x y : ℕ) → evalOf 19 (truth s) x y ≡ choose s x y
+pub select-truth : (w : ℕ) (s : Bool) (x y : ℕ) → evalOf w 19 (truth s) x y ≡ choose s x y
 unfolding evalOf
-select-truth true x y = refl
-select-truth false x y = refl
+select-truth w true x y = refl
+select-truth w false x y = refl

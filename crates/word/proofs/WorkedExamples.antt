@@ -7,9 +7,9 @@ use lib.Signed.{leZ}
 use lib.Dec.{T, eqb}
 use Rattle.word.specs.Word.{evalOf, signedOf}
 
--- code k gives r on these operands
+-- code k gives r on these operands, with 9 sampled
 abbrev gives : ℕ → ℕ → ℕ → ℕ → ℕ → Bool
-gives k a b c r = eqb (evalOf k a b c) r
+gives k a b c r = eqb (evalOf 9 k a b c) r
 
 -- the word x is the signed number z
 abbrev reads : ℕ → ℤ → Bool
@@ -47,9 +47,11 @@ tests =
     ∷ gives 18 4294967295 1 0 4294967294
     ∷ gives 19 5 6 7 6
     ∷ gives 19 0 6 7 7
+    -- in
+    ∷ gives 20 5 6 7 9
     -- codes that are none
     ∷ gives 0 5 6 7 0
-    ∷ gives 20 5 6 7 0
+    ∷ gives 21 5 6 7 0
     ∷ gives 4294967295 5 6 7 0
     ∷ []
 

@@ -93,9 +93,9 @@ truth false = 0
 abbrev pub andNotOf : ℕ → ℕ → ℕ
 andNotOf a b = bitAnd a (2 ^ 32 - 1 - b)
 
--- the results by code, from code 0, which is none
-abbrev pub results : ℕ → ℕ → ℕ → List ℕ
-results a b c =
+-- the results by code, from code 0, which is none; `sampled` is the word sampled at the start of the cycle
+abbrev pub results : ℕ → ℕ → ℕ → ℕ → List ℕ
+results sampled a b c =
     0
     -- 1 set, 2 copy
     ∷ a
@@ -124,15 +124,17 @@ results a b c =
     ∷ andNotOf a b
     -- 19 b where a is nonzero, else c
     ∷ choose (eqb a 0) c b
+    -- 20 in
+    ∷ sampled
     ∷ []
 
 -- what a code gives; 0 at a code that is none
-unfoldable pub evalOf : ℕ → ℕ → ℕ → ℕ → ℕ
-evalOf code a b c = getD (results a b c) code 0
+unfoldable pub evalOf : ℕ → ℕ → ℕ → ℕ → ℕ → ℕ
+evalOf sampled code a b c = getD (results sampled a b c) code 0
 
 -- how many of a, b and c each code reads, from code 0
 abbrev pub arities : List ℕ
-arities = 0 ∷ 1 ∷ 1 ∷ 2 ∷ 2 ∷ 2 ∷ 2 ∷ 2 ∷ 2 ∷ 2 ∷ 2 ∷ 1 ∷ 2 ∷ 2 ∷ 2 ∷ 2 ∷ 2 ∷ 2 ∷ 2 ∷ 3 ∷ []
+arities = 0 ∷ 1 ∷ 1 ∷ 2 ∷ 2 ∷ 2 ∷ 2 ∷ 2 ∷ 2 ∷ 2 ∷ 2 ∷ 1 ∷ 2 ∷ 2 ∷ 2 ∷ 2 ∷ 2 ∷ 2 ∷ 2 ∷ 3 ∷ 0 ∷ []
 
 -- how many operands a code reads; a code that is none reads none
 unfoldable pub arity : ℕ → ℕ

@@ -21,6 +21,12 @@ graph r bs = record { registers = r; blocks = bs }
 abbrev sub : ℕ → ℕ → ℕ → Instruction
 sub d a b = record { code = 4; d = d; a = a; b = b }
 
+abbrev add : ℕ → ℕ → ℕ → Instruction
+add d a b = record { code = 3; d = d; a = a; b = b }
+
+abbrev sampled : ℕ → Instruction
+sampled d = record { code = 20; d = d; a = 0; b = 0 }
+
 abbrev ite : Comparison → ℕ → ℕ → Ending
 ite c t f = Ite (record { comparison = c; a = 0; b = 1 }) t f
 
@@ -55,3 +61,11 @@ unfoldable pub Figure5 : CFG
 Figure5 =
     graph 2 (
     block [] (Goto 1) ∷ block [] (ite Eq 2 5) ∷ block [] (Goto 3) ∷ block [] (Goto 4) ∷ block [] (ite Eq 3 5) ∷ block [] (Goto 6) ∷ block [] (Goto 1) ∷ [])
+
+-- R-1: both blocks of a cycle read the same word, and the next cycle the next
+unfoldable pub Rates : CFG
+Rates =
+    graph 2 (
+    block (sampled 0 ∷ []) (Goto 1)
+    ∷ block (sampled 1 ∷ add 1 1 0 ∷ []) (Goto 0)
+    ∷ [])

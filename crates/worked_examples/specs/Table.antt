@@ -7,19 +7,19 @@ use lib.ListN.{length, getD, replicate}
 use lib.Dec.{T, eqb}
 use Rattle.word.specs.Word.{evalOf}
 use Rattle.runs.specs.Lists.{same, every}
-use Rattle.runs.specs.Runs.{numberOf, haltedOf, countOf, nextOf}
+use Rattle.runs.specs.Runs.{listed, unread, numberOf, outcomeOf, countOf, nextOf}
 use Rattle.runs.specs.declared.RunAnswer.{RunAnswer}
 use Rattle.cfg.specs.Layout.{graphWords}
 use Rattle.cfg.specs.Graph.{CFG}
 use Rattle.cfg.specs.Table.{tableOf as graphTable, admitted as graphAdmitted}
-use Rattle.cfg.specs.Run.{runAnswer as runGraph, runRegisters as graphRegisters}
+use Rattle.cfg.specs.Run.{runAnswer as runGraph, runRegisters as graphRegisters, wordsAnswer, wordsRegisters}
 use Rattle.cfg_text.specs.Read.{readAnswer, readWords, numberOf as readNumber, lineOf as readLine}
 use Rattle.fsmd.specs.Machine.{State}
 use Rattle.fsmd.specs.Table.{tableOf as machineTable, admitted as machineAdmitted}
 use Rattle.fsmd.specs.Run.{runAnswer as runMachine, runRegisters as machineRegisters}
 use Rattle.grouping.specs.Grouping.{groups}
 use Rattle.synthesis.specs.Synthesis.{machine}
-use Rattle.worked_examples.specs.Graphs.{P7, P9, P10, P11, P12, Figure5}
+use Rattle.worked_examples.specs.Graphs.{P7, P9, P10, P11, P12, Figure5, Rates}
 use Rattle.worked_examples.specs.Texts.{lines, gotoTwo, gotoOne, eight, nine, p7Text}
 
 -- an example's name, and whether it holds
@@ -34,9 +34,9 @@ row e b = record { example = e; holds = b }
 abbrev reading : List ℕ → List ℕ
 reading text = let r = readAnswer text (replicate graphWords 0) in readNumber r ∷ readLine r ∷ []
 
--- number, halted, count and next of a run
+-- number, outcome, count and next of a run
 abbrev fields : RunAnswer → List ℕ
-fields r = numberOf r ∷ haltedOf r ∷ countOf r ∷ nextOf r ∷ []
+fields r = numberOf r ∷ outcomeOf r ∷ countOf r ∷ nextOf r ∷ []
 
 -- sixteen register words
 abbrev regs : ℕ → ℕ → List ℕ
@@ -47,18 +47,18 @@ abbrev wireCounts : CFG → List ℕ
 wireCounts g = map (λ (q : State). length (q .wires)) (machine g .states)
 
 unfoldable pub rows : List Row
-unfolding evalOf groups machine runGraph graphRegisters runMachine machineRegisters graphTable machineTable graphAdmitted machineAdmitted readAnswer readWords P7 P9 P10 P11 P12 Figure5 gotoTwo gotoOne eight nine p7Text
+unfolding evalOf groups machine runGraph graphRegisters wordsAnswer wordsRegisters runMachine machineRegisters graphTable machineTable graphAdmitted machineAdmitted readAnswer readWords P7 P9 P10 P11 P12 Figure5 Rates gotoTwo gotoOne eight nine p7Text
 rows =
     row "P1 the empty text: 3, line 1" (same (reading []) (3 ∷ 1 ∷ []))
     ∷ row "P2 graph,65,1: 2, line 1" (same (reading (lines ("graph,65,1" ∷ []))) (2 ∷ 1 ∷ []))
     ∷ row "P2 graph,64,1: 3, line 2" (same (reading (lines ("graph,64,1" ∷ []))) (3 ∷ 2 ∷ []))
     ∷ row "P3 goto,2 with B = 2: 5" (same (reading gotoTwo) (5 ∷ 3 ∷ []))
     ∷ row "P3 goto,1 passes" (same (reading gotoOne) (0 ∷ 0 ∷ []))
-    ∷ row "P4 sx of 32767" (eqb (evalOf 11 32767 0 0) 32767)
-    ∷ row "P4 sx of 32768" (eqb (evalOf 11 32768 0 0) 4294934528)
-    ∷ row "P5 -200 lt 0" (eqb (evalOf 14 4294967096 0 0) 1)
-    ∷ row "P5 4294967096 ltu 0" (eqb (evalOf 16 4294967096 0 0) 0)
-    ∷ row "P6 0 sub 1" (eqb (evalOf 4 0 1 0) 4294967295)
+    ∷ row "P4 sx of 32767" (eqb (evalOf 0 11 32767 0 0) 32767)
+    ∷ row "P4 sx of 32768" (eqb (evalOf 0 11 32768 0 0) 4294934528)
+    ∷ row "P5 -200 lt 0" (eqb (evalOf 0 14 4294967096 0 0) 1)
+    ∷ row "P5 4294967096 ltu 0" (eqb (evalOf 0 16 4294967096 0 0) 0)
+    ∷ row "P6 0 sub 1" (eqb (evalOf 0 4 0 1 0) 4294967295)
     ∷ row "P7 its text is read" (same (readWords p7Text (replicate graphWords 0)) (graphTable P7))
     ∷ row "P7 starters" (same (groups P7 .starters) (0 ∷ 1 ∷ []))
     ∷ row "P7 blocks by state" (same (groups P7 .states) (0 ∷ 1 ∷ 1 ∷ 1 ∷ 1 ∷ 1 ∷ []))
@@ -68,16 +68,16 @@ rows =
     ∷ row "P7 its tables are admitted" (graphAdmitted (graphTable P7) && machineAdmitted (machineTable (machine P7)))
     ∷ row "P8 blocks" (same (fields (runGraph (graphTable P7) (regs 12 18) 0 1000)) (0 ∷ 1 ∷ 9 ∷ 255 ∷ []))
     ∷ row "P8 registers of the graph" (same (graphRegisters (graphTable P7) (regs 12 18) 0 1000) (regs 6 6))
-    ∷ row "P8 cycles" (same (fields (runMachine (machineTable (machine P7)) (regs 12 18) 0 1000)) (0 ∷ 1 ∷ 4 ∷ 255 ∷ []))
-    ∷ row "P8 registers of the machine" (same (machineRegisters (machineTable (machine P7)) (regs 12 18) 0 1000) (regs 6 6))
+    ∷ row "P8 cycles" (same (fields (runMachine unread (machineTable (machine P7)) (regs 12 18) 0 1000)) (0 ∷ 1 ∷ 4 ∷ 255 ∷ []))
+    ∷ row "P8 registers of the machine" (same (machineRegisters unread (machineTable (machine P7)) (regs 12 18) 0 1000) (regs 6 6))
     ∷ row "P9 starters" (same (groups P9 .starters) (0 ∷ 1 ∷ 3 ∷ 4 ∷ []))
     ∷ row "P10 starters" (same (groups P10 .starters) (0 ∷ 1 ∷ 2 ∷ []))
     ∷ row "P11 one state" (same (groups P11 .starters) (0 ∷ []))
-    ∷ row "P11 not halted after 100 cycles" (same (fields (runMachine (machineTable (machine P11)) (regs 1 2) 0 100)) (0 ∷ 0 ∷ 100 ∷ 0 ∷ []))
+    ∷ row "P11 not halted after 100 cycles" (same (fields (runMachine unread (machineTable (machine P11)) (regs 1 2) 0 100)) (0 ∷ 0 ∷ 100 ∷ 0 ∷ []))
     ∷ row "P12 one state" (same (groups P12 .starters) (0 ∷ []))
     ∷ row "P12 block 2 has none" (same (groups P12 .states) (0 ∷ 0 ∷ 255 ∷ []))
     ∷ row "P13 budget 0, the graph" (same (fields (runGraph (graphTable P7) (regs 12 18) 3 0)) (0 ∷ 0 ∷ 0 ∷ 3 ∷ []))
-    ∷ row "P13 budget 0, the machine" (same (fields (runMachine (machineTable (machine P7)) (regs 12 18) 1 0)) (0 ∷ 0 ∷ 0 ∷ 1 ∷ []))
+    ∷ row "P13 budget 0, the machine" (same (fields (runMachine unread (machineTable (machine P7)) (regs 12 18) 1 0)) (0 ∷ 0 ∷ 0 ∷ 1 ∷ []))
     -- run only
     ∷ row "eight instructions" (same (reading eight) (0 ∷ 0 ∷ []))
     ∷ row "a ninth instruction: 3" (same (reading nine) (3 ∷ 11 ∷ []))
@@ -90,6 +90,17 @@ rows =
     -- figure 5 of the published procedure
     ∷ row "figure 5 starters" (same (groups Figure5 .starters) (0 ∷ 3 ∷ 1 ∷ 5 ∷ []))
     ∷ row "figure 5 states" (same (groups Figure5 .states) (0 ∷ 2 ∷ 2 ∷ 1 ∷ 1 ∷ 3 ∷ 3 ∷ []))
+    -- R-1
+    ∷ row "in: the graph is spent before it is dry" (same (fields (wordsAnswer (graphTable Rates) (regs 0 0) 0 4 (5 ∷ 7 ∷ []) (0 ∷ []))) (0 ∷ 0 ∷ 4 ∷ 0 ∷ []))
+    ∷ row "in: the graph is dry" (same (fields (wordsAnswer (graphTable Rates) (regs 0 0) 0 9 (5 ∷ 7 ∷ []) (0 ∷ []))) (0 ∷ 2 ∷ 4 ∷ 0 ∷ []))
+    ∷ row "in: registers of the graph" (same (wordsRegisters (graphTable Rates) (regs 0 0) 0 9 (5 ∷ 7 ∷ []) (0 ∷ [])) (regs 7 14))
+    ∷ row "in: every block an arrival" (same (wordsRegisters (graphTable Rates) (regs 0 0) 0 2 (5 ∷ 7 ∷ []) (1 ∷ 0 ∷ [])) (regs 5 12))
+    ∷ row "in: the machine is spent before it is dry" (same (fields (runMachine (listed (5 ∷ 7 ∷ [])) (machineTable (machine Rates)) (regs 0 0) 0 2)) (0 ∷ 0 ∷ 2 ∷ 0 ∷ []))
+    ∷ row "in: the machine is dry" (same (fields (runMachine (listed (5 ∷ 7 ∷ [])) (machineTable (machine Rates)) (regs 0 0) 0 3)) (0 ∷ 2 ∷ 2 ∷ 0 ∷ []))
+    ∷ row "in: registers of the machine" (same (machineRegisters (listed (5 ∷ 7 ∷ [])) (machineTable (machine Rates)) (regs 0 0) 0 3) (regs 7 14))
+    ∷ row "no words: dry at once" (same (fields (wordsAnswer (graphTable Rates) (regs 0 0) 0 1 [] (0 ∷ []))) (0 ∷ 2 ∷ 0 ∷ 0 ∷ []))
+    ∷ row "no words, no budget: spent" (same (fields (wordsAnswer (graphTable Rates) (regs 0 0) 0 0 [] (0 ∷ []))) (0 ∷ 0 ∷ 0 ∷ 0 ∷ []))
+    ∷ row "a list without the start: 11" (same (fields (wordsAnswer (graphTable Rates) (regs 0 0) 1 1 [] (0 ∷ []))) (11 ∷ 0 ∷ 0 ∷ 0 ∷ []))
     ∷ []
 
 pub all-hold : T (every (λ (r : Row). r .holds) rows)

@@ -82,7 +82,11 @@ unfolding arity
 returns-19 c = rw (c .match .keys19)
 
 returns-20 : tie.Need-returns-20
-returns-20 c = sym (arity-none (c .before .args .code) (c .match .rest))
+unfolding arity
+returns-20 c = rw (c .match .keys20)
+
+returns-21 : tie.Need-returns-21
+returns-21 c = sym (arity-none (c .before .args .code) (c .match .rest))
 
 pub arity-spec : {M : Type 1} → statement M
 arity-spec =
@@ -107,4 +111,5 @@ arity-spec =
     returns-17
     returns-18
     returns-19
-    returns-20)
+    returns-20
+    returns-21)

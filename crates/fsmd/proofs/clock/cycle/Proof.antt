@@ -49,9 +49,9 @@ returns c =
     let p = l .before .before .before .«record» in
     let m = c .before .wide in
     let h : length rs ≡ maxRegisters = omega (arith, s .pre .1, l .store .kept .0, ap length (l .store .ensures), length-append rs (drop maxRegisters ws), length-drop maxRegisters ws) in
-    clocked t (a .k) (f .result) (n .result) (p .result) (m .result) (f .ensures .0) (n .ensures .0) (p .ensures) (m .ensures .0) rs
+    clocked (a .sampled) t (a .k) (f .result) (n .result) (p .result) (m .result) (f .ensures .0) (n .ensures .0) (p .ensures) (m .ensures .0) rs
     (take (maxRegisters + n .result) (b .work .last .0)) (c .taken .result .words) (c .before .before .before .before .read .result)
-    (b .work .ensures ∙ ap (λ (v : List ℕ). worked v (wiresFrom t (f .result) (n .result))) (ap (take maxRegisters) (l .store .ensures) ∙ take-at rs (drop maxRegisters ws) maxRegisters h))
+    (b .work .ensures ∙ ap (λ (v : List ℕ). worked (a .sampled) v (wiresFrom t (f .result) (n .result))) (ap (take maxRegisters) (l .store .ensures) ∙ take-at rs (drop maxRegisters ws) maxRegisters h))
     (c .before .before .before .before .read .ensures)
     (c .taken .ensures)
 

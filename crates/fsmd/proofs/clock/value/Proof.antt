@@ -13,7 +13,7 @@ use Rattle.fsmd.proofs.clock.value.Tie as tie
 returns : tie.Need-returns
 returns c =
     let a = c .before .before .before .args in
-    value-set (λ x. getD (now (a .words)) (x % roomWords) 0) (a .w) (c .if1 .taken)
+    value-set (a .sampled) (λ x. getD (now (a .words)) (x % roomWords) 0) (a .w) (c .if1 .taken)
 
 returns-2 : tie.Need-returns-2
 returns-2 c =
@@ -23,9 +23,9 @@ returns-2 c =
     let x = c .before .before .before .before .before .before .wide in
     let y = c .before .before .before .before .before .wide2 in
     let z = c .before .before .before .before .wide3 in
-    c .eval .ensures ∙ ap (λ (u : ℕ). evalOf k (at u) (at (y .result)) (at (z .result))) (x .ensures .0)
-    ∙ ap₂ (λ (u v : ℕ). evalOf k (at (a .w .a)) (at u) (at v)) (y .ensures .0) (z .ensures .0)
-    ∙ value-other at (a .w) (c .before .before .before .before .before .before .before .if1 .left)
+    c .eval .ensures ∙ ap (λ (u : ℕ). evalOf (a .sampled) k (at u) (at (y .result)) (at (z .result))) (x .ensures .0)
+    ∙ ap₂ (λ (u v : ℕ). evalOf (a .sampled) k (at (a .w .a)) (at u) (at v)) (y .ensures .0) (z .ensures .0)
+    ∙ value-other (a .sampled) at (a .w) (c .before .before .before .before .before .before .before .if1 .left)
 
 pub value-spec : {M : Type 1} → statement M
 value-spec =

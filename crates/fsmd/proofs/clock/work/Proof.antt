@@ -15,14 +15,14 @@ use Rattle.fsmd.proofs.clock.work.Statement.{statement}
 use Rattle.fsmd.proofs.clock.work.Tie as tie
 
 abbrev Inv-loop : tie.InvT-loop
-Inv-loop words₀ table first count n₀ words n =
+Inv-loop words₀ table first count sampled n₀ words n =
     (n ≤ count)
     × (length words ≡ length words₀)
     × (validWires (getD table 1 0) n (drop n (wiresFrom table first count)) ≡ true)
-    × (worked (take (maxRegisters + n) words) (drop n (wiresFrom table first count)) ≡ worked (take maxRegisters words₀) (wiresFrom table first count))
+    × (worked sampled (take (maxRegisters + n) words) (drop n (wiresFrom table first count)) ≡ worked sampled (take maxRegisters words₀) (wiresFrom table first count))
 
 abbrev μ-loop : tie.MeasureT-loop
-μ-loop words₀ table first count n₀ words n = count - n
+μ-loop words₀ table first count sampled n₀ words n = count - n
 
 loop-holds : tie.Need-loop-holds Inv-loop μ-loop
 loop-holds c = (omega arith, refl, c .before .before .pre .1 .1 .1 .0, refl)
@@ -45,8 +45,8 @@ loop-again c =
       omega arith,
       length-set (b .loop .words) (maxRegisters + n) (c .value .result) ∙ b .loop .inv .1,
       sym (wires-pass t (a .first) (a .count) r n below v) ∙ b .loop .inv .2,
-      sym (work-next t (a .first) (a .count) n (b .loop .words) (c .value .result) below (omega arith)
-          (c .value .ensures ∙ ap (wireValue f) (c .before .wire .ensures) ∙ value-within (b .loop .words) r n w (omega arith) (omega arith) v))
+      sym (work-next (a .sampled) t (a .first) (a .count) n (b .loop .words) (c .value .result) below (omega arith)
+          (c .value .ensures ∙ ap (wireValue (a .sampled) f) (c .before .wire .ensures) ∙ value-within (a .sampled) (b .loop .words) r n w (omega arith) (omega arith) v))
           ∙ b .loop .inv .3,
     )
 
@@ -56,7 +56,7 @@ returns c =
     let a = b .before .before .before .args in
     let e : b .loop .n ≡ a .count = omega arith in
     ap (λ (i : ℕ). take (maxRegisters + i) (b .loop .words)) (sym e)
-    ∙ sym (work-done (now (a .table)) (a .first) (a .count) (b .loop .n) (take (maxRegisters + b .loop .n) (b .loop .words)) (omega arith)) ∙ b .loop .inv .3
+    ∙ sym (work-done (a .sampled) (now (a .table)) (a .first) (a .count) (b .loop .n) (take (maxRegisters + b .loop .n) (b .loop .words)) (omega arith)) ∙ b .loop .inv .3
 
 pub work-spec : {M : Type 1} → statement M
 work-spec =

@@ -1,18 +1,19 @@
 -- `fsmd::run::run` meets its contract: the configuration so far is reached after `count` cycles. Assumes nothing.
 use Prim.Native.Nat.{ℕ, _+_, _-_, _<_}
 use native.Mathlib.Omega.{arith}
+use mathlib.Core.Bool.{true}
 use mathlib.Core.Path.{_≡_, refl, sym, ap, _∙_, subst}
 use lib.ListN.{length, getD, length-replicate}
 use denote.Ref.{now}
 use borrow.Author.Needs.{needs}
-use Rattle.runs.proofs.RunLaws.{Reached, reached-start, reached-spent, registers-spent, reached-halted, registers-halted}
-use Rattle.runs.specs.Runs.{Configuration, startAt}
+use Rattle.runs.proofs.RunLaws.{Reached, reached-start, reached-spent, registers-spent, reached-halted, registers-ended, halted-ends}
+use Rattle.runs.specs.Runs.{Configuration, standsAt, startAt, unread, moved}
 use Rattle.fsmd.specs.Layout.{roomWords}
 use Rattle.fsmd.specs.Clock.{after}
-use Rattle.fsmd.specs.Machine.{clock, cycle}
+use Rattle.fsmd.specs.Machine.{clock, machineRunner}
 use Rattle.fsmd.specs.Table.{machineOf, stateAt}
 use Rattle.fsmd.proofs.Machines.{admitted-facts}
-use Rattle.fsmd.proofs.Steps.{cycle-stays, cycle-step, after-standing, after-halted}
+use Rattle.fsmd.proofs.Steps.{cycle-step, after-standing, after-halted}
 use Rattle.fsmd.proofs.run.run.Statement.{statement}
 use Rattle.fsmd.proofs.run.run.Tie as tie
 
@@ -20,7 +21,7 @@ abbrev Inv-loop : tie.InvT-loop
 Inv-loop table start budget states words₀ file₀ state₀ count₀ words file state count =
     (state < getD table 0 0)
     × (length words ≡ roomWords)
-    × Reached (cycle (machineOf table)) budget (startAt start (file₀ .words)) count (startAt state (file .words))
+    × Reached (machineRunner (machineOf table)) unread budget (startAt start (file₀ .words)) count (standsAt count state (file .words))
 
 abbrev μ-loop : tie.MeasureT-loop
 μ-loop table start budget states words₀ file₀ state₀ count₀ words file state count = budget - count
@@ -30,7 +31,7 @@ loop-holds c =
     let a = c .before .before .args in (
       c .before .before .pre .1 .1,
       length-replicate {A = ℕ} roomWords 0,
-      reached-start (cycle (machineOf (now (a .table)))) (a .budget) (startAt (a .start) (a .registers .words)),
+      reached-start (machineRunner (machineOf (now (a .table)))) unread (a .budget) (startAt (a .start) (a .registers .words)),
     )
 
 cycle-requires : tie.Need-cycle-requires Inv-loop μ-loop
@@ -55,13 +56,14 @@ returns c =
     let b = c .before .before .before .before .before .before .before in
     let a = b .before .before .before .args in
     let t = now (a .table) in
-    let m = cycle (machineOf t) in
+    let m = machineRunner (machineOf t) in
     let c₀ = startAt (a .start) (a .registers .words) in
     let r = c .before .before .before .cycle .result in
-    let e = c .before .before .before .cycle .ensures ∙ ap (λ (k : ℕ). clock (machineOf t) (stateAt t k) (b .loop .file .words)) (c .before .before .before .before .before .wide .ensures .0) in
-    let s = cycle-step t r (a .budget) c₀ (b .loop .count) (b .loop .state) (b .loop .file .words) (b .loop .inv .2) (b .loop .inv .0) (c .before .before .before .before .before .before .loop-test .taken) e in
-    let h = after-halted t r (c .if1 .taken) in
-    (sym (reached-halted m (a .budget) c₀ (b .loop .count + 1) (after t r) s (cycle-stays (machineOf t)) h), sym (registers-halted m (a .budget) c₀ (b .loop .count + 1) (after t r) s (cycle-stays (machineOf t)) h))
+    let e = c .before .before .before .cycle .ensures ∙ ap (λ (k : ℕ). clock (machineOf t) 0 (stateAt t k) (b .loop .file .words)) (c .before .before .before .before .before .wide .ensures .0) in
+    let s = cycle-step t unread (a .budget) c₀ (b .loop .count) (b .loop .state) (b .loop .file .words) (after t r) (b .loop .inv .2) (b .loop .inv .0) (c .before .before .before .before .before .before .loop-test .taken) refl e in
+    let end = moved (λ k. true) (b .loop .count) (after t r) in
+    let h = after-halted t r (b .loop .count) (c .if1 .taken) in
+    (sym (reached-halted m unread (a .budget) c₀ (b .loop .count + 1) end s (halted-ends unread end h) h), sym (registers-ended m unread (a .budget) c₀ (b .loop .count + 1) end s (halted-ends unread end h)))
 
 loop-less : tie.Need-loop-less Inv-loop μ-loop
 loop-less c = omega arith
@@ -71,14 +73,14 @@ loop-again c =
     let b = c .before .before .before .before .before .before .before in
     let a = b .before .before .before .args in
     let t = now (a .table) in
-    let m = cycle (machineOf t) in
+    let m = machineRunner (machineOf t) in
     let c₀ = startAt (a .start) (a .registers .words) in
     let r = c .before .before .before .cycle .result in
-    let e = c .before .before .before .cycle .ensures ∙ ap (λ (k : ℕ). clock (machineOf t) (stateAt t k) (b .loop .file .words)) (c .before .before .before .before .before .wide .ensures .0) in
-    let s = cycle-step t r (a .budget) c₀ (b .loop .count) (b .loop .state) (b .loop .file .words) (b .loop .inv .2) (b .loop .inv .0) (c .before .before .before .before .before .before .loop-test .taken) e in (
+    let e = c .before .before .before .cycle .ensures ∙ ap (λ (k : ℕ). clock (machineOf t) 0 (stateAt t k) (b .loop .file .words)) (c .before .before .before .before .before .wide .ensures .0) in
+    let s = cycle-step t unread (a .budget) c₀ (b .loop .count) (b .loop .state) (b .loop .file .words) (after t r) (b .loop .inv .2) (b .loop .inv .0) (c .before .before .before .before .before .before .loop-test .taken) refl e in (
       c .if1 .left,
       search needs,
-      subst (λ (x : Configuration). Reached m (a .budget) c₀ (b .loop .count + 1) x) (after-standing t r (c .if1 .left)) s,
+      subst (λ (x : Configuration). Reached m unread (a .budget) c₀ (b .loop .count + 1) x) (after-standing t r (b .loop .count) (c .if1 .left)) s,
     )
 
 returns-2 : tie.Need-returns-2 Inv-loop μ-loop
@@ -86,10 +88,10 @@ returns-2 c =
     let b = c .before in
     let a = b .before .before .before .args in
     let t = now (a .table) in
-    let m = cycle (machineOf t) in
+    let m = machineRunner (machineOf t) in
     let c₀ = startAt (a .start) (a .registers .words) in
-    let x = startAt (b .loop .state) (b .loop .file .words) in
-    (sym (reached-spent m (a .budget) c₀ (b .loop .count) x (b .loop .inv .2) (b .loop .state) refl (c .loop-test .left)), sym (registers-spent m (a .budget) c₀ (b .loop .count) x (b .loop .inv .2) (c .loop-test .left)))
+    let x = standsAt (b .loop .count) (b .loop .state) (b .loop .file .words) in
+    (sym (reached-spent m unread (a .budget) c₀ (b .loop .count) x (b .loop .inv .2) (b .loop .state) refl (c .loop-test .left)), sym (registers-spent m unread (a .budget) c₀ (b .loop .count) x (b .loop .inv .2) (c .loop-test .left)))
 
 pub run-spec : {M : Type 1} → statement M
 run-spec =

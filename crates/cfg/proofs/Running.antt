@@ -12,16 +12,15 @@ use borrow.Author.Tests.{eqb-true, eqb-false, eq-eqb, ne-eqb, lt-ltb, le-ltb}
 use Rattle.word.specs.Word.{choose, evalOf, arity}
 use Rattle.runs.specs.Lists.{mem}
 use Rattle.runs.specs.Runs.{Place, standing, halted, Configuration, standsAt, startAt, Supply, unread, moved, step, answer, registersAfter}
-use Rattle.runs.specs.declared.RunAnswer.the-variants.{Refused}
 use Rattle.runs.proofs.RunLaws.{goes-standing, step-going, Reached, reached-step}
 use Rattle.cfg.specs.declared.Instruction.{Instruction}
 use Rattle.cfg.specs.declared.Ending.{Ending}
 use Rattle.cfg.specs.declared.Ending.the-variants.{Goto, Ite, Halt}
 use Rattle.cfg.specs.declared.Block.{Block}
 use Rattle.cfg.specs.Layout.{maxRegisters, graphWords}
-use Rattle.cfg.specs.Graph.{noInstruction, codeOf, execute, executeAll, holds, leave, runBlock, graphRunner}
+use Rattle.cfg.specs.Graph.{noInstruction, codeOf, execute, executeAll, holds, leave, runBlock, graphRunner, wordless}
 use Rattle.cfg.specs.Table.{blockAt, graphOf, admitted}
-use Rattle.cfg.specs.Run.{refusal, runAnswer, runRegisters}
+use Rattle.cfg.specs.Run.{startersFit, refusal, wordsRefusal}
 use Rattle.cfg.specs.Steps.{Within, EndingWithin, BlockWithin}
 use Rattle.cfg.proofs.Blocks.{instructions-length}
 use Rattle.cfg.proofs.Admitted.{Admitted, ValidInstruction, ValidEnding, block-below}
@@ -166,61 +165,65 @@ turn t starters ws budget c₀ count k n rs after p l h w r e q =
     ∙ rw (← e, ← q) in
     rw (← m) (reached-step g ws budget c₀ count c r (goes-standing ws c n refl w) h)
 
--- ---- refusals, and the answer where there is none
+-- ---- refusals
+
+choose-not : (b : Bool) → choose (not b) 11 0 ≡ choose b 0 11
+choose-not true = refl
+choose-not false = refl
 
 module _ (t rs : List ℕ) (start : ℕ) where
-  refusal-is : refusal t rs start
-      ≡ choose (ltb (length t) graphWords || ltb (length rs) maxRegisters) 7
-      (choose (not (admitted t)) 6 (choose (not (ltb start (getD t 0 0))) 9 0))
-  unfolding refusal
-  refusal-is = refl
-
   pub short-table : length t < graphWords → refusal t rs start ≡ 7
-  short-table h = refusal-is ∙ rw (lt-ltb (length t) graphWords h)
+  unfolding refusal
+  short-table h = rw (lt-ltb (length t) graphWords h)
 
   module _ (l : graphWords ≤ length t) where
     pub short-registers : length rs < maxRegisters → refusal t rs start ≡ 7
-    short-registers h = refusal-is ∙ rw (le-ltb (length t) graphWords l, lt-ltb (length rs) maxRegisters h)
+    unfolding refusal
+    short-registers h = rw (le-ltb (length t) graphWords l, lt-ltb (length rs) maxRegisters h)
 
     module _ (m : maxRegisters ≤ length rs) where
-      long-enough : refusal t rs start ≡ choose (not (admitted t)) 6 (choose (not (ltb start (getD t 0 0))) 9 0)
-      long-enough = refusal-is ∙ rw (le-ltb (length t) graphWords l, le-ltb (length rs) maxRegisters m)
-
       pub not-admitted : admitted t ≡ false → refusal t rs start ≡ 6
-      not-admitted h = long-enough ∙ rw h
+      unfolding refusal
+      not-admitted h = rw (le-ltb (length t) graphWords l, le-ltb (length rs) maxRegisters m, h)
 
-      pub no-start : admitted t ≡ true → getD t 0 0 ≤ start → refusal t rs start ≡ 9
-      no-start h k = long-enough ∙ rw (h, le-ltb start (getD t 0 0) k)
+      module _ (ok : admitted t ≡ true) where
+        pub words-needed : wordless (graphOf t) ≡ false → refusal t rs start ≡ 12
+        unfolding refusal
+        words-needed h = rw (le-ltb (length t) graphWords l, le-ltb (length rs) maxRegisters m, ok, h)
 
-      pub none-refused : admitted t ≡ true → start < getD t 0 0 → refusal t rs start ≡ 0
-      none-refused h k = long-enough ∙ rw (h, lt-ltb start (getD t 0 0) k)
+        module _ (w : wordless (graphOf t) ≡ true) where
+          pub no-start : getD t 0 0 ≤ start → refusal t rs start ≡ 9
+          unfolding refusal
+          no-start h = rw (le-ltb (length t) graphWords l, le-ltb (length rs) maxRegisters m, ok, w, le-ltb start (getD t 0 0) h)
 
-module _ (t rs : List ℕ) (start budget : ℕ) where
-  answer-is : runAnswer t rs start budget
-      ≡ choose (eqb (refusal t rs start) 0)
-      (answer (graphRunner (graphOf t) []) unread budget (startAt start (take maxRegisters rs)))
-      (Refused (refusal t rs start))
-  unfolding runAnswer
-  answer-is = refl
+          pub none-refused : start < getD t 0 0 → refusal t rs start ≡ 0
+          unfolding refusal
+          none-refused h = rw (le-ltb (length t) graphWords l, le-ltb (length rs) maxRegisters m, ok, w, lt-ltb start (getD t 0 0) h)
 
-  after-is : runRegisters t rs start budget
-      ≡ choose (eqb (refusal t rs start) 0)
-      (registersAfter (graphRunner (graphOf t) []) unread budget (startAt start (take maxRegisters rs)) ++ drop maxRegisters rs)
-      rs
-  unfolding runRegisters
-  after-is = refl
+-- with words
+module _ (t rs : List ℕ) (start : ℕ) (starters : List ℕ) where
+  pub words-short-table : length t < graphWords → wordsRefusal t rs start starters ≡ 7
+  unfolding wordsRefusal
+  words-short-table h = rw (lt-ltb (length t) graphWords h)
 
-  module _ (n : ℕ) (h : refusal t rs start ≡ suc n) where
-    pub refused : runAnswer t rs start budget ≡ Refused (suc n)
-    refused = answer-is ∙ rw (h, ne-eqb (suc n) 0 (λ e. omega arith))
+  module _ (l : graphWords ≤ length t) where
+    pub words-short-registers : length rs < maxRegisters → wordsRefusal t rs start starters ≡ 7
+    unfolding wordsRefusal
+    words-short-registers h = rw (le-ltb (length t) graphWords l, lt-ltb (length rs) maxRegisters h)
 
-    pub refused-registers : runRegisters t rs start budget ≡ rs
-    refused-registers = after-is ∙ rw (h, ne-eqb (suc n) 0 (λ e. omega arith))
+    module _ (m : maxRegisters ≤ length rs) where
+      pub words-not-admitted : admitted t ≡ false → wordsRefusal t rs start starters ≡ 6
+      unfolding wordsRefusal
+      words-not-admitted h = rw (le-ltb (length t) graphWords l, le-ltb (length rs) maxRegisters m, h)
 
-  module _ (h : refusal t rs start ≡ 0) where
-    pub accepted : runAnswer t rs start budget ≡ answer (graphRunner (graphOf t) []) unread budget (startAt start (take maxRegisters rs))
-    accepted = answer-is ∙ rw h
+      module _ (ok : admitted t ≡ true) where
+        pub words-no-start : getD t 0 0 ≤ start → wordsRefusal t rs start starters ≡ 9
+        unfolding wordsRefusal
+        words-no-start h = rw (le-ltb (length t) graphWords l, le-ltb (length rs) maxRegisters m, ok, le-ltb start (getD t 0 0) h)
 
-    pub accepted-registers : runRegisters t rs start budget
-        ≡ registersAfter (graphRunner (graphOf t) []) unread budget (startAt start (take maxRegisters rs)) ++ drop maxRegisters rs
-    accepted-registers = after-is ∙ rw h
+        -- 0 or 11
+        pub words-started : start < getD t 0 0 → wordsRefusal t rs start starters ≡ choose (startersFit (getD t 0 0) start starters) 0 11
+        unfolding wordsRefusal
+        words-started h =
+            rw (le-ltb (length t) graphWords l, le-ltb (length rs) maxRegisters m, ok, lt-ltb start (getD t 0 0) h)
+            (choose-not (startersFit (getD t 0 0) start starters))

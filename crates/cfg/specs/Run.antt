@@ -1,61 +1,57 @@
--- "Run graph" of paper 01: its answer and the registers it leaves, on all inputs. Assumes nothing.
+-- "Run graph" of paper 01, and with words as R-1 of paper 02 adds it: answers, and registers left, on all inputs. Assumes nothing.
 use Prim.Native.Nat.{ℕ}
 use mathlib.Core.Bool.{Bool, true, false, not, _&&_, _||_}
-use mathlib.Core.List.{List, [], _++_}
-use lib.ListN.{length, getD, take, drop}
-use lib.Dec.{eqb, ltb}
+use mathlib.Core.List.{List, []}
+use lib.ListN.{length, getD}
+use lib.Dec.{ltb}
 use Rattle.word.specs.Word.{choose}
 use Rattle.runs.specs.Lists.{mem, every}
-use Rattle.runs.specs.Runs.{startAt, listed, unread, answer, registersAfter}
+use Rattle.runs.specs.Runs.{listed, unread}
+use Rattle.runs.specs.Operations.{answered, registersLeft}
 use Rattle.runs.specs.declared.RunAnswer.{RunAnswer}
-use Rattle.runs.specs.declared.RunAnswer.the-variants.{Refused}
 use Rattle.cfg.specs.Layout.{maxRegisters, graphWords}
-use Rattle.cfg.specs.Graph.{runBlock, graphRunner}
+use Rattle.cfg.specs.Graph.{wordless, graphRunner}
 use Rattle.cfg.specs.Table.{graphOf, admitted}
 
--- the refusal's number, or 0: 7 a short table, 6 one that is not admitted, 9 a start that is no block
+abbrev pub short : List ℕ → List ℕ → Bool
+short t rs = ltb (length t) graphWords || ltb (length rs) maxRegisters
+
+-- ---- without words
+
+-- the refusal's number, or 0: 7 a short table or register buffer, 6 a table that is not admitted, 12 one with code 20, 9 a start that is no block
 unfoldable pub refusal : List ℕ → List ℕ → ℕ → ℕ
-unfolding admitted
+unfolding admitted wordless graphOf
 refusal t rs start =
-    choose (ltb (length t) graphWords || ltb (length rs) maxRegisters) 7
+    choose (short t rs) 7
     (choose (not (admitted t)) 6
-    (choose (not (ltb start (getD t 0 0))) 9 0))
+    (choose (not (wordless (graphOf t))) 12
+    (choose (not (ltb start (getD t 0 0))) 9 0)))
 
-unfoldable pub runAnswer : List ℕ → List ℕ → ℕ → ℕ → RunAnswer
-unfolding refusal graphOf runBlock answer
-runAnswer t rs start budget =
-    choose (eqb (refusal t rs start) 0)
-    (answer (graphRunner (graphOf t) []) unread budget (startAt start (take maxRegisters rs)))
-    (Refused (refusal t rs start))
+abbrev pub runAnswer : List ℕ → List ℕ → ℕ → ℕ → RunAnswer
+runAnswer t rs start budget = answered (refusal t rs start) (graphRunner (graphOf t) []) unread rs start budget
 
--- the words from 16 up stay
-unfoldable pub runRegisters : List ℕ → List ℕ → ℕ → ℕ → List ℕ
-unfolding refusal graphOf runBlock registersAfter
-runRegisters t rs start budget =
-    choose (eqb (refusal t rs start) 0)
-    (registersAfter (graphRunner (graphOf t) []) unread budget (startAt start (take maxRegisters rs)) ++ drop maxRegisters rs)
-    rs
+abbrev pub runRegisters : List ℕ → List ℕ → ℕ → ℕ → List ℕ
+runRegisters t rs start budget = registersLeft (refusal t rs start) (graphRunner (graphOf t) []) unread rs start budget
 
--- ---- "Run graph" with words and starters, of R-1
+-- ---- with words, and the starters whose every coming to is an arrival
 
--- as above, then 11: a starter list without block 0, without the start block, or with a block that is none
+-- block 0 and the start are among the starters, and each is one of b blocks
+abbrev pub startersFit : ℕ → ℕ → List ℕ → Bool
+startersFit b start starters = mem 0 starters && mem start starters && every (λ s. ltb s b) starters
+
+-- 7, 6 and 9 as above, then 11: starters that do not fit
 unfoldable pub wordsRefusal : List ℕ → List ℕ → ℕ → List ℕ → ℕ
-unfolding refusal
+unfolding admitted
 wordsRefusal t rs start starters =
-    choose (eqb (refusal t rs start) 0)
-    (choose (mem 0 starters && mem start starters && every (λ b. ltb b (getD t 0 0)) starters) 0 11)
-    (refusal t rs start)
+    choose (short t rs) 7
+    (choose (not (admitted t)) 6
+    (choose (not (ltb start (getD t 0 0))) 9
+    (choose (not (startersFit (getD t 0 0) start starters)) 11 0)))
 
-unfoldable pub wordsAnswer : List ℕ → List ℕ → ℕ → ℕ → List ℕ → List ℕ → RunAnswer
-unfolding wordsRefusal graphOf runBlock answer
+abbrev pub wordsAnswer : List ℕ → List ℕ → ℕ → ℕ → List ℕ → List ℕ → RunAnswer
 wordsAnswer t rs start budget words starters =
-    choose (eqb (wordsRefusal t rs start starters) 0)
-    (answer (graphRunner (graphOf t) starters) (listed words) budget (startAt start (take maxRegisters rs)))
-    (Refused (wordsRefusal t rs start starters))
+    answered (wordsRefusal t rs start starters) (graphRunner (graphOf t) starters) (listed words) rs start budget
 
-unfoldable pub wordsRegisters : List ℕ → List ℕ → ℕ → ℕ → List ℕ → List ℕ → List ℕ
-unfolding wordsRefusal graphOf runBlock registersAfter
+abbrev pub wordsRegisters : List ℕ → List ℕ → ℕ → ℕ → List ℕ → List ℕ → List ℕ
 wordsRegisters t rs start budget words starters =
-    choose (eqb (wordsRefusal t rs start starters) 0)
-    (registersAfter (graphRunner (graphOf t) starters) (listed words) budget (startAt start (take maxRegisters rs)) ++ drop maxRegisters rs)
-    rs
+    registersLeft (wordsRefusal t rs start starters) (graphRunner (graphOf t) starters) (listed words) rs start budget

@@ -2,7 +2,9 @@
 use Prim.Native.Nat.{ℕ, _≤_, _<_}
 use mathlib.Core.Path.{_≡_}
 use lib.ListN.{length, getD}
-use Rattle.runs.specs.Runs.{Place, standing, halted}
+use mathlib.Core.List.{List}
+use lib.Dec.{eqb}
+use Rattle.runs.specs.Runs.{Place, standing, halted, Runner}
 use Rattle.cfg.specs.declared.Instruction.{Instruction}
 use Rattle.cfg.specs.declared.Condition.{Condition}
 use Rattle.cfg.specs.declared.Ending.{Ending}
@@ -11,7 +13,7 @@ use Rattle.cfg.specs.declared.Block.{Block}
 use Rattle.cfg.specs.declared.run.Next.{Next}
 use Rattle.cfg.specs.declared.run.Next.the-variants.{To, Nowhere}
 use Rattle.cfg.specs.Layout.{maxRegisters, maxInstructions}
-use Rattle.cfg.specs.Graph.{noInstruction}
+use Rattle.cfg.specs.Graph.{CFG, noInstruction, blockOf, runBlock}
 
 -- an instruction reads registers of the register file; a set reads none
 pub record Within (i : Instruction) : Type 0 where
@@ -35,3 +37,7 @@ pub record BlockWithin (k : Block) : Type 0 where
 abbrev pub placeOf : Next → Place
 placeOf (To t) = standing t
 placeOf Nowhere = halted
+
+-- a graph whose starters are the blocks with mark 1
+abbrev pub markedRunner : CFG → List ℕ → Runner
+markedRunner g marks = record { unit = λ sampled n rs. runBlock sampled (blockOf g n) rs; arrives = λ n. eqb (getD marks n 0) 1 }

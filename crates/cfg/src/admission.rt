@@ -50,10 +50,10 @@ fn known(code: u32) -> bool
     ensures { λ r. ⌜ r ≡ instructionCode code ⌝ }
 {
     if code < 1 {
-        return code == 20;
+        return code == Instruction::IN;
     }
     if 11 < code {
-        return code == 20;
+        return code == Instruction::IN;
     }
     true
 }

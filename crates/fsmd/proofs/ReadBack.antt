@@ -1,4 +1,4 @@
--- Reading back what was written: the machine of a machine's table is that machine, the table is admitted, and Run machine runs it. Assumes nothing.
+-- Reading back what was written: the machine of a machine's table is that machine, and the table is admitted. Assumes nothing.
 use Prim.Native.Nat.{ℕ, _+_, _<_, _≤_}
 use native.Mathlib.Omega.{arith}
 use mathlib.Core.Bool.{true, _||_}
@@ -11,13 +11,11 @@ use borrow.Author.Tests.{le-leb}
 use Rattle.runs.proofs.ListLaws.{length-upFrom, getD-map-upFrom}
 use Rattle.runs.proofs.Tests.{or-right}
 use Rattle.runs.specs.Lists.{upFrom}
-use Rattle.runs.specs.Runs.{Supply, Runner, startAt, answer, registersAfter}
+use Rattle.runs.specs.Runs.{Runner}
 use Rattle.fsmd.specs.Layout.{maxStates, maxRegisters, maxWires, machineWords}
 use Rattle.fsmd.specs.Machine.{State, wireCount, FSMD, emptyState, stateOf, clock, machineRunner}
-use Rattle.fsmd.specs.Run.{refusal, runAnswer, runRegisters}
 use Rattle.fsmd.specs.Table.{tableOf, firstWireAt, wireCountAt, stateAt, machineOf, validState, admitted}
 use Rattle.fsmd.proofs.Machines.{facts-admitted}
-use Rattle.fsmd.proofs.Steps.{refuse-registers, refuse-none, run-answer, run-registers}
 use Rattle.fsmd.proofs.WrittenTable.{before-room, before-less, count-is, registers-are, back-first, back-count, back-state, table-length}
 
 -- a machine that its table has room for
@@ -92,26 +90,3 @@ module _ (m : FSMD) (rest : List ℕ) (s : Sound m) where
             let b : k < length (m .states) = omega arith in
             ap₂ validState r (read-state m rest f k b) ∙ s .valid k b;
       })
-
-  whole : machineWords ≤ length (tableOf m ++ rest)
-  whole = omega (arith, table-length m, length-append (tableOf m) rest)
-
-  module _ (rs : List ℕ) (start : ℕ) where
-    -- Run machine from one of its states is refused for short registers alone
-    pub read-refused : length rs < maxRegisters → refusal (tableOf m ++ rest) rs start ≡ 7
-    read-refused h = refuse-registers (tableOf m ++ rest) rs start whole h
-
-    module _ (space : maxRegisters ≤ length rs) (h : start < length (m .states)) where
-      pub read-refusal : refusal (tableOf m ++ rest) rs start ≡ 0
-      read-refusal = refuse-none (tableOf m ++ rest) rs start whole space read-admitted (rw (count-is m rest) h)
-
-      pub read-answer : (ws : Supply) (budget : ℕ) → runAnswer ws (tableOf m ++ rest) rs start budget ≡ answer (machineRunner m) ws budget (startAt start (take maxRegisters rs))
-      read-answer ws budget =
-          run-answer ws (tableOf m ++ rest) rs start budget read-refusal
-          ∙ ap (λ (r : Runner). answer r ws budget (startAt start (take maxRegisters rs))) (read-runner m rest (s .fits))
-
-      pub read-left : (ws : Supply) (budget : ℕ)
-          → runRegisters ws (tableOf m ++ rest) rs start budget ≡ registersAfter (machineRunner m) ws budget (startAt start (take maxRegisters rs)) ++ drop maxRegisters rs
-      read-left ws budget =
-          run-registers ws (tableOf m ++ rest) rs start budget read-refusal
-          ∙ ap (λ (r : Runner). registersAfter r ws budget (startAt start (take maxRegisters rs)) ++ drop maxRegisters rs) (read-runner m rest (s .fits))

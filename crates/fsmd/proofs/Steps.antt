@@ -3,17 +3,16 @@ use Prim.Native.Nat.{ℕ, suc, _+_, _<_, _≤_}
 use native.Mathlib.Numerals.{add-one}
 use native.Mathlib.Omega.{arith}
 use mathlib.Core.Bool.{true, false}
-use mathlib.Core.List.{List, _++_}
+use mathlib.Core.List.{List}
 use mathlib.Core.Path.{_≡_, refl, sym, ap, _∙_, subst}
-use lib.ListN.{length, getD, take, drop}
-use borrow.Author.Tests.{lt-ltb, le-ltb, ne-eqb}
+use lib.ListN.{length, getD}
+use borrow.Author.Tests.{lt-ltb, le-ltb}
 use Rattle.runs.proofs.RunLaws.{goes-standing, step-going, Reached, reached-step}
-use Rattle.runs.specs.Runs.{halted, Configuration, standsAt, startAt, Supply, Moved, moved, answer, registersAfter}
-use Rattle.runs.specs.declared.RunAnswer.the-variants.{Refused}
+use Rattle.runs.specs.Runs.{halted, Configuration, standsAt, Supply, Moved, moved}
 use Rattle.fsmd.specs.Clock.{after}
 use Rattle.fsmd.specs.Layout.{maxRegisters, machineWords}
-use Rattle.fsmd.specs.Machine.{clock, machineRunner}
-use Rattle.fsmd.specs.Run.{refusal, runAnswer, runRegisters}
+use Rattle.fsmd.specs.Machine.{clock, machineRunner, wordless}
+use Rattle.fsmd.specs.Run.{refusal, wordsRefusal}
 use Rattle.fsmd.specs.Table.{stateAt, machineOf, admitted}
 use Rattle.fsmd.specs.declared.clock.Next.{Next}
 use Rattle.fsmd.proofs.Machines.{state-is}
@@ -43,24 +42,6 @@ module _ (t : List ℕ) (r : Next) (count : ℕ) where
 
 -- ---- refusals
 
-module _ (ws : Supply) (t rs : List ℕ) (start budget : ℕ) where
-  pub refused-answer : (n : ℕ) → refusal t rs start ≡ suc n → runAnswer ws t rs start budget ≡ Refused (suc n)
-  unfolding runAnswer
-  refused-answer n e = rw (e, ne-eqb (suc n) 0 (λ h. absurd (omega arith)))
-
-  pub refused-registers : (n : ℕ) → refusal t rs start ≡ suc n → runRegisters ws t rs start budget ≡ rs
-  unfolding runRegisters
-  refused-registers n e = rw (e, ne-eqb (suc n) 0 (λ h. absurd (omega arith)))
-
-  pub run-answer : refusal t rs start ≡ 0 → runAnswer ws t rs start budget ≡ answer (machineRunner (machineOf t)) ws budget (startAt start (take maxRegisters rs))
-  unfolding runAnswer
-  run-answer e = rw e
-
-  pub run-registers : refusal t rs start ≡ 0
-      → runRegisters ws t rs start budget ≡ registersAfter (machineRunner (machineOf t)) ws budget (startAt start (take maxRegisters rs)) ++ drop maxRegisters rs
-  unfolding runRegisters
-  run-registers e = rw e
-
 module _ (t rs : List ℕ) (start : ℕ) where
   pub refuse-table : length t < machineWords → refusal t rs start ≡ 7
   unfolding refusal
@@ -77,10 +58,40 @@ module _ (t rs : List ℕ) (start : ℕ) where
       refuse-machine h = rw (le-ltb (length t) machineWords whole, le-ltb (length rs) maxRegisters room, h)
 
       module _ (good : admitted t ≡ true) where
-        pub refuse-start : getD t 0 0 ≤ start → refusal t rs start ≡ 9
+        pub refuse-wordless : wordless (machineOf t) ≡ false → refusal t rs start ≡ 12
         unfolding refusal
-        refuse-start h = rw (le-ltb (length t) machineWords whole, le-ltb (length rs) maxRegisters room, good, le-ltb start (getD t 0 0) h)
+        refuse-wordless h = rw (le-ltb (length t) machineWords whole, le-ltb (length rs) maxRegisters room, good, h)
 
-        pub refuse-none : start < getD t 0 0 → refusal t rs start ≡ 0
-        unfolding refusal
-        refuse-none h = rw (le-ltb (length t) machineWords whole, le-ltb (length rs) maxRegisters room, good, lt-ltb start (getD t 0 0) h)
+        module _ (silent : wordless (machineOf t) ≡ true) where
+          pub refuse-start : getD t 0 0 ≤ start → refusal t rs start ≡ 9
+          unfolding refusal
+          refuse-start h = rw (le-ltb (length t) machineWords whole, le-ltb (length rs) maxRegisters room, good, silent, le-ltb start (getD t 0 0) h)
+
+          pub refuse-none : start < getD t 0 0 → refusal t rs start ≡ 0
+          unfolding refusal
+          refuse-none h = rw (le-ltb (length t) machineWords whole, le-ltb (length rs) maxRegisters room, good, silent, lt-ltb start (getD t 0 0) h)
+
+-- with words
+module _ (t rs : List ℕ) (start : ℕ) where
+  pub words-refuse-table : length t < machineWords → wordsRefusal t rs start ≡ 7
+  unfolding wordsRefusal
+  words-refuse-table h = rw (lt-ltb (length t) machineWords h)
+
+  module _ (whole : machineWords ≤ length t) where
+    pub words-refuse-registers : length rs < maxRegisters → wordsRefusal t rs start ≡ 7
+    unfolding wordsRefusal
+    words-refuse-registers h = rw (le-ltb (length t) machineWords whole, lt-ltb (length rs) maxRegisters h)
+
+    module _ (room : maxRegisters ≤ length rs) where
+      pub words-refuse-machine : admitted t ≡ false → wordsRefusal t rs start ≡ 10
+      unfolding wordsRefusal
+      words-refuse-machine h = rw (le-ltb (length t) machineWords whole, le-ltb (length rs) maxRegisters room, h)
+
+      module _ (good : admitted t ≡ true) where
+        pub words-refuse-start : getD t 0 0 ≤ start → wordsRefusal t rs start ≡ 9
+        unfolding wordsRefusal
+        words-refuse-start h = rw (le-ltb (length t) machineWords whole, le-ltb (length rs) maxRegisters room, good, le-ltb start (getD t 0 0) h)
+
+        pub words-refuse-none : start < getD t 0 0 → wordsRefusal t rs start ≡ 0
+        unfolding wordsRefusal
+        words-refuse-none h = rw (le-ltb (length t) machineWords whole, le-ltb (length rs) maxRegisters room, good, lt-ltb start (getD t 0 0) h)

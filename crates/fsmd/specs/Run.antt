@@ -1,37 +1,51 @@
--- "Run machine" of paper 01: its answer and the registers it leaves, on all inputs. Assumes nothing.
+-- "Run machine" of paper 01, and with words as R-1 of paper 02 adds it: answers, and registers left, on all inputs. Assumes nothing.
 use Prim.Native.Nat.{ℕ}
 use mathlib.Core.Bool.{Bool, true, false, not, _||_}
-use mathlib.Core.List.{List, _++_}
-use lib.ListN.{length, getD, take, drop}
-use lib.Dec.{eqb, ltb}
+use mathlib.Core.List.{List}
+use lib.ListN.{length, getD}
+use lib.Dec.{ltb}
 use Rattle.word.specs.Word.{choose}
-use Rattle.runs.specs.Runs.{Supply, startAt, answer, registersAfter}
+use Rattle.runs.specs.Runs.{listed, unread}
+use Rattle.runs.specs.Operations.{answered, registersLeft}
 use Rattle.runs.specs.declared.RunAnswer.{RunAnswer}
-use Rattle.runs.specs.declared.RunAnswer.the-variants.{Refused}
 use Rattle.fsmd.specs.Layout.{maxRegisters, machineWords}
-use Rattle.fsmd.specs.Machine.{clock, machineRunner}
+use Rattle.fsmd.specs.Machine.{machineRunner, wordless}
 use Rattle.fsmd.specs.Table.{machineOf, admitted}
 
--- the refusal's number, or 0: 7 a short table, 10 one that is not admitted, 9 a start that is no state
+abbrev pub short : List ℕ → List ℕ → Bool
+short t rs = ltb (length t) machineWords || ltb (length rs) maxRegisters
+
+-- ---- without words
+
+-- the refusal's number, or 0: 7 a short table or register buffer, 10 a table that is not admitted, 12 one with code 20, 9 a start that is no state
 unfoldable pub refusal : List ℕ → List ℕ → ℕ → ℕ
-unfolding admitted
+unfolding admitted wordless machineOf
 refusal t rs start =
-    choose (ltb (length t) machineWords || ltb (length rs) maxRegisters) 7
+    choose (short t rs) 7
+    (choose (not (admitted t)) 10
+    (choose (not (wordless (machineOf t))) 12
+    (choose (not (ltb start (getD t 0 0))) 9 0)))
+
+abbrev pub runAnswer : List ℕ → List ℕ → ℕ → ℕ → RunAnswer
+runAnswer t rs start budget = answered (refusal t rs start) (machineRunner (machineOf t)) unread rs start budget
+
+abbrev pub runRegisters : List ℕ → List ℕ → ℕ → ℕ → List ℕ
+runRegisters t rs start budget = registersLeft (refusal t rs start) (machineRunner (machineOf t)) unread rs start budget
+
+-- ---- with words
+
+-- 7, 10 and 9 as above
+unfoldable pub wordsRefusal : List ℕ → List ℕ → ℕ → ℕ
+unfolding admitted
+wordsRefusal t rs start =
+    choose (short t rs) 7
     (choose (not (admitted t)) 10
     (choose (not (ltb start (getD t 0 0))) 9 0))
 
--- on the words ws; `unread` in a run without words
-unfoldable pub runAnswer : Supply → List ℕ → List ℕ → ℕ → ℕ → RunAnswer
-unfolding refusal machineOf clock answer
-runAnswer ws t rs start budget =
-    choose (eqb (refusal t rs start) 0)
-    (answer (machineRunner (machineOf t)) ws budget (startAt start (take maxRegisters rs)))
-    (Refused (refusal t rs start))
+abbrev pub wordsAnswer : List ℕ → List ℕ → ℕ → ℕ → List ℕ → RunAnswer
+wordsAnswer t rs start budget words =
+    answered (wordsRefusal t rs start) (machineRunner (machineOf t)) (listed words) rs start budget
 
--- the words from 16 up stay
-unfoldable pub runRegisters : Supply → List ℕ → List ℕ → ℕ → ℕ → List ℕ
-unfolding refusal machineOf clock registersAfter
-runRegisters ws t rs start budget =
-    choose (eqb (refusal t rs start) 0)
-    (registersAfter (machineRunner (machineOf t)) ws budget (startAt start (take maxRegisters rs)) ++ drop maxRegisters rs)
-    rs
+abbrev pub wordsRegisters : List ℕ → List ℕ → ℕ → ℕ → List ℕ → List ℕ
+wordsRegisters t rs start budget words =
+    registersLeft (wordsRefusal t rs start) (machineRunner (machineOf t)) (listed words) rs start budget

@@ -60,7 +60,7 @@ fn valid_wire(registers: usize, n: usize, w: Wire) -> bool
     if code < Wire::SET {
         return false;
     }
-    if Wire::LAST < code {
+    if Wire::IN < code {
         return false;
     }
     let reads = word::arity(code);

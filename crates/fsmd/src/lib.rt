@@ -1,6 +1,7 @@
 // The synthesised machine, a finite state machine with its datapath: limits, wires, and the layout of its table.
 pub mod table; // table.rt: words of a machine table
 pub mod admission; // admission.rt: which machine tables are admitted
+pub mod words; // words.rt: whether a machine reads the sampled word
 pub mod clock; // clock.rt: one cycle
 pub mod run; // run.rt: a run with a budget
 
@@ -51,8 +52,8 @@ pub struct Wire {
 
 impl Wire {
     pub const WORDS: usize = 4;
-    // The first code, a set, whose a is a literal; the last one.
+    // The first code, a set, whose a is a literal; the last one, which gives the sampled word.
     pub const SET: u32 = 1;
 
-    pub const LAST: u32 = 20;
+    pub const IN: u32 = 20;
 }

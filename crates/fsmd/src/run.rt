@@ -1,17 +1,18 @@
-// A run with a budget: refusals first, then cycles until the machine halts or the budget is used.
+// A run with a budget: refusals first, then cycles until the machine halts, its words or its budget are used up.
 ghost use mathlib.Core.Path.{_≡_};
 ghost use mathlib.Core.Bool.{true};
 ghost use Prim.Native.Nat.{_<_, _≤_};
 ghost use lib.ListN.{length, getD};
-ghost use Rattle.runs.specs.Runs.{startAt, unread, answer, registersAfter};
+ghost use Rattle.runs.specs.Runs.{startAt, upTo, answer, registersAfter};
 ghost use Rattle.fsmd.specs.Layout.{machineWords};
 ghost use Rattle.fsmd.specs.Machine.{machineRunner};
 ghost use Rattle.fsmd.specs.Table.{machineOf, admitted as admittedOf};
-ghost use Rattle.fsmd.specs.Run.{runAnswer, runRegisters};
+ghost use Rattle.fsmd.specs.Run.{runAnswer, runRegisters, wordsAnswer, wordsRegisters};
 use super::Machine;
 use super::admission::admitted;
 use super::clock::cycle;
 use super::table::wide;
+use super::words::is_wordless;
 use runs::RunAnswer;
 use word::Registers;
 
@@ -21,21 +22,40 @@ pub struct Ran {
     pub answer: RunAnswer,
 }
 
-// The cycles of an admitted machine from a state that it has.
-pub fn run(table: &[u32], registers: Registers, start: u32, budget: u32) -> Ran
+// The cycles of an admitted machine from a state that it has, on the words of a list for the first `limit` arrivals. Each cycle is an arrival.
+pub fn run(
+    table: &[u32],
+    registers: Registers,
+    start: u32,
+    budget: u32,
+    words: &[u32],
+    limit: u32,
+) -> Ran
     requires { ⌜ machineWords ≤ length (now table) ⌝ }
     requires { ⌜ admittedOf (now table) ≡ true ⌝ }
     requires { ⌜ start < getD (now table) 0 0 ⌝ }
-    ensures { λ r. ⌜ r .answer ≡ answer (machineRunner (machineOf (now (table .entry)))) unread budget (startAt start (registers .words)) ⌝ }
-    ensures { λ r. ⌜ r .registers .words ≡ registersAfter (machineRunner (machineOf (now (table .entry)))) unread budget (startAt start (registers .words)) ⌝ }
+    ensures { λ r. ⌜ r .answer ≡ answer (machineRunner (machineOf (now (table .entry)))) (upTo limit (now (words .entry))) budget (startAt start (registers .words)) ⌝ }
+    ensures { λ r. ⌜ r .registers .words ≡ registersAfter (machineRunner (machineOf (now (table .entry)))) (upTo limit (now (words .entry))) budget (startAt start (registers .words)) ⌝ }
 {
     let states = table[0];
-    let mut words = [0u32; Machine::REFERENCES];
+    let mut room = [0u32; Machine::REFERENCES];
     let mut file = registers;
     let mut state = start;
     let mut count: u32 = 0;
     while count < budget {
-        let next = cycle(table, wide(state), file, 0, &mut words);
+        if limit <= count {
+            return Ran {
+                registers: file,
+                answer: RunAnswer::Dry(count, state),
+            };
+        }
+        let next = cycle(
+            table,
+            wide(state),
+            file,
+            runs::sampled(words, count),
+            &mut room,
+        );
         file = next.registers;
         state = next.state;
         count += 1;
@@ -52,12 +72,12 @@ pub fn run(table: &[u32], registers: Registers, start: u32, budget: u32) -> Ran
     }
 }
 
-// "Run machine": the answer, and the registers left in the first sixteen words of the buffer.
+// "Run machine": the answer, and the registers left in the first sixteen words of the buffer. Every arrival has a word, which nothing reads.
 pub fn run_machine(table: &[u32], registers: &mut [u32], start: u32, budget: u32) -> RunAnswer
-    ensures { λ r. ⌜ r ≡ runAnswer unread (now (table .entry)) (now (registers .entry)) start budget ⌝ }
-    ensures { λ _. ⌜ now (registers .exit) ≡ runRegisters unread (now (table .entry)) (now (registers .entry)) start budget ⌝ }
+    ensures { λ r. ⌜ r ≡ runAnswer (now (table .entry)) (now (registers .entry)) start budget ⌝ }
+    ensures { λ _. ⌜ now (registers .exit) ≡ runRegisters (now (table .entry)) (now (registers .entry)) start budget ⌝ }
 {
-    // The refusals of paper 01, in its order: 7 short tables, 10 not admitted, 9 no such start.
+    // The refusals in the order of the papers: 7 short tables, 10 not admitted, 12 words needed, 9 no such start.
     if table.len() < Machine::WORDS {
         return RunAnswer::Refused(7);
     }
@@ -67,13 +87,43 @@ pub fn run_machine(table: &[u32], registers: &mut [u32], start: u32, budget: u32
     if !admitted(table) {
         return RunAnswer::Refused(10);
     }
-    let states = table[0];
-    if states <= start {
+    if !is_wordless(table) {
+        return RunAnswer::Refused(12);
+    }
+    if table[0] <= start {
         return RunAnswer::Refused(9);
     }
-    let ran = run(table, runs::load(registers), start, budget);
-    let left = ran.registers;
-    let answer = ran.answer;
-    runs::store(registers, left);
-    answer
+    let ran = run(table, runs::load(registers), start, budget, &[], budget);
+    runs::store(registers, ran.registers);
+    ran.answer
+}
+
+// "Run machine" with words.
+pub fn run_machine_with_words(
+    table: &[u32],
+    registers: &mut [u32],
+    start: u32,
+    budget: u32,
+    words: &[u32],
+) -> RunAnswer
+    ensures { λ r. ⌜ r ≡ wordsAnswer (now (table .entry)) (now (registers .entry)) start budget (now (words .entry)) ⌝ }
+    ensures { λ _. ⌜ now (registers .exit) ≡ wordsRegisters (now (table .entry)) (now (registers .entry)) start budget (now (words .entry)) ⌝ }
+{
+    // As above, but for 12.
+    if table.len() < Machine::WORDS {
+        return RunAnswer::Refused(7);
+    }
+    if registers.len() < Machine::REGISTERS {
+        return RunAnswer::Refused(7);
+    }
+    if !admitted(table) {
+        return RunAnswer::Refused(10);
+    }
+    if table[0] <= start {
+        return RunAnswer::Refused(9);
+    }
+    let limit = runs::lasting(words, budget);
+    let ran = run(table, runs::load(registers), start, budget, words, limit);
+    runs::store(registers, ran.registers);
+    ran.answer
 }

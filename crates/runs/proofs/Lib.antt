@@ -4,3 +4,5 @@ pub mod ListLaws
 pub mod MembershipLaws
 pub mod RunLaws
 pub mod Every
+pub mod SupplyLaws
+pub mod OperationLaws

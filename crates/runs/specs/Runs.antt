@@ -33,8 +33,13 @@ pub record Supply : Type 0 where
   pub word : ℕ → ℕ
   pub lasts : ℕ → Bool
 
+-- the words of a list, 0 past its end, for the first n arrivals
+abbrev pub upTo : ℕ → List ℕ → Supply
+upTo n ws = record { word = λ k. getD ws k 0; lasts = λ k. ltb k n }
+
+-- as many arrivals as there are words
 abbrev pub listed : List ℕ → Supply
-listed ws = record { word = λ k. getD ws k 0; lasts = λ k. ltb k (length ws) }
+listed ws = upTo (length ws) ws
 
 -- of a run without words: every arrival has one, which nothing reads
 abbrev pub unread : Supply

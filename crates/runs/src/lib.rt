@@ -1,9 +1,12 @@
-// What the runs of graphs and machines share: the answer of a run with a budget, and the register buffer in and out of a register file.
+// What the runs of graphs and machines share: the answer of a run with a budget, its words, and the register buffer in and out of a
+// register file.
 use word::Registers;
 ghost use mathlib.Core.Path.{_≡_};
 ghost use mathlib.Core.List.{_++_};
 ghost use Prim.Native.Nat.{_≤_};
-ghost use lib.ListN.{length, take, drop};
+ghost use lib.Dec.{ltb};
+ghost use lib.ListN.{length, getD, take, drop};
+ghost use Rattle.word.specs.Word.{choose};
 ghost use Rattle.word.specs.RegisterFile.{fileWords};
 
 pub enum RunAnswer {
@@ -41,4 +44,21 @@ pub fn store(buffer: &mut [u32], file: Registers)
         buffer[i] = file.words[i];
         i += 1;
     }
+}
+
+// The arrivals that have a word, counted as far as a budget goes.
+pub fn lasting(words: &[u32], budget: u32) -> u32
+    ensures { λ r. ⌜ r ≡ choose (ltb (length (now (words .entry))) budget) (length (now (words .entry))) budget ⌝ }
+{
+    let most = budget as usize;
+    let n = words.len();
+    if n < most { n as u32 } else { budget }
+}
+
+// The word of arrival k, and 0 where the list has none.
+pub fn sampled(words: &[u32], k: u32) -> u32
+    ensures { λ r. ⌜ r ≡ getD (now (words .entry)) k 0 ⌝ }
+{
+    let i = k as usize;
+    if i < words.len() { words[i] } else { 0 }
 }

@@ -3,3 +3,4 @@ pub mod Blocks
 pub mod Admitted
 pub mod Words
 pub mod Running
+pub mod Inputs

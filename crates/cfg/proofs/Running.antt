@@ -2,7 +2,7 @@
 use Prim.Native.Nat.{ℕ, suc, _+_, _%_, _≤_, _<_}
 use native.Mathlib.Numerals.{add-one}
 use native.Mathlib.Omega.{arith}
-use mathlib.Core.Path.{_≡_, refl, ap, _∙_}
+use mathlib.Core.Path.{_≡_, refl, ap, subst, _∙_}
 use mathlib.Core.Bool.{Bool, true, false, not, _||_}
 use mathlib.Core.List.{List, [], _∷_, _++_}
 use lib.Dec.{eqb, ltb}
@@ -10,9 +10,8 @@ use lib.ListN.{length, getD, take, drop, set, drop-of-length-le}
 use lib.Seq.{drop-cons, getD-take, length-take-le}
 use borrow.Author.Tests.{eqb-true, eqb-false, eq-eqb, ne-eqb, lt-ltb, le-ltb}
 use Rattle.word.specs.Word.{choose, evalOf, arity}
-use Rattle.runs.specs.Lists.{mem}
 use Rattle.runs.specs.Runs.{Place, standing, halted, Configuration, standsAt, startAt, Supply, unread, moved, step, answer, registersAfter}
-use Rattle.runs.proofs.RunLaws.{goes-standing, step-going, Reached, reached-step}
+use Rattle.runs.proofs.RunLaws.{goes-standing, moved-to, step-going, Reached, reached-step}
 use Rattle.cfg.specs.declared.Instruction.{Instruction}
 use Rattle.cfg.specs.declared.Ending.{Ending}
 use Rattle.cfg.specs.declared.Ending.the-variants.{Goto, Ite, Halt}
@@ -21,7 +20,7 @@ use Rattle.cfg.specs.Layout.{maxRegisters, graphWords}
 use Rattle.cfg.specs.Graph.{noInstruction, codeOf, execute, executeAll, holds, leave, runBlock, graphRunner, wordless}
 use Rattle.cfg.specs.Table.{blockAt, graphOf, admitted}
 use Rattle.cfg.specs.Run.{startersFit, refusal, wordsRefusal}
-use Rattle.cfg.specs.Steps.{Within, EndingWithin, BlockWithin}
+use Rattle.cfg.specs.Steps.{Within, EndingWithin, BlockWithin, markedRunner}
 use Rattle.cfg.proofs.Blocks.{instructions-length}
 use Rattle.cfg.proofs.Admitted.{Admitted, ValidInstruction, ValidEnding, block-below}
 
@@ -149,14 +148,14 @@ unfolding runBlock
 run-is w k rs = refl
 
 -- a turn of the loop, from arrival k, for which there is a word
-pub turn : (t starters : List ℕ) (ws : Supply) (budget : ℕ) (c₀ : Configuration) (count k n : ℕ) (rs after : List ℕ) (p : Place)
+pub turn : (t marks : List ℕ) (ws : Supply) (budget : ℕ) (c₀ : Configuration) (count k n : ℕ) (rs after : List ℕ) (p : Place)
     → n < getD t 0 0 → count < budget → ws .lasts k ≡ true
-    → Reached (graphRunner (graphOf t) starters) ws budget c₀ count (standsAt k n rs)
+    → Reached (markedRunner (graphOf t) marks) ws budget c₀ count (standsAt k n rs)
     → after ≡ executeAll (ws .word k) (codeOf (blockAt t n)) rs
     → p ≡ leave (blockAt t n .ending) after
-    → Reached (graphRunner (graphOf t) starters) ws budget c₀ (count + 1) (moved (λ b. mem b starters) k (record { place = p; registers = after }))
-turn t starters ws budget c₀ count k n rs after p l h w r e q =
-    let g = graphRunner (graphOf t) starters in
+    → Reached (markedRunner (graphOf t) marks) ws budget c₀ (count + 1) (moved (λ b. eqb (getD marks b 0) 1) k (record { place = p; registers = after }))
+turn t marks ws budget c₀ count k n rs after p l h w r e q =
+    let g = markedRunner (graphOf t) marks in
     let c = standsAt k n rs in
     let m : step g ws c ≡ moved (g .arrives) k (record { place = p; registers = after }) =
     step-going g ws c n refl w
@@ -165,11 +164,21 @@ turn t starters ws budget c₀ count k n rs after p l h w r e q =
     ∙ rw (← e, ← q) in
     rw (← m) (reached-step g ws budget c₀ count c r (goes-standing ws c n refl w) h)
 
--- ---- refusals
+-- and stands at block x then, where b says whether that is an arrival
+pub turn-to : (t marks : List ℕ) (ws : Supply) (budget : ℕ) (c₀ : Configuration) (count k n : ℕ) (rs after : List ℕ) (x : ℕ) (b : Bool)
+    → n < getD t 0 0 → count < budget → ws .lasts k ≡ true
+    → Reached (markedRunner (graphOf t) marks) ws budget c₀ count (standsAt k n rs)
+    → after ≡ executeAll (ws .word k) (codeOf (blockAt t n)) rs
+    → standing x ≡ leave (blockAt t n .ending) after
+    → eqb (getD marks x 0) 1 ≡ b
+    → Reached (markedRunner (graphOf t) marks) ws budget c₀ (count + 1) (standsAt (choose b (k + 1) k) x after)
+turn-to t marks ws budget c₀ count k n rs after x b l h w r e q m =
+    let g = markedRunner (graphOf t) marks in
+    subst (λ (c : Configuration). Reached g ws budget c₀ (count + 1) c)
+    (moved-to (g .arrives) k (record { place = standing x; registers = after }) x b refl m ∙ rw (add-one k))
+    (turn t marks ws budget c₀ count k n rs after (standing x) l h w r e q)
 
-choose-not : (b : Bool) → choose (not b) 11 0 ≡ choose b 0 11
-choose-not true = refl
-choose-not false = refl
+-- ---- refusals
 
 module _ (t rs : List ℕ) (start : ℕ) where
   pub short-table : length t < graphWords → refusal t rs start ≡ 7
@@ -221,9 +230,11 @@ module _ (t rs : List ℕ) (start : ℕ) (starters : List ℕ) where
         unfolding wordsRefusal
         words-no-start h = rw (le-ltb (length t) graphWords l, le-ltb (length rs) maxRegisters m, ok, le-ltb start (getD t 0 0) h)
 
-        -- 0 or 11
-        pub words-started : start < getD t 0 0 → wordsRefusal t rs start starters ≡ choose (startersFit (getD t 0 0) start starters) 0 11
-        unfolding wordsRefusal
-        words-started h =
-            rw (le-ltb (length t) graphWords l, le-ltb (length rs) maxRegisters m, ok, lt-ltb start (getD t 0 0) h)
-            (choose-not (startersFit (getD t 0 0) start starters))
+        module _ (h : start < getD t 0 0) where
+          pub words-unfit : startersFit (getD t 0 0) start starters ≡ false → wordsRefusal t rs start starters ≡ 11
+          unfolding wordsRefusal
+          words-unfit f = rw (le-ltb (length t) graphWords l, le-ltb (length rs) maxRegisters m, ok, lt-ltb start (getD t 0 0) h, f)
+
+          pub words-none-refused : startersFit (getD t 0 0) start starters ≡ true → wordsRefusal t rs start starters ≡ 0
+          unfolding wordsRefusal
+          words-none-refused f = rw (le-ltb (length t) graphWords l, le-ltb (length rs) maxRegisters m, ok, lt-ltb start (getD t 0 0) h, f)

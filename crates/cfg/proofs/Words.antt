@@ -75,7 +75,7 @@ zeros-unused (i ∷ l) =
 
 -- ---- a block's words
 
-instructions-are : (t : List ℕ) (n : ℕ) → blockAt t n .instructions ≡ map (instructionAt t (blockOffset n)) (upFrom 0 maxInstructions)
+pub instructions-are : (t : List ℕ) (n : ℕ) → blockAt t n .instructions ≡ map (instructionAt t (blockOffset n)) (upFrom 0 maxInstructions)
 unfolding blockAt
 instructions-are t n = refl
 

@@ -1,9 +1,12 @@
 -- What the parts of a graph's run give: cited by inner functions alone. Assumes nothing.
 use Prim.Native.Nat.{ℕ, _≤_, _<_}
+use mathlib.Core.Bool.{Bool, true, false}
 use mathlib.Core.Path.{_≡_}
 use lib.ListN.{length, getD}
 use mathlib.Core.List.{List}
 use lib.Dec.{eqb}
+use Rattle.word.specs.Word.{choose}
+use Rattle.runs.specs.Lists.{mem}
 use Rattle.runs.specs.Runs.{Place, standing, halted, Runner}
 use Rattle.cfg.specs.declared.Instruction.{Instruction}
 use Rattle.cfg.specs.declared.Condition.{Condition}
@@ -41,3 +44,8 @@ placeOf Nowhere = halted
 -- a graph whose starters are the blocks with mark 1
 abbrev pub markedRunner : CFG → List ℕ → Runner
 markedRunner g marks = record { unit = λ sampled n rs. runBlock sampled (blockOf g n) rs; arrives = λ n. eqb (getD marks n 0) 1 }
+
+-- marks after 1 was put at every starter
+pub record Marks (before starters after : List ℕ) : Type 0 where
+  pub same-length : length after ≡ length before
+  pub each : (b : ℕ) → getD after b 0 ≡ choose (mem b starters) 1 (getD before b 0)

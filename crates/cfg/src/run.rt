@@ -1,25 +1,25 @@
-// A graph's run with a budget of blocks.
+// A graph's run with a budget of blocks, on the words of a list.
 use crate::Block;
 use crate::Ending;
 use crate::Graph;
 use crate::Instruction;
 use crate::admission;
 use crate::decode;
+use crate::sampling;
 use runs::RunAnswer;
 use word::Registers;
 ghost use mathlib.Core.Bool.{true};
 ghost use mathlib.Core.Path.{_≡_};
-ghost use mathlib.Core.List.{[]};
 ghost use Prim.Native.Nat.{_≤_, _<_};
 ghost use lib.Dec.{eqb};
 ghost use lib.ListN.{length, getD};
 ghost use Rattle.word.specs.Word.{choose, evalOf};
-ghost use Rattle.runs.specs.Runs.{startAt, unread, answer, registersAfter};
-ghost use Rattle.cfg.specs.Graph.{codeOf, executeAll, leave, graphRunner};
+ghost use Rattle.runs.specs.Runs.{startAt, upTo, answer, registersAfter};
+ghost use Rattle.cfg.specs.Graph.{codeOf, executeAll, leave};
 ghost use Rattle.cfg.specs.Layout.{maxBlocks, graphWords};
 ghost use Rattle.cfg.specs.Table.{blockAt, graphOf, admitted};
-ghost use Rattle.cfg.specs.Steps.{EndingWithin, BlockWithin, placeOf};
-ghost use Rattle.cfg.specs.Run.{runAnswer, runRegisters};
+ghost use Rattle.cfg.specs.Steps.{EndingWithin, BlockWithin, placeOf, markedRunner};
+ghost use Rattle.cfg.specs.Run.{runAnswer, runRegisters, wordsAnswer, wordsRegisters};
 
 // The block that comes next.
 pub enum Next {
@@ -34,20 +34,20 @@ pub struct Ran {
 }
 
 // What the instruction writes, of the words in the registers that its operands name.
-fn value_of(i: Instruction, x: u32, y: u32) -> u32
-    ensures { λ r. ⌜ r ≡ evalOf 0 (i .code) (choose (eqb (i .code) 1) (i .a) x) y 0 ⌝ }
+fn value_of(sampled: u32, i: Instruction, x: u32, y: u32) -> u32
+    ensures { λ r. ⌜ r ≡ evalOf sampled (i .code) (choose (eqb (i .code) 1) (i .a) x) y 0 ⌝ }
 {
     if i.code == 1 {
         return i.a;
     }
-    word::eval(0, i.code, x, y, 0)
+    word::eval(sampled, i.code, x, y, 0)
 }
 
 // The instructions of block n in order, each seeing the one before. They are read where they stand: a block's record would be a copy
 // of all eight.
-fn execute_all(table: &[u32], n: usize, file: Registers) -> Registers
+fn execute_all(table: &[u32], n: usize, sampled: u32, file: Registers) -> Registers
     requires { ⌜ (n < maxBlocks) × (graphWords ≤ length (now table)) × BlockWithin (blockAt (now table) n) ⌝ }
-    ensures { λ r. ⌜ r .words ≡ executeAll 0 (codeOf (blockAt (now (table .entry)) n)) (file .words) ⌝ }
+    ensures { λ r. ⌜ r .words ≡ executeAll sampled (codeOf (blockAt (now (table .entry)) n)) (file .words) ⌝ }
 {
     let start = Graph::HEAD + Block::WORDS * n;
     let count = table[start] as usize;
@@ -58,7 +58,7 @@ fn execute_all(table: &[u32], n: usize, file: Registers) -> Registers
         // A set's literal names no register: whatever is read there is not used.
         let a = next.a as usize % Registers::COUNT;
         let b = next.b as usize % Registers::COUNT;
-        let value = value_of(next, current.words[a], current.words[b]);
+        let value = value_of(sampled, next, current.words[a], current.words[b]);
         let after = current.put(next.d as usize, value);
         current = after;
         i += 1;
@@ -86,29 +86,46 @@ fn next_of(ending: Ending, file: Registers) -> Next
     }
 }
 
-// The table is checked before: nothing of admission is done here.
-fn run_blocks(table: &[u32], start: u32, budget: u32, file: Registers) -> Ran
-    requires { ⌜ (admitted (now table) ≡ true) × (start < getD (now table) 0 0) ⌝ }
-    ensures { λ r. ⌜ (r .answer ≡ answer (graphRunner (graphOf (now (table .entry))) []) unread budget (startAt start (file .words))) × (r .registers .words ≡ registersAfter (graphRunner (graphOf (now (table .entry))) []) unread budget (startAt start (file .words))) ⌝ }
+// The table is checked before: nothing of admission is done here. There is a word for each of the first `limit` arrivals; a move to a
+// block with mark 1 makes the next one.
+fn run_blocks(
+    table: &[u32],
+    start: u32,
+    budget: u32,
+    file: Registers,
+    words: &[u32],
+    limit: u32,
+    marks: &[u32],
+) -> Ran
+    requires { ⌜ (admitted (now table) ≡ true) × (start < getD (now table) 0 0) × (length (now marks) ≡ maxBlocks) ⌝ }
+    ensures { λ r. ⌜ (r .answer ≡ answer (markedRunner (graphOf (now (table .entry))) (now (marks .entry))) (upTo limit (now (words .entry))) budget (startAt start (file .words))) × (r .registers .words ≡ registersAfter (markedRunner (graphOf (now (table .entry))) (now (marks .entry))) (upTo limit (now (words .entry))) budget (startAt start (file .words))) ⌝ }
 {
     let mut at = start;
     let mut current = file;
     let mut count = 0;
+    let mut arrivals = 0;
     while count < budget {
+        if limit <= arrivals {
+            return Ran {
+                answer: RunAnswer::Dry(count, at),
+                registers: current,
+            };
+        }
         let n = at as usize;
         let block = decode::block_at(table, n);
-        let after = execute_all(table, n, current);
+        let after = execute_all(table, n, runs::sampled(words, arrivals), current);
         current = after;
         count += 1;
         let ending = block.ending;
-        match next_of(ending, current) {
-            Next::To(t) => at = t,
-            Next::Nowhere => {
-                return Ran {
-                    answer: RunAnswer::Halted(count),
-                    registers: current,
-                };
-            }
+        let Next::To(t) = next_of(ending, current) else {
+            return Ran {
+                answer: RunAnswer::Halted(count),
+                registers: current,
+            };
+        };
+        at = t;
+        if marks[t as usize] == 1 {
+            arrivals += 1;
         }
     }
     Ran {
@@ -117,7 +134,7 @@ fn run_blocks(table: &[u32], start: u32, budget: u32, file: Registers) -> Ran
     }
 }
 
-// "Run graph": from a start block, with a budget of blocks.
+// "Run graph": from a start block, with a budget of blocks. Every arrival has a word, which nothing reads.
 pub fn run_graph(table: &[u32], registers: &mut [u32], start: u32, budget: u32) -> RunAnswer
     ensures { λ r. ⌜ r ≡ runAnswer (now (table .entry)) (now (registers .entry)) start budget ⌝ }
     ensures { λ r. ⌜ now (registers .exit) ≡ runRegisters (now (table .entry)) (now (registers .entry)) start budget ⌝ }
@@ -131,12 +148,50 @@ pub fn run_graph(table: &[u32], registers: &mut [u32], start: u32, budget: u32) 
     if !admission::is_admitted(table) {
         return RunAnswer::Refused(6);
     }
-    let head = decode::head_of(table);
-    if head.blocks <= start {
+    if !sampling::is_wordless(table) {
+        return RunAnswer::Refused(12);
+    }
+    if table[0] <= start {
         return RunAnswer::Refused(9);
     }
+    let marks = [0u32; Graph::BLOCKS];
     let file = runs::load(registers);
-    let ran = run_blocks(table, start, budget, file);
+    let ran = run_blocks(table, start, budget, file, &[], budget, &marks);
+    runs::store(registers, ran.registers);
+    ran.answer
+}
+
+// "Run graph" with words: each coming to a starter is an arrival.
+pub fn run_graph_with_words(
+    table: &[u32],
+    registers: &mut [u32],
+    start: u32,
+    budget: u32,
+    words: &[u32],
+    starters: &[u32],
+) -> RunAnswer
+    ensures { λ r. ⌜ r ≡ wordsAnswer (now (table .entry)) (now (registers .entry)) start budget (now (words .entry)) (now (starters .entry)) ⌝ }
+    ensures { λ r. ⌜ now (registers .exit) ≡ wordsRegisters (now (table .entry)) (now (registers .entry)) start budget (now (words .entry)) (now (starters .entry)) ⌝ }
+{
+    if table.len() < Graph::WORDS {
+        return RunAnswer::Refused(7);
+    }
+    if registers.len() < Graph::REGISTERS {
+        return RunAnswer::Refused(7);
+    }
+    if !admission::is_admitted(table) {
+        return RunAnswer::Refused(6);
+    }
+    if table[0] <= start {
+        return RunAnswer::Refused(9);
+    }
+    let mut marks = [0u32; Graph::BLOCKS];
+    if !sampling::marked(&mut marks, starters, table[0], start) {
+        return RunAnswer::Refused(11);
+    }
+    let limit = runs::lasting(words, budget);
+    let file = runs::load(registers);
+    let ran = run_blocks(table, start, budget, file, words, limit, &marks);
     runs::store(registers, ran.registers);
     ran.answer
 }

@@ -16,11 +16,11 @@ use Rattle.cfg.proofs.run.execute_all.Statement.{statement}
 use Rattle.cfg.proofs.run.execute_all.Tie as tie
 
 abbrev Inv-loop : tie.InvT-loop
-Inv-loop table n start count current₀ i₀ current i =
-    (i ≤ blockAt table n .count) × (executeAll 0 (codeOf (blockAt table n)) (current₀ .words) ≡ executeAll 0 (drop i (codeOf (blockAt table n))) (current .words))
+Inv-loop table n sampled start count current₀ i₀ current i =
+    (i ≤ blockAt table n .count) × (executeAll sampled (codeOf (blockAt table n)) (current₀ .words) ≡ executeAll sampled (drop i (codeOf (blockAt table n))) (current .words))
 
 abbrev μ-loop : tie.MeasureT-loop
-μ-loop table n start count current₀ i₀ current i = blockAt table n .count - i
+μ-loop table n sampled start count current₀ i₀ current i = blockAt table n .count - i
 
 cast-count : tie.Need-cast-count Inv-loop μ-loop
 cast-count c =
@@ -50,6 +50,7 @@ loop-again c =
     let k = c .before .before .before .before .before .before .before .before .before .before .before .before in
     let t = now (k .args .table) in
     let n = k .args .n in
+    let s = k .args .sampled in
     let b = blockAt t n in
     let l = c .before .before .before .before .before .before .before .before .before .loop in
     let rs = l .current .words in
@@ -59,8 +60,8 @@ loop-again c =
     let i = at .result in
     let same : i ≡ getD (b .instructions) (l .i) noInstruction = at .ensures ∙ sym (instruction-of t n (l .i) (omega arith)) in
     let written = ap (λ (f : Registers). f .words) (c .put .ensures) ∙ ap (set rs (i .d)) (c .before .before .value-of .ensures) in
-    let run = ap (λ (x : Instruction). execute 0 x rs) (sym same) ∙ execute-is 0 i rs (subst Within (sym same) (k .pre .2 .each (l .i) below)) ∙ sym written in
-    (omega arith, l .inv .1 ∙ code-next 0 b (k .pre .2 .fits) (l .i) rs below ∙ ap (executeAll 0 (drop (l .i + 1) (codeOf b))) run)
+    let run = ap (λ (x : Instruction). execute s x rs) (sym same) ∙ execute-is s i rs (subst Within (sym same) (k .pre .2 .each (l .i) below)) ∙ sym written in
+    (omega arith, l .inv .1 ∙ code-next s b (k .pre .2 .fits) (l .i) rs below ∙ ap (executeAll s (drop (l .i + 1) (codeOf b))) run)
 
 returns : tie.Need-returns Inv-loop μ-loop
 returns c =
@@ -69,7 +70,7 @@ returns c =
     let n = k .args .n in
     let l = c .before .loop in
     let e = count-at t n in
-    sym (l .inv .1 ∙ code-done 0 (blockAt t n) (k .pre .2 .fits) (l .i) (l .current .words) (omega (arith, c .loop-test .left)))
+    sym (l .inv .1 ∙ code-done (k .args .sampled) (blockAt t n) (k .pre .2 .fits) (l .i) (l .current .words) (omega (arith, c .loop-test .left)))
 
 pub execute-all-spec : {M : Type 1} → statement M
 execute-all-spec =

@@ -8,12 +8,12 @@ use Rattle.cfg.proofs.run.value_of.Tie as tie
 returns : tie.Need-returns
 returns c =
     let k = c .before .before .args in
-    sym (value-set 0 (k .i .code) (k .i .a) (k .x) (k .y) (c .if1 .taken))
+    sym (value-set (k .sampled) (k .i .code) (k .i .a) (k .x) (k .y) (c .if1 .taken))
 
 returns-2 : tie.Need-returns-2
 returns-2 c =
     let k = c .before .before .before .args in
-    c .eval .ensures ∙ sym (value-other 0 (k .i .code) (k .i .a) (k .x) (k .y) (c .before .if1 .left))
+    c .eval .ensures ∙ sym (value-other (k .sampled) (k .i .code) (k .i .a) (k .x) (k .y) (c .before .if1 .left))
 
 pub value-of-spec : {M : Type 1} → statement M
 value-of-spec = tie.close (tie.spec returns (λ c κs. search needs) returns-2)

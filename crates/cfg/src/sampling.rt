@@ -7,12 +7,13 @@ ghost use mathlib.Core.List.{map};
 ghost use mathlib.Core.Path.{_≡_};
 ghost use Prim.Native.Nat.{_+_, _≤_, _<_};
 ghost use lib.Dec.{eqb, ltb};
-ghost use lib.ListN.{length, getD};
+ghost use lib.ListN.{length, replicate};
 ghost use Rattle.runs.specs.Lists.{upFrom, every};
 ghost use Rattle.cfg.specs.Layout.{maxBlocks, maxInstructions, blockWords, graphWords};
 ghost use Rattle.cfg.specs.Graph.{wordless};
 ghost use Rattle.cfg.specs.Table.{instructionAt, graphOf, admitted};
 ghost use Rattle.cfg.specs.Steps.{Marks};
+ghost use Rattle.cfg.specs.Run.{startersFit};
 
 // None of the first `count` instructions of the block whose words begin at `start` reads the sampled word.
 fn code_wordless(table: &[u32], start: usize, count: usize) -> bool
@@ -71,4 +72,20 @@ fn mark(marks: &mut [u32], starters: &[u32])
         marks[b] = 1;
         i += 1;
     }
+}
+
+// Whether the starters fit a start block and a number of blocks; where they do, each has mark 1, and no other block.
+pub fn marked(marks: &mut [u32], starters: &[u32], blocks: u32, start: u32) -> bool
+    requires { ⌜ (blocks ≤ maxBlocks) × (start < blocks) × (now marks ≡ replicate maxBlocks 0) ⌝ }
+    ensures { λ r. ⌜ r ≡ startersFit blocks start (now (starters .entry)) ⌝ }
+    ensures { λ r. ⌜ (r ≡ true → Marks (now (marks .entry)) (now (starters .entry)) (now (marks .exit))) ⌝ }
+{
+    if !all_below(starters, blocks) {
+        return false;
+    }
+    mark(marks, starters);
+    if marks[0] != 1 {
+        return false;
+    }
+    marks[start as usize] == 1
 }

@@ -44,8 +44,8 @@ returns c =
     let ws = upTo (a .limit) (now (a .words)) in
     let c₀ = startAt (a .start) (a .registers .words) in
     let x = standsAt (b .loop .count) (b .loop .state) (b .loop .file .words) in
-    let e = dry-ends ws x (b .loop .state) refl (le-ltb (b .loop .count) (a .limit) (c .if1 .taken)) in
-    (sym (reached-dry m ws (a .budget) c₀ (b .loop .count) x (b .loop .inv .2) e (b .loop .state) refl (c .before .loop-test .taken)), sym (registers-ended m ws (a .budget) c₀ (b .loop .count) x (b .loop .inv .2) e))
+    let e = dry-ends ws x (b .loop .state) refl (le-ltb (b .loop .count) (a .limit) (omega arith)) in
+    (sym (reached-dry m ws (a .budget) c₀ (b .loop .count) x (b .loop .inv .2) e (b .loop .state) refl (omega arith)), sym (registers-ended m ws (a .budget) c₀ (b .loop .count) x (b .loop .inv .2) e))
 
 cycle-requires : tie.Need-cycle-requires Inv-loop μ-loop
 cycle-requires c κs =
@@ -76,7 +76,7 @@ returns-2 c =
     let c₀ = startAt (a .start) (a .registers .words) in
     let r = d .cycle .result in
     let e = d .cycle .ensures ∙ ap₂ (λ (w k : ℕ). clock (machineOf t) w (stateAt t k) (b .loop .file .words)) (d .before .before .sampled .ensures) (d .before .before .before .wide .ensures .0) in
-    let s = cycle-step t ws (a .budget) c₀ (b .loop .count) (b .loop .state) (b .loop .file .words) (after t r) (b .loop .inv .2) (b .loop .inv .0) (d .before .before .before .before .before .loop-test .taken) (lt-ltb (b .loop .count) (a .limit) (d .before .before .before .before .if1 .left)) e in
+    let s = cycle-step t ws (a .budget) c₀ (b .loop .count) (b .loop .state) (b .loop .file .words) (after t r) (b .loop .inv .2) (b .loop .inv .0) (omega arith) (lt-ltb (b .loop .count) (a .limit) (omega arith)) e in
     let end = moved (λ k. true) (b .loop .count) (after t r) in
     let h = after-halted t r (b .loop .count) (c .if2 .taken) in
     (sym (reached-halted m ws (a .budget) c₀ (b .loop .count + 1) end s (halted-ends ws end h) h), sym (registers-ended m ws (a .budget) c₀ (b .loop .count + 1) end s (halted-ends ws end h)))
@@ -95,7 +95,7 @@ loop-again c =
     let c₀ = startAt (a .start) (a .registers .words) in
     let r = d .cycle .result in
     let e = d .cycle .ensures ∙ ap₂ (λ (w k : ℕ). clock (machineOf t) w (stateAt t k) (b .loop .file .words)) (d .before .before .sampled .ensures) (d .before .before .before .wide .ensures .0) in
-    let s = cycle-step t ws (a .budget) c₀ (b .loop .count) (b .loop .state) (b .loop .file .words) (after t r) (b .loop .inv .2) (b .loop .inv .0) (d .before .before .before .before .before .loop-test .taken) (lt-ltb (b .loop .count) (a .limit) (d .before .before .before .before .if1 .left)) e in (
+    let s = cycle-step t ws (a .budget) c₀ (b .loop .count) (b .loop .state) (b .loop .file .words) (after t r) (b .loop .inv .2) (b .loop .inv .0) (omega arith) (lt-ltb (b .loop .count) (a .limit) (omega arith)) e in (
       c .if2 .left,
       search needs,
       subst (λ (x : Configuration). Reached m ws (a .budget) c₀ (b .loop .count + 1) x) (after-standing t r (b .loop .count) (c .if2 .left)) s,

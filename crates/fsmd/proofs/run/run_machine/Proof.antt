@@ -18,51 +18,67 @@ returns c =
     let a = c .before .before .before .args in
     let t = now (a .table) in
     let rs = now (a .registers) in
-    refuses (machineRunner (machineOf t)) unread rs (a .start) (a .budget) (refusal t rs (a .start)) 6 (refuse-table t rs (a .start) (c .if1 .taken))
+    let e = refuse-table t rs (a .start) (c .if1 .taken) in
+    refuses (machineRunner (machineOf t)) unread rs (a .start) (a .budget) (refusal t rs (a .start)) 6 e
 
 returns-2 : tie.Need-returns-2
 returns-2 c =
     let a = c .before .before .before .before .args in
     let t = now (a .table) in
     let rs = now (a .registers) in
-    refuses (machineRunner (machineOf t)) unread rs (a .start) (a .budget) (refusal t rs (a .start)) 6 (refuse-registers t rs (a .start) (c .before .if1 .left) (c .if2 .taken))
+    let e = refuse-registers t rs (a .start) (c .before .if1 .left) (c .if2 .taken) in
+    refuses (machineRunner (machineOf t)) unread rs (a .start) (a .budget) (refusal t rs (a .start)) 6 e
 
 returns-3 : tie.Need-returns-3
 returns-3 c =
-    let a = c .before .before .before .before .before .before .args in
+    let g = c .before in
+    let a = g .before .before .before .before .before .args in
     let t = now (a .table) in
     let rs = now (a .registers) in
-    refuses (machineRunner (machineOf t)) unread rs (a .start) (a .budget) (refusal t rs (a .start)) 9 (refuse-machine t rs (a .start) (c .before .before .before .if1 .left) (c .before .before .if2 .left) (sym (c .before .admitted .ensures) ∙ not-true _ (c .if3 .taken)))
+    let e = refuse-machine t rs (a .start) (g .before .before .if1 .left) (g .before .if2 .left) (sym (g .admitted .ensures) ∙ not-true _ (c .if3 .taken)) in
+    refuses (machineRunner (machineOf t)) unread rs (a .start) (a .budget) (refusal t rs (a .start)) 9 e
 
 is-wordless-requires : tie.Need-is-wordless-requires
-is-wordless-requires c κs = (c .before .before .before .if1 .left, sym (c .before .admitted .ensures) ∙ not-false _ (c .if3 .left))
+is-wordless-requires c κs = let g = c .before in (g .before .before .if1 .left, sym (g .admitted .ensures) ∙ not-false _ (c .if3 .left))
 
 returns-4 : tie.Need-returns-4
 returns-4 c =
-    let a = c .before .before .before .before .before .before .before .before .args in
+    let w = c .before in
+    let g = w .before .before in
+    let a = g .before .before .before .before .before .args in
     let t = now (a .table) in
     let rs = now (a .registers) in
-    refuses (machineRunner (machineOf t)) unread rs (a .start) (a .budget) (refusal t rs (a .start)) 11 (refuse-wordless t rs (a .start) (c .before .before .before .before .before .if1 .left) (c .before .before .before .before .if2 .left) (sym (c .before .before .before .admitted .ensures) ∙ not-false _ (c .before .before .if3 .left)) (sym (c .before .is-wordless .ensures) ∙ not-true _ (c .if4 .taken)))
+    let e = refuse-wordless t rs (a .start) (g .before .before .if1 .left) (g .before .if2 .left) (sym (g .admitted .ensures) ∙ not-false _ (w .before .if3 .left)) (sym (w .is-wordless .ensures) ∙ not-true _ (c .if4 .taken)) in
+    refuses (machineRunner (machineOf t)) unread rs (a .start) (a .budget) (refusal t rs (a .start)) 11 e
 
 returns-5 : tie.Need-returns-5
 returns-5 c =
-    let a = c .before .before .before .before .before .before .before .before .before .before .args in
+    let w = c .before .before .before in
+    let g = w .before .before in
+    let a = g .before .before .before .before .before .args in
     let t = now (a .table) in
     let rs = now (a .registers) in
-    refuses (machineRunner (machineOf t)) unread rs (a .start) (a .budget) (refusal t rs (a .start)) 8 (refuse-start t rs (a .start) (c .before .before .before .before .before .before .before .if1 .left) (c .before .before .before .before .before .before .if2 .left) (sym (c .before .before .before .before .before .admitted .ensures) ∙ not-false _ (c .before .before .before .before .if3 .left)) (sym (c .before .before .before .is-wordless .ensures) ∙ not-false _ (c .before .before .if4 .left)) (c .if5 .taken))
+    let e = refuse-start t rs (a .start) (g .before .before .if1 .left) (g .before .if2 .left) (sym (g .admitted .ensures) ∙ not-false _ (w .before .if3 .left)) (sym (w .is-wordless .ensures) ∙ not-false _ (c .before .before .if4 .left)) (c .if5 .taken) in
+    refuses (machineRunner (machineOf t)) unread rs (a .start) (a .budget) (refusal t rs (a .start)) 8 e
 
 run-requires : tie.Need-run-requires
-run-requires c κs = (c .before .before .before .before .before .before .before .before .before .before .if1 .left, (sym (c .before .before .before .before .before .before .before .before .admitted .ensures) ∙ not-false _ (c .before .before .before .before .before .before .before .if3 .left), c .before .before .before .if5 .left))
+run-requires c κs =
+    let g = c .before .before .before .before .before .before .before .before in
+    (g .before .before .if1 .left, (sym (g .admitted .ensures) ∙ not-false _ (c .before .before .before .before .before .before .before .if3 .left), c .before .before .before .if5 .left))
 
 returns-6 : tie.Need-returns-6
 returns-6 c =
-    let a = c .before .before .before .before .before .before .before .before .before .before .before .before .before .before .before .before .before .before .args in
+    let r = c .before .before .before .before .run in
+    let l = c .before .before .before .before .before .before .load in
+    let s = c .before .before .before .before .before .before .before .before in
+    let w = s .before .before .before in
+    let g = w .before .before in
+    let a = g .before .before .before .before .before .args in
     let t = now (a .table) in
     let rs = now (a .registers) in
-    let r = c .before .before .before .before .run in
-    let e = refuse-none t rs (a .start) (c .before .before .before .before .before .before .before .before .before .before .before .before .before .before .before .if1 .left) (c .before .before .before .before .before .before .before .before .before .before .before .before .before .before .if2 .left) (sym (c .before .before .before .before .before .before .before .before .before .before .before .before .before .admitted .ensures) ∙ not-false _ (c .before .before .before .before .before .before .before .before .before .before .before .before .if3 .left)) (sym (c .before .before .before .before .before .before .before .before .before .before .before .is-wordless .ensures) ∙ not-false _ (c .before .before .before .before .before .before .before .before .before .before .if4 .left)) (c .before .before .before .before .before .before .before .before .if5 .left) in
-    let g = accepts (machineRunner (machineOf t)) unread rs (a .start) (a .budget) (refusal t rs (a .start)) (upTo (a .budget) []) (unread-alike (a .budget)) e (c .before .before .before .before .before .before .load .result .words) (r .result .registers .words) (r .result .answer) (c .before .before .before .before .before .before .load .ensures) (r .ensures .0) (r .ensures .1) in
-    (g .0, c .before .before .store .ensures ∙ g .1)
+    let e = refuse-none t rs (a .start) (g .before .before .if1 .left) (g .before .if2 .left) (sym (g .admitted .ensures) ∙ not-false _ (w .before .if3 .left)) (sym (w .is-wordless .ensures) ∙ not-false _ (s .before .before .if4 .left)) (s .if5 .left) in
+    let both = accepts (machineRunner (machineOf t)) unread rs (a .start) (a .budget) (refusal t rs (a .start)) (upTo (a .budget) []) (unread-alike (a .budget)) e (l .result .words) (r .result .registers .words) (r .result .answer) (l .ensures) (r .ensures .0) (r .ensures .1) in
+    (both .0, c .before .before .store .ensures ∙ both .1)
 
 pub run-machine-spec : {M : Type 1} → statement M
 run-machine-spec =

@@ -18,44 +18,55 @@ returns c =
     let a = c .before .before .before .before .args in
     let t = now (a .table) in
     let rs = now (a .registers) in
-    refuses (machineRunner (machineOf t)) (listed (now (a .words))) rs (a .start) (a .budget) (wordsRefusal t rs (a .start)) 6 (words-refuse-table t rs (a .start) (c .if1 .taken))
+    let e = words-refuse-table t rs (a .start) (c .if1 .taken) in
+    refuses (machineRunner (machineOf t)) (listed (now (a .words))) rs (a .start) (a .budget) (wordsRefusal t rs (a .start)) 6 e
 
 returns-2 : tie.Need-returns-2
 returns-2 c =
     let a = c .before .before .before .before .before .args in
     let t = now (a .table) in
     let rs = now (a .registers) in
-    refuses (machineRunner (machineOf t)) (listed (now (a .words))) rs (a .start) (a .budget) (wordsRefusal t rs (a .start)) 6 (words-refuse-registers t rs (a .start) (c .before .if1 .left) (c .if2 .taken))
+    let e = words-refuse-registers t rs (a .start) (c .before .if1 .left) (c .if2 .taken) in
+    refuses (machineRunner (machineOf t)) (listed (now (a .words))) rs (a .start) (a .budget) (wordsRefusal t rs (a .start)) 6 e
 
 returns-3 : tie.Need-returns-3
 returns-3 c =
-    let a = c .before .before .before .before .before .before .before .args in
+    let g = c .before in
+    let a = g .before .before .before .before .before .before .args in
     let t = now (a .table) in
     let rs = now (a .registers) in
-    refuses (machineRunner (machineOf t)) (listed (now (a .words))) rs (a .start) (a .budget) (wordsRefusal t rs (a .start)) 9 (words-refuse-machine t rs (a .start) (c .before .before .before .if1 .left) (c .before .before .if2 .left) (sym (c .before .admitted .ensures) ∙ not-true _ (c .if3 .taken)))
+    let e = words-refuse-machine t rs (a .start) (g .before .before .if1 .left) (g .before .if2 .left) (sym (g .admitted .ensures) ∙ not-true _ (c .if3 .taken)) in
+    refuses (machineRunner (machineOf t)) (listed (now (a .words))) rs (a .start) (a .budget) (wordsRefusal t rs (a .start)) 9 e
 
 returns-4 : tie.Need-returns-4
 returns-4 c =
-    let a = c .before .before .before .before .before .before .before .before .before .args in
+    let g = c .before .before .before in
+    let a = g .before .before .before .before .before .before .args in
     let t = now (a .table) in
     let rs = now (a .registers) in
-    refuses (machineRunner (machineOf t)) (listed (now (a .words))) rs (a .start) (a .budget) (wordsRefusal t rs (a .start)) 8 (words-refuse-start t rs (a .start) (c .before .before .before .before .before .if1 .left) (c .before .before .before .before .if2 .left) (sym (c .before .before .before .admitted .ensures) ∙ not-false _ (c .before .before .if3 .left)) (c .if4 .taken))
+    let e = words-refuse-start t rs (a .start) (g .before .before .if1 .left) (g .before .if2 .left) (sym (g .admitted .ensures) ∙ not-false _ (c .before .before .if3 .left)) (c .if4 .taken) in
+    refuses (machineRunner (machineOf t)) (listed (now (a .words))) rs (a .start) (a .budget) (wordsRefusal t rs (a .start)) 8 e
 
 run-requires : tie.Need-run-requires
-run-requires c κs = (c .before .before .before .before .before .before .before .before .if1 .left, (sym (c .before .before .before .before .before .before .admitted .ensures) ∙ not-false _ (c .before .before .before .before .before .if3 .left), c .before .before .before .if4 .left))
+run-requires c κs =
+    let g = c .before .before .before .before .before .before in
+    (g .before .before .if1 .left, (sym (g .admitted .ensures) ∙ not-false _ (c .before .before .before .before .before .if3 .left), c .before .before .before .if4 .left))
 
 returns-5 : tie.Need-returns-5
 returns-5 c =
-    let a = c .before .before .before .before .before .before .before .before .before .before .before .before .before .before .before .before .before .args in
+    let r = c .before .before .before .before .run in
+    let l = c .before .before .before .before .before .load in
+    let n = c .before .before .before .before .before .before .before .lasting in
+    let s = c .before .before .before .before .before .before .before .before in
+    let g = s .before .before .before in
+    let a = g .before .before .before .before .before .before .args in
     let t = now (a .table) in
     let rs = now (a .registers) in
     let ws = now (a .words) in
-    let r = c .before .before .before .before .run in
-    let n = c .before .before .before .before .before .before .before .lasting in
+    let e = words-refuse-none t rs (a .start) (g .before .before .if1 .left) (g .before .if2 .left) (sym (g .admitted .ensures) ∙ not-false _ (s .before .before .if3 .left)) (s .if4 .left) in
     let h = subst (λ (n : ℕ). Alike (a .budget) (upTo n ws) (listed ws)) (sym (n .ensures)) (cut-alike ws (a .budget)) in
-    let e = words-refuse-none t rs (a .start) (c .before .before .before .before .before .before .before .before .before .before .before .before .before .if1 .left) (c .before .before .before .before .before .before .before .before .before .before .before .before .if2 .left) (sym (c .before .before .before .before .before .before .before .before .before .before .before .admitted .ensures) ∙ not-false _ (c .before .before .before .before .before .before .before .before .before .before .if3 .left)) (c .before .before .before .before .before .before .before .before .if4 .left) in
-    let g = accepts (machineRunner (machineOf t)) (listed ws) rs (a .start) (a .budget) (wordsRefusal t rs (a .start)) (upTo (n .result) ws) h e (c .before .before .before .before .before .load .result .words) (r .result .registers .words) (r .result .answer) (c .before .before .before .before .before .load .ensures) (r .ensures .0) (r .ensures .1) in
-    (g .0, c .before .before .store .ensures ∙ g .1)
+    let both = accepts (machineRunner (machineOf t)) (listed ws) rs (a .start) (a .budget) (wordsRefusal t rs (a .start)) (upTo (n .result) ws) h e (l .result .words) (r .result .registers .words) (r .result .answer) (l .ensures) (r .ensures .0) (r .ensures .1) in
+    (both .0, c .before .before .store .ensures ∙ both .1)
 
 pub run-machine-with-words-spec : {M : Type 1} → statement M
 run-machine-with-words-spec =

@@ -1,16 +1,16 @@
 -- The machine of a table, state by state, and what it is that a table is admitted. Assumes nothing.
 use Prim.Native.Nat.{ℕ, _+_, _<_, _≤_}
-use mathlib.Core.Bool.{true, _&&_}
+use mathlib.Core.Bool.{Bool, true, not, _&&_}
 use mathlib.Core.List.{List}
 use mathlib.Core.Path.{_≡_, refl, sym, ap, ap₂, _∙_}
-use lib.Dec.{leb}
+use lib.Dec.{eqb, leb}
 use lib.ListN.{length, getD, take, drop, length-map}
 use borrow.Author.Tests.{leb-true, le-leb}
 use Rattle.runs.proofs.Every.{below-at, below-of}
-use Rattle.runs.proofs.ListLaws.{and-left, and-right, length-upFrom, getD-map-upFrom}
+use Rattle.runs.proofs.ListLaws.{and-left, and-right, every-map, length-upFrom, getD-map-upFrom}
 use Rattle.runs.specs.Lists.{upFrom, every}
 use Rattle.fsmd.specs.Layout.{maxStates, maxRegisters, maxWires, recordOffset, nextStateOffset, nextRegistersOffset}
-use Rattle.fsmd.specs.Machine.{stateOf, emptyState}
+use Rattle.fsmd.specs.Machine.{stateOf, emptyState, wordless}
 use Rattle.fsmd.specs.Table.{firstWireAt, wireCountAt, stateAt, machineOf, validReference, validWires, validState, within, apart, admitted}
 use Rattle.fsmd.proofs.Windows.{wiresFrom, wires-length}
 
@@ -27,6 +27,20 @@ registers-is t = refl
 pub state-is : (t : List ℕ) (k : ℕ) → k < getD t 0 0 → stateOf (machineOf t) k ≡ stateAt t k
 unfolding machineOf
 state-is t k h = getD-map-upFrom (stateAt t) (getD t 0 0) k emptyState h
+
+-- ---- states that read no sampled word
+
+abbrev pub wordlessWires : List ℕ → ℕ → ℕ → Bool
+wordlessWires t first count = every (λ w. not (eqb (w .code) 20)) (wiresFrom t first count)
+
+abbrev pub wordlessState : List ℕ → ℕ → Bool
+wordlessState t k = wordlessWires t (firstWireAt t k) (wireCountAt t k)
+
+pub wordless-is : (t : List ℕ) (n : ℕ) → n ≡ getD t 0 0 → wordless (machineOf t) ≡ every (wordlessState t) (upFrom 0 n)
+unfolding wordless machineOf
+wordless-is t n e =
+    every-map (stateAt t) (λ q. every (λ w. not (eqb (w .code) 20)) (q .wires)) (upFrom 0 (getD t 0 0))
+    ∙ sym (ap (λ (n : ℕ). every (wordlessState t) (upFrom 0 n)) e)
 
 -- ---- a valid state, from the words of its record
 

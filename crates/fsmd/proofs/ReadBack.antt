@@ -3,20 +3,20 @@ use Prim.Native.Nat.{ℕ, _+_, _<_, _≤_}
 use native.Mathlib.Omega.{arith}
 use mathlib.Core.Bool.{true, _||_}
 use mathlib.Core.List.{List, [], _++_, map}
-use mathlib.Core.Path.{_≡_, refl, ap, ap₂, _∙_}
+use mathlib.Core.Path.{_≡_, refl, ap₂, _∙_}
 use lib.Dec.{eqb}
-use lib.ListN.{length, getD, take, drop, length-append, length-map}
+use lib.ListN.{length, getD, length-map}
 use lib.Seq.{ext-getD}
 use borrow.Author.Tests.{le-leb}
 use Rattle.runs.proofs.ListLaws.{length-upFrom, getD-map-upFrom}
 use Rattle.runs.proofs.Tests.{or-right}
 use Rattle.runs.specs.Lists.{upFrom}
 use Rattle.runs.specs.Runs.{Runner}
-use Rattle.fsmd.specs.Layout.{maxStates, maxRegisters, maxWires, machineWords}
+use Rattle.fsmd.specs.Layout.{maxStates, maxRegisters, maxWires}
 use Rattle.fsmd.specs.Machine.{State, wireCount, FSMD, emptyState, stateOf, clock, machineRunner}
 use Rattle.fsmd.specs.Table.{tableOf, firstWireAt, wireCountAt, stateAt, machineOf, validState, admitted}
 use Rattle.fsmd.proofs.Machines.{facts-admitted}
-use Rattle.fsmd.proofs.WrittenTable.{before-room, before-less, count-is, registers-are, back-first, back-count, back-state, table-length}
+use Rattle.fsmd.proofs.WrittenTable.{before-room, before-less, count-is, registers-are, back-first, back-count, back-state}
 
 -- a machine that its table has room for
 pub record Fits (m : FSMD) : Type 0 where

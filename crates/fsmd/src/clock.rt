@@ -2,12 +2,12 @@
 ghost use mathlib.Core.Path.{_≡_};
 ghost use mathlib.Core.Bool.{true};
 ghost use mathlib.Core.List.{map, _++_};
-ghost use Prim.Native.Nat.{ℕ, _+_, _%_, _<_, _≤_};
+ghost use Prim.Native.Nat.{_+_, _%_, _<_, _≤_};
 ghost use lib.ListN.{length, getD, take, drop};
 ghost use Rattle.runs.specs.Lists.{upFrom};
-ghost use Rattle.fsmd.specs.Layout.{machineWords, maxStates, maxRegisters, maxWires, roomWords};
+ghost use Rattle.fsmd.specs.Layout.{machineWords, maxRegisters, maxWires, roomWords};
 ghost use Rattle.fsmd.specs.Machine.{wireValue, worked, clock};
-ghost use Rattle.fsmd.specs.Table.{wireAt, stateAt, firstWireAt, wireCountAt, machineOf, validWires};
+ghost use Rattle.fsmd.specs.Table.{wireAt, stateAt, machineOf, validWires};
 ghost use Rattle.fsmd.specs.Clock.{Ready, after};
 use super::Machine;
 use super::Wire;

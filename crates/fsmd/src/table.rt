@@ -1,7 +1,7 @@
 // Words of a machine table: its wires and the records of its states.
 ghost use mathlib.Core.Path.{_≡_};
 ghost use Prim.Native.Nat.{_+_, _<_, _≤_, _^_};
-ghost use lib.ListN.{length, getD};
+ghost use lib.ListN.{length};
 ghost use Rattle.fsmd.specs.Layout.{machineWords, maxStates, maxWires, recordOffset};
 ghost use Rattle.fsmd.specs.Table.{wireAt, firstWireAt, wireCountAt};
 use super::Machine;

@@ -2,12 +2,13 @@
 use Prim.Native.Nat.{ℕ, _+_, _-_, _<_}
 use native.Mathlib.Omega.{arith}
 use mathlib.Core.Bool.{true}
-use mathlib.Core.Path.{_≡_, refl, sym, ap, _∙_, subst}
+use mathlib.Core.Path.{_≡_, refl, sym, ap₂, _∙_, subst}
 use lib.ListN.{length, getD, length-replicate}
 use denote.Ref.{now}
 use borrow.Author.Needs.{needs}
-use Rattle.runs.proofs.RunLaws.{Reached, reached-start, reached-spent, registers-spent, reached-halted, registers-ended, halted-ends}
-use Rattle.runs.specs.Runs.{Configuration, standsAt, startAt, unread, moved}
+use borrow.Author.Tests.{lt-ltb, le-ltb}
+use Rattle.runs.proofs.RunLaws.{Reached, reached-start, reached-spent, registers-spent, reached-halted, reached-dry, registers-ended, halted-ends, dry-ends}
+use Rattle.runs.specs.Runs.{Configuration, standsAt, startAt, upTo, moved}
 use Rattle.fsmd.specs.Layout.{roomWords}
 use Rattle.fsmd.specs.Clock.{after}
 use Rattle.fsmd.specs.Machine.{clock, machineRunner}
@@ -18,27 +19,39 @@ use Rattle.fsmd.proofs.run.run.Statement.{statement}
 use Rattle.fsmd.proofs.run.run.Tie as tie
 
 abbrev Inv-loop : tie.InvT-loop
-Inv-loop table start budget states words₀ file₀ state₀ count₀ words file state count =
+Inv-loop table start budget words limit states room₀ file₀ state₀ count₀ room file state count =
     (state < getD table 0 0)
-    × (length words ≡ roomWords)
-    × Reached (machineRunner (machineOf table)) unread budget (startAt start (file₀ .words)) count (standsAt count state (file .words))
+    × (length room ≡ roomWords)
+    × Reached (machineRunner (machineOf table)) (upTo limit words) budget (startAt start (file₀ .words)) count (standsAt count state (file .words))
 
 abbrev μ-loop : tie.MeasureT-loop
-μ-loop table start budget states words₀ file₀ state₀ count₀ words file state count = budget - count
+μ-loop table start budget words limit states room₀ file₀ state₀ count₀ room file state count = budget - count
 
 loop-holds : tie.Need-loop-holds Inv-loop μ-loop
 loop-holds c =
-    let a = c .before .before .args in (
-      c .before .before .pre .1 .1,
+    let a = c .before .before .before .args in (
+      c .before .before .before .pre .1 .1,
       length-replicate {A = ℕ} roomWords 0,
-      reached-start (machineRunner (machineOf (now (a .table)))) unread (a .budget) (startAt (a .start) (a .registers .words)),
+      reached-start (machineRunner (machineOf (now (a .table)))) (upTo (a .limit) (now (a .words))) (a .budget) (startAt (a .start) (a .registers .words)),
     )
+
+-- dry
+returns : tie.Need-returns Inv-loop μ-loop
+returns c =
+    let b = c .before .before in
+    let a = b .before .before .before .before .args in
+    let m = machineRunner (machineOf (now (a .table))) in
+    let ws = upTo (a .limit) (now (a .words)) in
+    let c₀ = startAt (a .start) (a .registers .words) in
+    let x = standsAt (b .loop .count) (b .loop .state) (b .loop .file .words) in
+    let e = dry-ends ws x (b .loop .state) refl (le-ltb (b .loop .count) (a .limit) (omega arith)) in
+    (sym (reached-dry m ws (a .budget) c₀ (b .loop .count) x (b .loop .inv .2) e (b .loop .state) refl (omega arith)), sym (registers-ended m ws (a .budget) c₀ (b .loop .count) x (b .loop .inv .2) e))
 
 cycle-requires : tie.Need-cycle-requires Inv-loop μ-loop
 cycle-requires c κs =
-    let b = c .before .before .before in
-    let s = b .before .before .before in
-    let w = c .before .wide in
+    let b = c .before .before .before .before .before in
+    let s = b .before .before .before .before in
+    let w = c .before .before .wide in
     let m = admitted-facts (now (s .args .table)) (s .pre .1 .0) in
     let h : w .result < getD (now (s .args .table)) 0 0 = omega arith in (
       record {
@@ -51,47 +64,53 @@ cycle-requires c κs =
       b .loop .inv .1,
     )
 
-returns : tie.Need-returns Inv-loop μ-loop
-returns c =
-    let b = c .before .before .before .before .before .before .before in
-    let a = b .before .before .before .args in
+-- halted
+returns-2 : tie.Need-returns-2 Inv-loop μ-loop
+returns-2 c =
+    let d = c .before .before .before in
+    let b = d .before .before .before .before .before .before in
+    let a = b .before .before .before .before .args in
     let t = now (a .table) in
     let m = machineRunner (machineOf t) in
+    let ws = upTo (a .limit) (now (a .words)) in
     let c₀ = startAt (a .start) (a .registers .words) in
-    let r = c .before .before .before .cycle .result in
-    let e = c .before .before .before .cycle .ensures ∙ ap (λ (k : ℕ). clock (machineOf t) 0 (stateAt t k) (b .loop .file .words)) (c .before .before .before .before .before .wide .ensures .0) in
-    let s = cycle-step t unread (a .budget) c₀ (b .loop .count) (b .loop .state) (b .loop .file .words) (after t r) (b .loop .inv .2) (b .loop .inv .0) (c .before .before .before .before .before .before .loop-test .taken) refl e in
+    let r = d .cycle .result in
+    let e = d .cycle .ensures ∙ ap₂ (λ (w k : ℕ). clock (machineOf t) w (stateAt t k) (b .loop .file .words)) (d .before .before .sampled .ensures) (d .before .before .before .wide .ensures .0) in
+    let s = cycle-step t ws (a .budget) c₀ (b .loop .count) (b .loop .state) (b .loop .file .words) (after t r) (b .loop .inv .2) (b .loop .inv .0) (omega arith) (lt-ltb (b .loop .count) (a .limit) (omega arith)) e in
     let end = moved (λ k. true) (b .loop .count) (after t r) in
-    let h = after-halted t r (b .loop .count) (c .if1 .taken) in
-    (sym (reached-halted m unread (a .budget) c₀ (b .loop .count + 1) end s (halted-ends unread end h) h), sym (registers-ended m unread (a .budget) c₀ (b .loop .count + 1) end s (halted-ends unread end h)))
+    let h = after-halted t r (b .loop .count) (c .if2 .taken) in
+    (sym (reached-halted m ws (a .budget) c₀ (b .loop .count + 1) end s (halted-ends ws end h) h), sym (registers-ended m ws (a .budget) c₀ (b .loop .count + 1) end s (halted-ends ws end h)))
 
 loop-less : tie.Need-loop-less Inv-loop μ-loop
 loop-less c = omega arith
 
 loop-again : tie.Need-loop-again Inv-loop μ-loop
 loop-again c =
-    let b = c .before .before .before .before .before .before .before in
-    let a = b .before .before .before .args in
+    let d = c .before .before .before in
+    let b = d .before .before .before .before .before .before in
+    let a = b .before .before .before .before .args in
     let t = now (a .table) in
     let m = machineRunner (machineOf t) in
+    let ws = upTo (a .limit) (now (a .words)) in
     let c₀ = startAt (a .start) (a .registers .words) in
-    let r = c .before .before .before .cycle .result in
-    let e = c .before .before .before .cycle .ensures ∙ ap (λ (k : ℕ). clock (machineOf t) 0 (stateAt t k) (b .loop .file .words)) (c .before .before .before .before .before .wide .ensures .0) in
-    let s = cycle-step t unread (a .budget) c₀ (b .loop .count) (b .loop .state) (b .loop .file .words) (after t r) (b .loop .inv .2) (b .loop .inv .0) (c .before .before .before .before .before .before .loop-test .taken) refl e in (
-      c .if1 .left,
+    let r = d .cycle .result in
+    let e = d .cycle .ensures ∙ ap₂ (λ (w k : ℕ). clock (machineOf t) w (stateAt t k) (b .loop .file .words)) (d .before .before .sampled .ensures) (d .before .before .before .wide .ensures .0) in
+    let s = cycle-step t ws (a .budget) c₀ (b .loop .count) (b .loop .state) (b .loop .file .words) (after t r) (b .loop .inv .2) (b .loop .inv .0) (omega arith) (lt-ltb (b .loop .count) (a .limit) (omega arith)) e in (
+      c .if2 .left,
       search needs,
-      subst (λ (x : Configuration). Reached m unread (a .budget) c₀ (b .loop .count + 1) x) (after-standing t r (b .loop .count) (c .if1 .left)) s,
+      subst (λ (x : Configuration). Reached m ws (a .budget) c₀ (b .loop .count + 1) x) (after-standing t r (b .loop .count) (c .if2 .left)) s,
     )
 
-returns-2 : tie.Need-returns-2 Inv-loop μ-loop
-returns-2 c =
+-- spent
+returns-3 : tie.Need-returns-3 Inv-loop μ-loop
+returns-3 c =
     let b = c .before in
-    let a = b .before .before .before .args in
-    let t = now (a .table) in
-    let m = machineRunner (machineOf t) in
+    let a = b .before .before .before .before .args in
+    let m = machineRunner (machineOf (now (a .table))) in
+    let ws = upTo (a .limit) (now (a .words)) in
     let c₀ = startAt (a .start) (a .registers .words) in
     let x = standsAt (b .loop .count) (b .loop .state) (b .loop .file .words) in
-    (sym (reached-spent m unread (a .budget) c₀ (b .loop .count) x (b .loop .inv .2) (b .loop .state) refl (c .loop-test .left)), sym (registers-spent m unread (a .budget) c₀ (b .loop .count) x (b .loop .inv .2) (c .loop-test .left)))
+    (sym (reached-spent m ws (a .budget) c₀ (b .loop .count) x (b .loop .inv .2) (b .loop .state) refl (c .loop-test .left)), sym (registers-spent m ws (a .budget) c₀ (b .loop .count) x (b .loop .inv .2) (c .loop-test .left)))
 
 pub run-spec : {M : Type 1} → statement M
 run-spec =
@@ -101,11 +120,13 @@ run-spec =
     μ-loop
     (λ c. search needs)
     loop-holds
+    returns
+    (λ c κs. search needs)
     (λ c κs. search needs)
     (λ c. search needs)
     cycle-requires
     (λ c. search needs)
-    returns
+    returns-2
     loop-less
     loop-again
-    returns-2)
+    returns-3)

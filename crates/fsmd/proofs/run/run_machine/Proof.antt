@@ -1,16 +1,15 @@
 -- `fsmd::run::run_machine` meets its contract: refusals in their order, then the run. Assumes nothing.
-use Prim.Native.Nat.{ℕ}
-use mathlib.Core.List.{List, _++_}
-use mathlib.Core.Path.{sym, ap, _∙_}
-use lib.ListN.{drop}
+use mathlib.Core.List.{[]}
+use mathlib.Core.Path.{sym, _∙_}
 use denote.Ref.{now}
 use borrow.Author.Needs.{needs}
 use borrow.Author.Tests.{not-true, not-false}
-use Rattle.runs.specs.Runs.{startAt, unread, answer, registersAfter}
-use Rattle.fsmd.specs.Layout.{maxRegisters}
+use Rattle.runs.proofs.SupplyLaws.{unread-alike}
+use Rattle.runs.specs.Runs.{unread, upTo}
 use Rattle.fsmd.specs.Machine.{machineRunner}
+use Rattle.fsmd.specs.Run.{refusal}
 use Rattle.fsmd.specs.Table.{machineOf}
-use Rattle.fsmd.proofs.Steps.{refused-answer, refused-registers, run-answer, run-registers, refuse-table, refuse-registers, refuse-machine, refuse-start, refuse-none}
+use Rattle.fsmd.proofs.Steps.{refuses, accepts, refuse-table, refuse-registers, refuse-machine, refuse-wordless, refuse-start, refuse-none}
 use Rattle.fsmd.proofs.run.run_machine.Statement.{statement}
 use Rattle.fsmd.proofs.run.run_machine.Tie as tie
 
@@ -20,7 +19,7 @@ returns c =
     let t = now (a .table) in
     let rs = now (a .registers) in
     let e = refuse-table t rs (a .start) (c .if1 .taken) in
-    (sym (refused-answer unread t rs (a .start) (a .budget) 6 e), sym (refused-registers unread t rs (a .start) (a .budget) 6 e))
+    refuses (machineRunner (machineOf t)) unread rs (a .start) (a .budget) (refusal t rs (a .start)) 6 e
 
 returns-2 : tie.Need-returns-2
 returns-2 c =
@@ -28,41 +27,58 @@ returns-2 c =
     let t = now (a .table) in
     let rs = now (a .registers) in
     let e = refuse-registers t rs (a .start) (c .before .if1 .left) (c .if2 .taken) in
-    (sym (refused-answer unread t rs (a .start) (a .budget) 6 e), sym (refused-registers unread t rs (a .start) (a .budget) 6 e))
+    refuses (machineRunner (machineOf t)) unread rs (a .start) (a .budget) (refusal t rs (a .start)) 6 e
 
 returns-3 : tie.Need-returns-3
 returns-3 c =
-    let a = c .before .before .before .before .before .before .args in
+    let g = c .before in
+    let a = g .before .before .before .before .before .args in
     let t = now (a .table) in
     let rs = now (a .registers) in
-    let e = refuse-machine t rs (a .start) (c .before .before .before .if1 .left) (c .before .before .if2 .left) (sym (c .before .admitted .ensures) ∙ not-true _ (c .if3 .taken)) in
-    (sym (refused-answer unread t rs (a .start) (a .budget) 9 e), sym (refused-registers unread t rs (a .start) (a .budget) 9 e))
+    let e = refuse-machine t rs (a .start) (g .before .before .if1 .left) (g .before .if2 .left) (sym (g .admitted .ensures) ∙ not-true _ (c .if3 .taken)) in
+    refuses (machineRunner (machineOf t)) unread rs (a .start) (a .budget) (refusal t rs (a .start)) 9 e
+
+is-wordless-requires : tie.Need-is-wordless-requires
+is-wordless-requires c κs = let g = c .before in (g .before .before .if1 .left, sym (g .admitted .ensures) ∙ not-false _ (c .if3 .left))
 
 returns-4 : tie.Need-returns-4
 returns-4 c =
-    let a = c .before .before .before .before .before .before .before .before .args in
+    let w = c .before in
+    let g = w .before .before in
+    let a = g .before .before .before .before .before .args in
     let t = now (a .table) in
     let rs = now (a .registers) in
-    let e = refuse-start t rs (a .start) (c .before .before .before .before .before .if1 .left) (c .before .before .before .before .if2 .left) (sym (c .before .before .before .admitted .ensures) ∙ not-false _ (c .before .before .if3 .left)) (c .if4 .taken) in
-    (sym (refused-answer unread t rs (a .start) (a .budget) 8 e), sym (refused-registers unread t rs (a .start) (a .budget) 8 e))
-
-run-requires : tie.Need-run-requires
-run-requires c κs = (c .before .before .before .before .before .before .before .if1 .left, (sym (c .before .before .before .before .before .admitted .ensures) ∙ not-false _ (c .before .before .before .before .if3 .left), c .before .before .if4 .left))
+    let e = refuse-wordless t rs (a .start) (g .before .before .if1 .left) (g .before .if2 .left) (sym (g .admitted .ensures) ∙ not-false _ (w .before .if3 .left)) (sym (w .is-wordless .ensures) ∙ not-true _ (c .if4 .taken)) in
+    refuses (machineRunner (machineOf t)) unread rs (a .start) (a .budget) (refusal t rs (a .start)) 11 e
 
 returns-5 : tie.Need-returns-5
 returns-5 c =
-    let a = c .before .before .before .before .before .before .before .before .before .before .before .before .before .before .before .before .args in
+    let w = c .before .before .before in
+    let g = w .before .before in
+    let a = g .before .before .before .before .before .args in
     let t = now (a .table) in
     let rs = now (a .registers) in
-    let m = machineRunner (machineOf t) in
-    let e = refuse-none t rs (a .start) (c .before .before .before .before .before .before .before .before .before .before .before .before .before .if1 .left) (c .before .before .before .before .before .before .before .before .before .before .before .before .if2 .left) (sym (c .before .before .before .before .before .before .before .before .before .before .before .admitted .ensures) ∙ not-false _ (c .before .before .before .before .before .before .before .before .before .before .if3 .left)) (c .before .before .before .before .before .before .before .before .if4 .left) in
-    let r = c .before .before .before .before .before .run .ensures in
-    let l = c .before .before .before .before .before .before .load .ensures in (
-      r .0 ∙ ap (λ (x : List ℕ). answer m unread (a .budget) (startAt (a .start) x)) l ∙ sym (run-answer unread t rs (a .start) (a .budget) e),
-      c .before .before .store .ensures
-          ∙ ap (λ (x : List ℕ). x ++ drop maxRegisters rs) (r .1 ∙ ap (λ (x : List ℕ). registersAfter m unread (a .budget) (startAt (a .start) x)) l)
-          ∙ sym (run-registers unread t rs (a .start) (a .budget) e),
-    )
+    let e = refuse-start t rs (a .start) (g .before .before .if1 .left) (g .before .if2 .left) (sym (g .admitted .ensures) ∙ not-false _ (w .before .if3 .left)) (sym (w .is-wordless .ensures) ∙ not-false _ (c .before .before .if4 .left)) (c .if5 .taken) in
+    refuses (machineRunner (machineOf t)) unread rs (a .start) (a .budget) (refusal t rs (a .start)) 8 e
+
+run-requires : tie.Need-run-requires
+run-requires c κs =
+    let g = c .before .before .before .before .before .before .before .before in
+    (g .before .before .if1 .left, (sym (g .admitted .ensures) ∙ not-false _ (c .before .before .before .before .before .before .before .if3 .left), c .before .before .before .if5 .left))
+
+returns-6 : tie.Need-returns-6
+returns-6 c =
+    let r = c .before .before .before .before .run in
+    let l = c .before .before .before .before .before .before .load in
+    let s = c .before .before .before .before .before .before .before .before in
+    let w = s .before .before .before in
+    let g = w .before .before in
+    let a = g .before .before .before .before .before .args in
+    let t = now (a .table) in
+    let rs = now (a .registers) in
+    let e = refuse-none t rs (a .start) (g .before .before .if1 .left) (g .before .if2 .left) (sym (g .admitted .ensures) ∙ not-false _ (w .before .if3 .left)) (sym (w .is-wordless .ensures) ∙ not-false _ (s .before .before .if4 .left)) (s .if5 .left) in
+    let both = accepts (machineRunner (machineOf t)) unread rs (a .start) (a .budget) (refusal t rs (a .start)) (upTo (a .budget) []) (unread-alike (a .budget)) e (l .result .words) (r .result .registers .words) (r .result .answer) (l .ensures) (r .ensures .0) (r .ensures .1) in
+    (both .0, c .before .before .store .ensures ∙ both .1)
 
 pub run-machine-spec : {M : Type 1} → statement M
 run-machine-spec =
@@ -72,10 +88,13 @@ run-machine-spec =
     returns-2
     (λ c κs. search needs)
     returns-3
-    (λ c. search needs)
+    is-wordless-requires
     returns-4
+    (λ c. search needs)
+    returns-5
     (λ c κs. search needs)
+    (λ c. search needs)
     run-requires
     (λ c κs. search needs)
     (λ c. search needs)
-    returns-5)
+    returns-6)

@@ -120,6 +120,7 @@ module _ (f : List ℕ) (h : 2 ^ 48 ≤ packed 1 f) where
         too-long (bytes "goto") (omega arith),
         too-long (bytes "ite") (omega arith),
         too-long (bytes "halt") (omega arith),
+        too-long (bytes "in") (omega arith),
         none-in 1 instructionNames refl,
       )
 

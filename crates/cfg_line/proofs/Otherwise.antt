@@ -11,7 +11,7 @@ use Rattle.cfg_line.specs.declared.Line.the-variants as line
 use Rattle.cfg_line.specs.Form.{formOf}
 
 abbrev others : List ℕ
-others = 0 ∷ 1 ∷ 2 ∷ 3 ∷ 5 ∷ 6 ∷ 7 ∷ 8 ∷ []
+others = 0 ∷ 1 ∷ 2 ∷ 3 ∷ 5 ∷ 6 ∷ 7 ∷ 8 ∷ 9 ∷ []
 
 -- only a halt has its name alone
 pub not-halt : (w : Keyword) → OneOf others (tagOf the-type w) → formOf w [] ≡ line.NoForm
@@ -22,6 +22,7 @@ not-halt keyword.Goto h = refl
 not-halt keyword.Ite h = refl
 not-halt keyword.Halt h = absurd (miss others 4 tt h)
 not-halt keyword.Set h = refl
+not-halt keyword.In h = refl
 not-halt (keyword.Unary k) h = refl
 not-halt (keyword.Binary k) h = refl
 not-halt keyword.Nothing h = refl

@@ -1,4 +1,4 @@
--- The form of a line ("Text" of paper 01). Assumes nothing.
+-- The form of a line ("Text" of paper 01, R-1 of paper 02). Assumes nothing.
 use Prim.Native.Nat.{ℕ}
 use mathlib.Core.Bool.{Bool, true, false, _&&_}
 use mathlib.Core.List.{List, [], _∷_}
@@ -69,6 +69,7 @@ formOf keyword.Ite fs =
     field comparisonOf (λ c. number (λ a. number (λ b. number (λ t. number (λ f. end (iteLine c a b t f)))))) fs
 formOf keyword.Halt fs = end line.Halt fs
 formOf keyword.Set fs = number (λ d. field literalOf (λ a. end (instruction 1 d a 0))) fs
+formOf keyword.In fs = number (λ d. end (instruction 20 d 0 0)) fs
 formOf (keyword.Unary k) fs = number (λ d. number (λ a. end (instruction k d a 0))) fs
 formOf (keyword.Binary k) fs = number (λ d. number (λ a. number (λ b. end (instruction k d a b)))) fs
 formOf keyword.Nothing fs = line.NoForm

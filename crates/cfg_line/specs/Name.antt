@@ -1,4 +1,4 @@
--- Names in a line ("Text" of paper 01). Assumes nothing.
+-- Names in a line ("Text" of paper 01, R-1 of paper 02). Assumes nothing.
 use Prim.Native.Nat.{ℕ, suc}
 use mathlib.Core.Bool.{Bool, true, false}
 use mathlib.Core.List.{List, [], _∷_}
@@ -9,7 +9,7 @@ use lib.Dec.{eqb}
 use Rattle.word.specs.Word.{choose, arity}
 use Rattle.runs.specs.Lists.{same, orElse}
 use Rattle.cfg_line.specs.declared.Keyword.{Keyword}
-use Rattle.cfg_line.specs.declared.Keyword.the-variants.{Graph, Block, Goto, Ite, Halt, Set, Unary, Binary, Nothing}
+use Rattle.cfg_line.specs.declared.Keyword.the-variants.{Graph, Block, Goto, Ite, Halt, Set, In, Unary, Binary, Nothing}
 
 -- a text's bytes
 abbrev pub bytes : String → List ℕ
@@ -60,4 +60,5 @@ keywordOf f =
     (choose (same f (bytes "goto")) Goto
     (choose (same f (bytes "ite")) Ite
     (choose (same f (bytes "halt")) Halt
-    (operation (codeIn 1 instructionNames f))))))
+    (choose (same f (bytes "in")) In
+    (operation (codeIn 1 instructionNames f)))))))

@@ -43,6 +43,7 @@ pub enum Keyword {
     Ite,
     Halt,
     Set,
+    In,
     // Instructions of one operand and of two, by their code.
     Unary(u32),
     Binary(u32),
@@ -190,6 +191,7 @@ fn keyword_of(key: u64) -> Keyword
         0x1_736872 => Keyword::Binary(9), // shr
         0x1_736172 => Keyword::Binary(10), // sar
         0x1_7378 => Keyword::Unary(11), // sx
+        0x1_696e => Keyword::In, // in
         _ => Keyword::Nothing,
     }
 }
@@ -266,6 +268,23 @@ fn set_form(text: &[u8], at: usize) -> Parsed
             code: 1,
             d: d,
             a: a,
+            b: 0,
+        }),
+        next: next,
+    }
+}
+
+fn in_form(text: &[u8], at: usize) -> Parsed
+    ensures { λ r. ⌜ r ≡ parsedAt (formOf Keyword.In) at (drop at (now (text .entry))) ⌝ }
+{
+    let Field::Value(d, next) = number(text, at, b'\n') else {
+        return no_form();
+    };
+    Parsed {
+        line: Line::Instruction(Instruction {
+            code: 20,
+            d: d,
+            a: 0,
             b: 0,
         }),
         next: next,
@@ -374,6 +393,7 @@ fn form(word: Keyword, text: &[u8], at: usize) -> Parsed
         Keyword::Ite => ite_form(text, at),
         Keyword::Halt => no_form(),
         Keyword::Set => set_form(text, at),
+        Keyword::In => in_form(text, at),
         Keyword::Unary(code) => unary_form(code, text, at),
         Keyword::Binary(code) => binary_form(code, text, at),
         Keyword::Nothing => no_form(),

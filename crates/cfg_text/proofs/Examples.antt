@@ -1,4 +1,4 @@
--- Texts of paper 01 that are refused or read, computed. Assumes nothing.
+-- Texts of paper 01 that are refused or read, and lines of R-1 of paper 02, computed. Assumes nothing.
 use Prim.Native.Nat.{ℕ, _+_}
 use mathlib.Core.Bool.{Bool, true, false}
 use mathlib.Core.List.{List, [], _∷_, _++_}
@@ -42,6 +42,14 @@ examples =
     ∷ refusedAt 3 2 (readText (lines ("graph,1,1" ∷ "graph,1,1" ∷ [])))
     ∷ refusedAt 3 4 (readText (lines ("graph,1,1" ∷ "block,0" ∷ "halt" ∷ "block,1" ∷ [])))
     ∷ refusedAt 3 11 (readText (lines ("graph,1,1" ∷ "block,0" ∷ "sx,0,0" ∷ "sx,0,0" ∷ "sx,0,0" ∷ "sx,0,0" ∷ "sx,0,0" ∷ "sx,0,0" ∷ "sx,0,0" ∷ "sx,0,0" ∷ "sx,9,0" ∷ [])))
+    ∷ accepted (readText (lines ("graph,1,16" ∷ "block,0" ∷ "in,0" ∷ "in,15" ∷ "halt" ∷ [])))
+    ∷ refusedAt 2 3 (readText (lines ("graph,1,1" ∷ "block,0" ∷ "in" ∷ [])))
+    ∷ refusedAt 2 3 (readText (lines ("graph,1,1" ∷ "block,0" ∷ "in," ∷ [])))
+    ∷ refusedAt 2 3 (readText (lines ("graph,1,1" ∷ "block,0" ∷ "in,0,0" ∷ [])))
+    ∷ refusedAt 2 3 (readText (lines ("graph,1,1" ∷ "block,0" ∷ "in,256" ∷ [])))
+    ∷ refusedAt 4 3 (readText (lines ("graph,1,1" ∷ "block,0" ∷ "in,16" ∷ [])))
+    ∷ refusedAt 3 2 (readText (lines ("graph,1,1" ∷ "in,0" ∷ [])))
+    ∷ refusedAt 3 11 (readText (lines ("graph,1,1" ∷ "block,0" ∷ "in,0" ∷ "in,0" ∷ "in,0" ∷ "in,0" ∷ "in,0" ∷ "in,0" ∷ "in,0" ∷ "in,0" ∷ "in,16" ∷ [])))
     ∷ []
 
 pub examples-hold : T (every (λ b. b) examples)

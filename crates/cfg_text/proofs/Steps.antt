@@ -1,16 +1,16 @@
 -- What each step of reading does is what the definition does. Assumes nothing.
 use mathlib.Core.Path.{_≡_, _∙_, refl, sym, ap}
 use mathlib.Core.List.{List, [], _∷_, _++_}
-use mathlib.Core.Bool.{Bool, true, false, and-true}
-use Prim.Native.Nat.{ℕ, _+_, _*_, _≤_, _<_}
+use mathlib.Core.Bool.{true, false, and-true}
+use Prim.Native.Nat.{ℕ, zero, suc, _+_, _*_, _≤_, _<_}
 use native.Mathlib.Omega.{arith}
-use lib.ListN.{length, length-append}
-use lib.Seq.{sets}
-use lib.Dec.{eqb, ltb}
+use lib.ListN.{length, take, length-append}
+use lib.Seq.{sets, take-nil}
+use lib.Dec.{ltb}
 use borrow.Author.Tests.{eq-eqb, ne-eqb, lt-ltb, le-ltb}
-use Rattle.word.specs.Word.{choose, arity}
+use Rattle.word.specs.Word.{arity}
 use Rattle.runs.proofs.ListLaws.{every-snoc, length-padded}
-use Rattle.runs.specs.Lists.{every, padded}
+use Rattle.runs.specs.Lists.{padded}
 use Rattle.cfg.specs.Layout.{maxInstructions, blockOffset, codeOffset, instructionWords}
 use Rattle.cfg.specs.Graph.{CFG, noInstruction, targets}
 use Rattle.cfg.specs.Table.{instructionWordsOf, endingWordsOf, tableOf}
@@ -35,18 +35,28 @@ module _ (r : ℕ) (i : Instruction) where
   pub below-set : i .d < r → i .code ≡ 1 → allBelow r (instructionRegisters i) ≡ true
   below-set h e = rw (lt-ltb (i .d) r h, eq-eqb (i .code) 1 e)
 
-  pub below-first : i .d < r → (i .code ≡ 1 → ⊥) → r ≤ i .a → allBelow r (instructionRegisters i) ≡ false
-  below-first h e l = rw (lt-ltb (i .d) r h, ne-eqb (i .code) 1 e) (by (eqb (arity (i .code)) 1))
+  pub below-none : i .d < r → (i .code ≡ 1 → ⊥) → arity (i .code) ≡ 0 → allBelow r (instructionRegisters i) ≡ true
+  below-none h e u = rw (lt-ltb (i .d) r h, ne-eqb (i .code) 1 e, u)
+
+  pub below-first : i .d < r → (i .code ≡ 1 → ⊥) → (arity (i .code) ≡ 0 → ⊥) → r ≤ i .a → allBelow r (instructionRegisters i) ≡ false
+  below-first h e u l = rw (lt-ltb (i .d) r h, ne-eqb (i .code) 1 e) (by (arity (i .code)) u)
     where
-      by : (t : Bool) → every (λ x. ltb x r) (choose t (i .a ∷ []) (i .a ∷ i .b ∷ [])) ≡ false
-      by true = rw (le-ltb (i .a) r l)
-      by false = rw (le-ltb (i .a) r l)
+      by : (n : ℕ) → (n ≡ 0 → ⊥) → allBelow r (take n (i .a ∷ i .b ∷ [])) ≡ false
+      by zero u = absurd (u refl)
+      by (suc n) u = rw (le-ltb (i .a) r l)
 
   pub below-unary : i .d < r → (i .code ≡ 1 → ⊥) → i .a < r → arity (i .code) ≡ 1 → allBelow r (instructionRegisters i) ≡ true
-  below-unary h e l u = rw (lt-ltb (i .d) r h, ne-eqb (i .code) 1 e, eq-eqb (arity (i .code)) 1 u, lt-ltb (i .a) r l)
+  below-unary h e l u = rw (lt-ltb (i .d) r h, ne-eqb (i .code) 1 e, u, lt-ltb (i .a) r l)
 
-  pub below-binary : i .d < r → (i .code ≡ 1 → ⊥) → i .a < r → (arity (i .code) ≡ 1 → ⊥) → allBelow r (instructionRegisters i) ≡ ltb (i .b) r
-  below-binary h e l u = rw (lt-ltb (i .d) r h, ne-eqb (i .code) 1 e, ne-eqb (arity (i .code)) 1 u, lt-ltb (i .a) r l) (and-true (ltb (i .b) r))
+  pub below-binary :
+      i .d < r → (i .code ≡ 1 → ⊥) → (arity (i .code) ≡ 0 → ⊥) → i .a < r → (arity (i .code) ≡ 1 → ⊥)
+      → allBelow r (instructionRegisters i) ≡ ltb (i .b) r
+  below-binary h e z l u = rw (lt-ltb (i .d) r h, ne-eqb (i .code) 1 e) (by (arity (i .code)) z u)
+    where
+      by : (n : ℕ) → (n ≡ 0 → ⊥) → (n ≡ 1 → ⊥) → allBelow r (take n (i .a ∷ i .b ∷ [])) ≡ ltb (i .b) r
+      by zero z u = absurd (z refl)
+      by (suc zero) z u = absurd (u refl)
+      by (suc (suc n)) z u = rw (lt-ltb (i .a) r l, take-nil n) (and-true (ltb (i .b) r))
 
 -- ---- the code's place is of one kind only
 

@@ -140,6 +140,7 @@ few-form keyword.Goto = few-field _ _ (λ t. few-end (line.Goto t) tt)
 few-form keyword.Ite = few-field _ _ (λ c. few-field _ _ (λ a. few-field _ _ (λ b. few-field _ _ (λ t. few-field _ _ (λ f. few-end _ tt)))))
 few-form keyword.Halt = few-end line.Halt tt
 few-form keyword.Set = few-field _ _ (λ d. few-field _ _ (λ a. few-end _ tt))
+few-form keyword.In = few-field _ _ (λ d. few-end _ tt)
 few-form (keyword.Unary k) = few-field _ _ (λ d. few-field _ _ (λ a. few-end _ tt))
 few-form (keyword.Binary k) = few-field _ _ (λ d. few-field _ _ (λ a. few-field _ _ (λ b. few-end _ tt)))
 few-form keyword.Nothing = λ fs. tt

@@ -2,7 +2,7 @@
 use Prim.Native.Nat.{ℕ, suc}
 use mathlib.Core.Bool.{Bool, true, false, _&&_}
 use mathlib.Core.List.{List, [], _∷_, _++_}
-use lib.ListN.{length}
+use lib.ListN.{length, take}
 use lib.Dec.{eqb, ltb}
 use Rattle.word.specs.Word.{choose, arity}
 use Rattle.runs.specs.Lists.{every, padded}
@@ -56,10 +56,9 @@ inBlock (inside b r bs is) k = k b r bs is
 abbrev pub allBelow : ℕ → List ℕ → Bool
 allBelow n = every (λ x. ltb x n)
 
--- the registers that an instruction names: a set's a is its literal
+-- the registers that an instruction names: d and the operands that its code reads; a set's a is its literal
 abbrev pub instructionRegisters : Instruction → List ℕ
-instructionRegisters i =
-    i .d ∷ choose (eqb (i .code) 1) [] (choose (eqb (arity (i .code)) 1) (i .a ∷ []) (i .a ∷ i .b ∷ []))
+instructionRegisters i = i .d ∷ choose (eqb (i .code) 1) [] (take (arity (i .code)) (i .a ∷ i .b ∷ []))
 
 abbrev pub endingRegisters : Ending → List ℕ
 endingRegisters (ending.Goto t) = []

@@ -78,10 +78,14 @@ fn registers_below(i: Instruction, registers: u32) -> bool
     if i.code == 1 {
         return true;
     }
+    let operands = word::arity(i.code);
+    if operands == 0 {
+        return true;
+    }
     if registers <= i.a {
         return false;
     }
-    if word::arity(i.code) == 1 {
+    if operands == 1 {
         return true;
     }
     i.b < registers

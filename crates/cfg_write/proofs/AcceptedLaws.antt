@@ -6,15 +6,15 @@ use native.Mathlib.Nat.{add-zero}
 use mathlib.Core.Path.{_≡_, refl, sym, ap, ap₂, _∙_}
 use mathlib.Core.Bool.{Bool, true, false, _&&_, _||_}
 use mathlib.Core.List.{List, [], _∷_, _++_, map, append-assoc, append-nil, map-append}
-use mathlib.Core.Logic.{_⊎_, inl, inr}
+use mathlib.Core.Logic.{inl, inr}
 use lib.Dec.{eqb, leb, ltb}
 use lib.ListN.{length, take, drop, length-append}
-use borrow.Author.Tests.{ltb-true, eqb-true, eq-eqb, ne-eqb, le-leb, lt-ltb}
+use borrow.Author.Tests.{ltb-true, eqb-true, eq-eqb, le-leb, lt-ltb}
 use Rattle.word.specs.Word.{choose, arity}
 use Rattle.runs.specs.Lists.{every, padded}
 use Rattle.runs.proofs.ListLaws.{and-left, and-right, and-both, length-padded, every-snoc}
 use Rattle.cfg.specs.Layout.{maxBlocks, maxRegisters, maxInstructions}
-use Rattle.cfg.specs.Graph.{CFG, noInstruction, codeOf, targets, validInstruction, validEnding, unused, validBlock, validGraph}
+use Rattle.cfg.specs.Graph.{CFG, noInstruction, codeOf, targets, instructionCode, validInstruction, validEnding, unused, validBlock, validGraph}
 use Rattle.cfg.specs.declared.Instruction.{Instruction}
 use Rattle.cfg.specs.declared.Ending.{Ending}
 use Rattle.cfg.specs.declared.Ending.the-variants as ending
@@ -25,8 +25,8 @@ use Rattle.cfg_line.specs.Form.{lineOf}
 use Rattle.cfg_text.proofs.Turns.{chosen}
 use Rattle.cfg_text.specs.Walk.{Progress, start, between, inside, Next, go, refuse, refused, read, allBelow, instructionRegisters, endingRegisters, opened, joined, blockWith, closed, next, finish, proceed, walk}
 use Rattle.cfg_write.specs.Write.{endingLine, blockLines, linesFrom, linesOf}
-use Rattle.cfg_write.proofs.NameLaws.{codes, arity-one-two}
-use Rattle.cfg_write.proofs.LineLaws.{Formed, FormedInstruction, FormedGraph}
+use Rattle.cfg_write.proofs.NameLaws.{KnownCode, Shape, literal, nothing, one, two, shape}
+use Rattle.cfg_write.proofs.LineLaws.{Formed, FormedInstruction, FormedGraph, first-small}
 use Rattle.cfg_write.proofs.TextLaws.{lineBytes, LineWritten, line-written}
 use Rattle.cfg_write.proofs.Whole.{proper}
 
@@ -68,43 +68,41 @@ Known (inside b r bs is) = Inside b r bs is
 
 -- ---- an instruction that joined
 
-one-operand : (k : ℕ) → k ≡ 1 → arity k ≡ 1
-unfolding arity
-one-operand k e = rw e
+known-code : (k : ℕ) → KnownCode k → instructionCode k ≡ true
+known-code k (inl h) = rw (le-leb 1 k (h .0), le-leb k 11 (h .1))
+known-code k (inr e) = rw e
 
 module _ (r : ℕ) (i : Instruction) (f : FormedInstruction i) where
+  no-second : arity (i .code) < 2 → eqb (i .b) 0 ≡ true
+  no-second o = eq-eqb (i .b) 0 (f .fits .noSecond (λ t. omega arith))
+
   operands-below :
-      (p : Bool) → eqb (i .code) 1 ≡ p → (arity (i .code) ≡ 1) ⊎ (arity (i .code) ≡ 2)
-      → allBelow r (choose (eqb (i .code) 1) [] (choose (eqb (arity (i .code)) 1) (i .a ∷ []) (i .a ∷ i .b ∷ []))) ≡ true
-      → (eqb (i .code) 1 || ltb (i .a) r ≡ true) × (choose (eqb (arity (i .code)) 2) (ltb (i .b) r) (eqb (i .b) 0) ≡ true)
-  operands-below true e (inl q) h =
-      let z = f .noSecond (eq-eqb (arity (i .code)) 1 q) in
-      (rw e, rw (ne-eqb (arity (i .code)) 2 (λ t. omega arith)) (eq-eqb (i .b) 0 z))
-  operands-below true e (inr q) h = let o = one-operand (i .code) (eqb-true (i .code) 1 e) in absurd (omega arith)
-  operands-below false e (inl q) h =
-      let z = f .noSecond (eq-eqb (arity (i .code)) 1 q) in
-      let g = rw (e, eq-eqb (arity (i .code)) 1 q) at h in
-      (rw e (and-left (ltb (i .a) r) true g), rw (ne-eqb (arity (i .code)) 2 (λ t. omega arith)) (eq-eqb (i .b) 0 z))
-  operands-below false e (inr q) h =
-      let g = rw (e, ne-eqb (arity (i .code)) 1 (λ t. omega arith)) at h in
-      (rw e (and-left (ltb (i .a) r) (ltb (i .b) r && true) g), rw (eq-eqb (arity (i .code)) 2 q) (and-left (ltb (i .b) r) true (and-right (ltb (i .a) r) (ltb (i .b) r && true) g)))
+      Shape (i .code) → allBelow r (choose (eqb (i .code) 1) [] (take (arity (i .code)) (i .a ∷ i .b ∷ []))) ≡ true
+      → (choose (eqb (arity (i .code)) 0) (eqb (i .a) 0) (eqb (i .code) 1 || ltb (i .a) r) ≡ true)
+      × (choose (eqb (arity (i .code)) 2) (ltb (i .b) r) (eqb (i .b) 0) ≡ true)
+  operands-below (literal e o k) h = (rw (o, e), rw o (no-second (omega arith)))
+  operands-below (nothing e o k) h = (rw o (eq-eqb (i .a) 0 (f .fits .noFirst o)), rw o (no-second (omega arith)))
+  operands-below (one e o k) h =
+      let g = rw (e, o) at h in
+      (rw (o, e) (and-left (ltb (i .a) r) true g), rw o (no-second (omega arith)))
+  operands-below (two e o k) h =
+      let g = rw (e, o) at h in
+      (rw (o, e) (and-left (ltb (i .a) r) (ltb (i .b) r && true) g), rw o (and-left (ltb (i .b) r) true (and-right (ltb (i .a) r) (ltb (i .b) r && true) g)))
 
   valid-from : allBelow r (instructionRegisters i) ≡ true → validInstruction r i ≡ true
   unfolding validInstruction
   valid-from h =
       let k = i .code in
       let d = ltb (i .d) r in
-      let rest = choose (eqb k 1) [] (choose (eqb (arity k) 1) (i .a ∷ []) (i .a ∷ i .b ∷ [])) in
-      let a = eqb k 1 || ltb (i .a) r in
-      let b = choose (eqb (arity k) 2) (ltb (i .b) r) (eqb (i .b) 0) in
-      let ab = operands-below (eqb k 1) refl (arity-one-two k (codes k (f .low) (f .high))) (and-right d (allBelow r rest) h) in
-      let code = and-both (leb 1 k) (leb k 11) (le-leb 1 k (f .low)) (le-leb k 11 (f .high)) in
-      let written = and-both (leb 1 k && leb k 11) d code (and-left d (allBelow r rest) h) in
-      and-both (leb 1 k && leb k 11 && d && a) b (and-both (leb 1 k && leb k 11 && d) a written (ab .0)) (ab .1)
+      let rest = choose (eqb k 1) [] (take (arity k) (i .a ∷ i .b ∷ [])) in
+      let ab = operands-below (shape k (f .fits .known)) (and-right d (allBelow r rest) h) in
+      rw (known-code k (f .fits .known), and-left d (allBelow r rest) h, ab .0, ab .1)
 
-  word-from : (p : Bool) → eqb (i .code) 1 ≡ p → word i ≡ true
-  word-from true e = lt-ltb (i .a) (2 ^ 32) (f .literal e)
-  word-from false e = let a = f .first e in lt-ltb (i .a) (2 ^ 32) (omega arith)
+  word-from : Shape (i .code) → word i ≡ true
+  word-from (literal e o k) = lt-ltb (i .a) (2 ^ 32) (f .literal e)
+  word-from (nothing e o k) = let a = f .fits .noFirst o in lt-ltb (i .a) (2 ^ 32) (omega arith)
+  word-from (one e o k) = let a = first-small i f e (omega arith) in lt-ltb (i .a) (2 ^ 32) (omega arith)
+  word-from (two e o k) = let a = first-small i f e (omega arith) in lt-ltb (i .a) (2 ^ 32) (omega arith)
 
 -- ---- a block that was closed
 
@@ -238,7 +236,7 @@ join-back i b r bs is q f h g =
             room = h .room;
             few = omega arith;
             valid = every-snoc (validInstruction r) is i (h .valid) (valid-from r i f (d .0));
-            words = every-snoc word is i (h .words) (word-from r i f (eqb (i .code) 1) refl);
+            words = every-snoc word is i (h .words) (word-from r i f (shape (i .code) (f .fits .known)));
           };
     }
 

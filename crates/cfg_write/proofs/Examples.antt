@@ -30,7 +30,7 @@ one =
     record {
       registers = 16;
       blocks =
-          blockOf (instruction 1 15 (2 ^ 31) 0 ∷ instruction 1 0 (2 ^ 31 - 1) 0 ∷ instruction 1 0 0 0 ∷ instruction 1 0 (2 ^ 32 - 1) 0 ∷ instruction 2 10 9 0 ∷ instruction 11 1 2 0 ∷ instruction 4 1 2 3 ∷ []) (Ite (record { comparison = Geu; a = 7; b = 12 }) 1 0)
+          blockOf (instruction 1 15 (2 ^ 31) 0 ∷ instruction 1 0 (2 ^ 31 - 1) 0 ∷ instruction 1 0 0 0 ∷ instruction 1 0 (2 ^ 32 - 1) 0 ∷ instruction 2 10 9 0 ∷ instruction 11 1 2 0 ∷ instruction 4 1 2 3 ∷ instruction 20 15 0 0 ∷ []) (Ite (record { comparison = Geu; a = 7; b = 12 }) 1 0)
           ∷ blockOf [] (Goto 0)
           ∷ blockOf [] Halt
           ∷ [];
@@ -40,7 +40,7 @@ abbrev pub text : List ℕ
 unfolding concatMap
 text =
     lines (
-    "graph,3,16" ∷ "block,0" ∷ "set,15,-2147483648" ∷ "set,0,2147483647" ∷ "set,0,0" ∷ "set,0,-1" ∷ "copy,10,9" ∷ "sx,1,2" ∷ "sub,1,2,3" ∷ "ite,geu,7,12,1,0" ∷ "block,1" ∷ "goto,0" ∷ "block,2" ∷ "halt" ∷ [])
+    "graph,3,16" ∷ "block,0" ∷ "set,15,-2147483648" ∷ "set,0,2147483647" ∷ "set,0,0" ∷ "set,0,-1" ∷ "copy,10,9" ∷ "sx,1,2" ∷ "sub,1,2,3" ∷ "in,15" ∷ "ite,geu,7,12,1,0" ∷ "block,1" ∷ "goto,0" ∷ "block,2" ∷ "halt" ∷ [])
 
 pub example-holds : T (same (textOf one) text)
 unfolding textOf concatMap

@@ -2,39 +2,37 @@
 use Prim.Native.Nat.{ℕ, _^_, _≤_, _<_}
 use native.Mathlib.Omega.{arith}
 use mathlib.Core.Path.{_≡_, refl, sym, ap, ap₂, _∙_}
-use mathlib.Core.Bool.{Bool, true, false, _&&_, true≢false}
+use mathlib.Core.Bool.{Bool, true, false, _&&_}
 use mathlib.Core.List.{List, [], _∷_}
 use mathlib.Core.Option.{Option, none, some}
 use lib.Dec.{eqb, leb}
-use borrow.Author.Tests.{leb-true, eqb-true, le-leb}
+use lib.Seq.{take-all}
+use borrow.Author.Tests.{leb-true, eqb-true, eqb-false, le-leb}
 use Rattle.word.specs.Word.{choose, arity}
 use Rattle.runs.proofs.ListLaws.{and-left, and-right}
 use Rattle.decimal.specs.Decimal.{decimalOf}
 use Rattle.cfg.specs.Layout.{maxBlocks, maxRegisters}
 use Rattle.cfg.specs.Table.{comparisonAt}
+use Rattle.cfg.proofs.Admitted.{ValidInstruction}
 use Rattle.cfg.specs.declared.Instruction.{Instruction}
 use Rattle.cfg.specs.declared.Condition.{Condition}
 use Rattle.cfg_line.specs.declared.Keyword.{Keyword}
 use Rattle.cfg_line.specs.declared.Keyword.the-variants as keyword
 use Rattle.cfg_line.specs.declared.Line.{Line}
 use Rattle.cfg_line.specs.declared.Line.the-variants as line
-use Rattle.cfg_line.specs.Name.{bytes, comparisonOf, keywordOf, operation}
+use Rattle.cfg_line.specs.Name.{bytes, comparisonOf, keywordOf}
 use Rattle.cfg_line.specs.Number.{numberOf, literalOf}
 use Rattle.cfg_line.specs.Form.{Fields, field, withValue, number, end, graphLine, instruction, iteLine, formOf, byName}
-use Rattle.cfg_write.specs.Write.{comparisonName, literalText, operandsOf, fieldsOf}
+use Rattle.cfg_write.specs.Write.{instructionName, comparisonName, literalText, operandsOf, fieldsOf}
 use Rattle.cfg_write.proofs.NumberLaws.{number-read, number-written, literal-read, literal-written}
-use Rattle.cfg_write.proofs.NameLaws.{Code, Named, keyword-named, codes, name-read, comparison-read, comparison-back, comparison-written}
+use Rattle.cfg_write.proofs.NameLaws.{Code, Named, Shape, literal, nothing, one, two, shape, not-one, keyword-named, comparison-read, comparison-back, comparison-written}
 
 -- ---- the numbers that a line can hold
 
+-- registers have any number of a field
 pub record FormedInstruction (i : Instruction) : Type 0 where
-  pub low : 1 ≤ i .code
-  pub high : i .code ≤ 11
-  pub written : i .d ≤ 255
+  pub fits : ValidInstruction 256 i
   pub literal : eqb (i .code) 1 ≡ true → i .a < 2 ^ 32
-  pub first : eqb (i .code) 1 ≡ false → i .a ≤ 255
-  pub noSecond : eqb (arity (i .code)) 1 ≡ true → i .b ≡ 0
-  pub second : eqb (arity (i .code)) 1 ≡ false → i .b ≤ 255
 
 pub record FormedGraph (b r : ℕ) : Type 0 where
   pub someBlock : 1 ≤ b
@@ -71,36 +69,50 @@ module _ (i : Instruction) where
   unfolding operandsOf
   operands-set e = rw e
 
-  pub operands-one : eqb (i .code) 1 ≡ false → eqb (arity (i .code)) 1 ≡ true → operandsOf i ≡ decimalOf (i .a) ∷ []
+  pub operands-none : eqb (i .code) 1 ≡ false → arity (i .code) ≡ 0 → operandsOf i ≡ []
+  unfolding operandsOf
+  operands-none e w = rw (e, w)
+
+  pub operands-one : eqb (i .code) 1 ≡ false → arity (i .code) ≡ 1 → operandsOf i ≡ decimalOf (i .a) ∷ []
   unfolding operandsOf
   operands-one e w = rw (e, w)
 
-  pub operands-two : eqb (i .code) 1 ≡ false → eqb (arity (i .code)) 1 ≡ false → operandsOf i ≡ decimalOf (i .a) ∷ decimalOf (i .b) ∷ []
+  pub operands-two : eqb (i .code) 1 ≡ false → 2 ≤ arity (i .code) → operandsOf i ≡ decimalOf (i .a) ∷ decimalOf (i .b) ∷ []
   unfolding operandsOf
-  operands-two e w = rw (e, w)
+  operands-two e w = rw e (take-all (arity (i .code)) (decimalOf (i .a) ∷ decimalOf (i .b) ∷ []) w)
+
+module _ (i : Instruction) (h : FormedInstruction i) where
+  d-read : numberOf (decimalOf (i .d)) ≡ some (i .d)
+  d-read = let w = h .fits .written in number-read 255 (i .d) (omega arith)
+
+  pub first-small : eqb (i .code) 1 ≡ false → 0 < arity (i .code) → i .a ≤ 255
+  first-small e o = let w = h .fits .first o (eqb-false (i .code) 1 e) in omega arith
+
+  pub second-small : arity (i .code) ≡ 2 → i .b ≤ 255
+  second-small o = let w = h .fits .second o in omega arith
+
+  no-second : arity (i .code) < 2 → i .b ≡ 0
+  no-second o = h .fits .noSecond (λ t. omega arith)
 
   -- the fields behind the name
-  behind-name :
-      FormedInstruction i → (p : Bool) → eqb (i .code) 1 ≡ p → (q : Bool) → eqb (arity (i .code)) 1 ≡ q
-      → formOf (operation (some (i .code))) (decimalOf (i .d) ∷ operandsOf i) ≡ line.Instruction i
-  unfolding formOf arity
-  behind-name h true e q w =
-      let one = eqb-true (i .code) 1 e in
-      let none = h .noSecond (rw one) in
-      rw (e, operands-set e, number-read 255 (i .d) (h .written), literal-read (i .a) (h .literal e))
-      (ap₂ (λ (k b : ℕ). instruction k (i .d) (i .a) b) (sym one) (sym none))
-  behind-name h false e true w =
-      let none = h .noSecond w in
-      rw (e, w, operands-one e w, number-read 255 (i .d) (h .written), number-read 255 (i .a) (h .first e))
-      (ap (instruction (i .code) (i .d) (i .a)) (sym none))
-  behind-name h false e false w =
-      rw (e, w, operands-two e w, number-read 255 (i .d) (h .written), number-read 255 (i .a) (h .first e), number-read 255 (i .b) (h .second w))
+  behind-name : Shape (i .code) → formOf (keywordOf (instructionName (i .code))) (decimalOf (i .d) ∷ operandsOf i) ≡ line.Instruction i
+  unfolding formOf
+  behind-name (literal e o k) =
+      rw (k, operands-set i e, d-read, literal-read (i .a) (h .literal e))
+      (ap₂ (λ (k b : ℕ). instruction k (i .d) (i .a) b) (sym (eqb-true (i .code) 1 e)) (sym (no-second (omega arith))))
+  behind-name (nothing e o k) =
+      let z = h .fits .noFirst o in
+      rw (k, operands-none i (not-one (i .code) e) o, d-read)
+      (ap₂ (λ (k a : ℕ). instruction k (i .d) a 0) (sym e) (sym z) ∙ ap (instruction (i .code) (i .d) (i .a)) (sym (no-second (omega arith))))
+  behind-name (one e o k) =
+      rw (k, operands-one i e o, d-read, number-read 255 (i .a) (first-small e (omega arith)))
+      (ap (instruction (i .code) (i .d) (i .a)) (sym (no-second (omega arith))))
+  behind-name (two e o k) =
+      rw (k, operands-two i e (omega arith), d-read, number-read 255 (i .a) (first-small e (omega arith)), number-read 255 (i .b) (second-small o))
 
-  instruction-read : FormedInstruction i → byName (fieldsOf (line.Instruction i)) ≡ line.Instruction i
+  instruction-read : byName (fieldsOf (line.Instruction i)) ≡ line.Instruction i
   unfolding byName fieldsOf
-  instruction-read h =
-      ap (λ (k : Keyword). formOf k (decimalOf (i .d) ∷ operandsOf i)) (name-read (i .code) (codes (i .code) (h .low) (h .high)))
-      ∙ behind-name h (eqb (i .code) 1) refl (eqb (arity (i .code)) 1) refl
+  instruction-read = behind-name (shape (i .code) (h .fits .known))
 
 pub fields-read : (l : Line) → Formed l → byName (fieldsOf l) ≡ l
 unfolding byName fieldsOf formOf keywordOf
@@ -180,53 +192,76 @@ graph-back b r = go (leb 1 b && leb b maxBlocks && leb 1 r && leb r maxRegisters
 
 -- an instruction's fields
 module _ (i : Instruction) (f : List ℕ) (c : Code f (i .code)) (h : i .d ≤ 255) where
-  set-back : eqb (i .code) 1 ≡ true → i .a < 2 ^ 32 → i .b ≡ 0 → Back (f ∷ decimalOf (i .d) ∷ literalText (i .a) ∷ []) (line.Instruction i)
+  operands-back : (fs : Fields) → operandsOf i ≡ fs → FormedInstruction i → Back (f ∷ decimalOf (i .d) ∷ fs) (line.Instruction i)
   unfolding fieldsOf
-  set-back e w z =
-      back (f ∷ decimalOf (i .d) ∷ literalText (i .a) ∷ []) (line.Instruction i)
-      (rw (operands-set i e, c .name))
+  operands-back fs e w = back (f ∷ decimalOf (i .d) ∷ fs) (line.Instruction i) (rw (e, c .name)) w
+
+  set-back : eqb (i .code) 1 ≡ true → arity (i .code) ≡ 1 → i .a < 2 ^ 32 → i .b ≡ 0 → Back (f ∷ decimalOf (i .d) ∷ literalText (i .a) ∷ []) (line.Instruction i)
+  set-back e o w z =
+      operands-back (literalText (i .a) ∷ []) (operands-set i e)
       record {
-        low = c .low;
-        high = c .high;
-        written = h;
+        fits =
+            record {
+              known = c .known;
+              written = omega arith;
+              first = λ _ n. absurd (n (eqb-true (i .code) 1 e));
+              noFirst = λ q. absurd (omega arith);
+              second = λ q. absurd (omega arith);
+              noSecond = λ _. z;
+            };
         literal = λ _. w;
-        first = λ q. absurd (true≢false (sym e ∙ q));
-        noSecond = λ _. z;
-        second = λ q. omega arith;
       }
 
-  one-back : eqb (i .code) 1 ≡ false → eqb (arity (i .code)) 1 ≡ true → i .a ≤ 255 → i .b ≡ 0 → Back (f ∷ decimalOf (i .d) ∷ decimalOf (i .a) ∷ []) (line.Instruction i)
-  unfolding fieldsOf
+  none-back : eqb (i .code) 1 ≡ false → arity (i .code) ≡ 0 → i .a ≡ 0 → i .b ≡ 0 → Back (f ∷ decimalOf (i .d) ∷ []) (line.Instruction i)
+  none-back e o y z =
+      operands-back [] (operands-none i e o)
+      record {
+        fits =
+            record {
+              known = c .known;
+              written = omega arith;
+              first = λ q _. absurd (omega arith);
+              noFirst = λ _. y;
+              second = λ q. absurd (omega arith);
+              noSecond = λ _. z;
+            };
+        literal = λ q. omega arith;
+      }
+
+  one-back : eqb (i .code) 1 ≡ false → arity (i .code) ≡ 1 → i .a ≤ 255 → i .b ≡ 0 → Back (f ∷ decimalOf (i .d) ∷ decimalOf (i .a) ∷ []) (line.Instruction i)
   one-back e o w z =
-      back (f ∷ decimalOf (i .d) ∷ decimalOf (i .a) ∷ []) (line.Instruction i)
-      (rw (operands-one i e o, c .name))
+      operands-back (decimalOf (i .a) ∷ []) (operands-one i e o)
       record {
-        low = c .low;
-        high = c .high;
-        written = h;
+        fits =
+            record {
+              known = c .known;
+              written = omega arith;
+              first = λ _ _. omega arith;
+              noFirst = λ q. absurd (omega arith);
+              second = λ q. absurd (omega arith);
+              noSecond = λ _. z;
+            };
         literal = λ q. omega arith;
-        first = λ q. w;
-        noSecond = λ _. z;
-        second = λ q. omega arith;
       }
 
-  two-back : eqb (i .code) 1 ≡ false → eqb (arity (i .code)) 1 ≡ false → i .a ≤ 255 → i .b ≤ 255 → Back (f ∷ decimalOf (i .d) ∷ decimalOf (i .a) ∷ decimalOf (i .b) ∷ []) (line.Instruction i)
-  unfolding fieldsOf
+  two-back : eqb (i .code) 1 ≡ false → arity (i .code) ≡ 2 → i .a ≤ 255 → i .b ≤ 255 → Back (f ∷ decimalOf (i .d) ∷ decimalOf (i .a) ∷ decimalOf (i .b) ∷ []) (line.Instruction i)
   two-back e o w v =
-      back (f ∷ decimalOf (i .d) ∷ decimalOf (i .a) ∷ decimalOf (i .b) ∷ []) (line.Instruction i)
-      (rw (operands-two i e o, c .name))
+      operands-back (decimalOf (i .a) ∷ decimalOf (i .b) ∷ []) (operands-two i e (omega arith))
       record {
-        low = c .low;
-        high = c .high;
-        written = h;
+        fits =
+            record {
+              known = c .known;
+              written = omega arith;
+              first = λ _ _. omega arith;
+              noFirst = λ q. absurd (omega arith);
+              second = λ _. omega arith;
+              noSecond = λ q. absurd (q o);
+            };
         literal = λ q. omega arith;
-        first = λ q. w;
-        noSecond = λ q. absurd (true≢false (sym q ∙ o));
-        second = λ q. v;
       }
 
 form-back : (k : Keyword) (name : List ℕ) → Named name k → (fs : Fields) → Back (name ∷ fs) (formOf k fs)
-unfolding formOf fieldsOf
+unfolding formOf fieldsOf arity
 form-back keyword.Graph name e fs =
     rw e
     (number-back (λ fs. bytes "graph" ∷ fs) (λ b. number (λ r. end (graphLine b r)))
@@ -260,7 +295,11 @@ form-back keyword.Set name c fs =
     number-back (λ fs. name ∷ fs) (λ d. field literalOf (λ a. end (instruction 1 d a 0)))
     (λ d h. field-back (λ fs. name ∷ decimalOf d ∷ fs) literalOf (λ a. end (instruction 1 d a 0))
     (λ f a e. let w = literal-written a f e in
-    rw (w .field) (end-back (λ fs. name ∷ decimalOf d ∷ literalText a ∷ fs) (instruction 1 d a 0) (set-back (record { code = 1; d = d; a = a; b = 0 }) name c h refl (w .word) refl))))
+    rw (w .field) (end-back (λ fs. name ∷ decimalOf d ∷ literalText a ∷ fs) (instruction 1 d a 0) (set-back (record { code = 1; d = d; a = a; b = 0 }) name c h refl refl (w .word) refl))))
+    fs
+form-back keyword.In name c fs =
+    number-back (λ fs. name ∷ fs) (λ d. end (instruction 20 d 0 0))
+    (λ d h. end-back (λ fs. name ∷ decimalOf d ∷ fs) (instruction 20 d 0 0) (none-back (record { code = 20; d = d; a = 0; b = 0 }) name c h refl refl refl refl))
     fs
 form-back (keyword.Unary k) name c fs =
     number-back (λ fs. name ∷ fs) (λ d. number (λ a. end (instruction k d a 0)))

@@ -1,7 +1,6 @@
 -- Names in a line: a name is found at its code, and what names a code is that name. Assumes nothing.
 use Prim.Native.Nat.{ℕ, zero, suc, _+_, _-_, _≤_, _<_}
 use native.Mathlib.Omega.{arith}
-use native.Mathlib.Decide.{decLt}
 use mathlib.Core.Path.{_≡_, refl, sym, ap, _∙_}
 use mathlib.Core.Bool.{Bool, true, false}
 use mathlib.Core.List.{List, [], _∷_}
@@ -9,7 +8,7 @@ use mathlib.Core.Option.{Option, none, some}
 use mathlib.Core.Logic.{_⊎_, inl, inr}
 use lib.Dec.{eqb}
 use lib.ListN.{length, getD, List·getD-eq-default}
-use borrow.Author.Tests.{eqb-true}
+use borrow.Author.Tests.{eqb-true, eqb-false, ne-eqb}
 use Rattle.word.proofs.Keys.{NoKey, past}
 use Rattle.word.specs.declared.Comparison.{Comparison}
 use Rattle.word.specs.declared.Comparison.the-variants.{Eq, Ne, Lt, Ge, Ltu, Geu}
@@ -18,7 +17,7 @@ use Rattle.runs.specs.Lists.{same, every, orElse}
 use Rattle.runs.proofs.ListLaws.{same-eq, every-at}
 use Rattle.cfg.specs.Table.{comparisonAt}
 use Rattle.cfg_line.specs.declared.Keyword.{Keyword}
-use Rattle.cfg_line.specs.declared.Keyword.the-variants.{Graph, Block, Goto, Ite, Halt, Set, Unary, Binary, Nothing}
+use Rattle.cfg_line.specs.declared.Keyword.the-variants.{Graph, Block, Goto, Ite, Halt, Set, In, Unary, Binary, Nothing}
 use Rattle.cfg_line.specs.Name.{bytes, instructionNames, comparisonNames, codeIn, comparisonOf, operation, keywordOf}
 use Rattle.cfg_write.specs.Write.{instructionName, comparisonName}
 use Rattle.cfg_write.proofs.NumberLaws.{none-some}
@@ -47,20 +46,58 @@ in-names k (n ∷ ns) f j h = go (same f n) refl (in-names (suc k) ns f j) h
 
 -- ---- instructions
 
+abbrev pub KnownCode : ℕ → Type 0
+KnownCode k = ((1 ≤ k) × (k ≤ 11)) ⊎ (k ≡ 20)
+
 -- f is the name of code k
 pub record Code (f : List ℕ) (k : ℕ) : Type 0 where
   pub name : f ≡ instructionName k
-  pub low : 1 ≤ k
-  pub high : k ≤ 11
+  pub known : KnownCode k
 
-code-of : (f : List ℕ) (k : ℕ) → codeIn 1 instructionNames f ≡ some k → Code f k
-unfolding instructionName instructionNames
-code-of f k h =
-    let i = in-names 1 instructionNames f k h in
-    let l = i .low in
-    let u = i .high in
-    let e : k ≡ suc (k - 1) = omega arith in
-    record { name = i .named ∙ ap (λ (n : ℕ). getD ([] ∷ instructionNames) n []) (sym e); low = l; high = omega arith }
+-- how the name of code k is read, and what stands behind it and d: a literal, nothing, one operand, two
+pub data Shape (k : ℕ) : Type 0 where
+  literal : eqb k 1 ≡ true → arity k ≡ 1 → keywordOf (instructionName k) ≡ Set → Shape k
+  nothing : k ≡ 20 → arity k ≡ 0 → keywordOf (instructionName k) ≡ In → Shape k
+  one : eqb k 1 ≡ false → arity k ≡ 1 → keywordOf (instructionName k) ≡ Unary k → Shape k
+  two : eqb k 1 ≡ false → arity k ≡ 2 → keywordOf (instructionName k) ≡ Binary k → Shape k
+
+low-shape : (k : ℕ) → 1 ≤ k → k ≤ 11 → Shape k
+unfolding keywordOf instructionName arity
+low-shape zero l h = absurd (omega arith)
+low-shape (suc zero) l h = literal refl refl refl
+low-shape (suc (suc zero)) l h = one refl refl refl
+low-shape (suc (suc (suc zero))) l h = two refl refl refl
+low-shape (suc (suc (suc (suc zero)))) l h = two refl refl refl
+low-shape (suc (suc (suc (suc (suc zero))))) l h = two refl refl refl
+low-shape (suc (suc (suc (suc (suc (suc zero)))))) l h = two refl refl refl
+low-shape (suc (suc (suc (suc (suc (suc (suc zero))))))) l h = two refl refl refl
+low-shape (suc (suc (suc (suc (suc (suc (suc (suc zero)))))))) l h = two refl refl refl
+low-shape (suc (suc (suc (suc (suc (suc (suc (suc (suc zero))))))))) l h = two refl refl refl
+low-shape (suc (suc (suc (suc (suc (suc (suc (suc (suc (suc zero)))))))))) l h = two refl refl refl
+low-shape (suc (suc (suc (suc (suc (suc (suc (suc (suc (suc (suc zero))))))))))) l h = one refl refl refl
+low-shape (suc (suc (suc (suc (suc (suc (suc (suc (suc (suc (suc (suc k)))))))))))) l h = absurd (omega arith)
+
+in-shape : Shape 20
+unfolding keywordOf instructionName arity
+in-shape = nothing refl refl refl
+
+pub shape : (k : ℕ) → KnownCode k → Shape k
+shape k (inl h) = low-shape k (h .0) (h .1)
+shape k (inr e) = rw e in-shape
+
+pub not-one : (k : ℕ) → k ≡ 20 → eqb k 1 ≡ false
+not-one k e = rw e
+
+-- a low code that reads other than one operand reads two
+two-read : (k : ℕ) → k ≤ 11 → Shape k → eqb (arity k) 1 ≡ false → arity k ≡ 2
+two-read k h (literal e o r) q = absurd (eqb-false (arity k) 1 q o)
+two-read k h (nothing e o r) q = absurd (omega arith)
+two-read k h (one e o r) q = absurd (eqb-false (arity k) 1 q o)
+two-read k h (two e o r) q = o
+
+low-name : (k : ℕ) → k ≤ 11 → instructionName k ≡ getD ([] ∷ instructionNames) k []
+unfolding instructionName
+low-name k h = rw (ne-eqb k 20 (λ e. omega arith))
 
 -- what a keyword says of the field
 abbrev pub Named : List ℕ → Keyword → Type 0
@@ -70,8 +107,9 @@ Named f Goto = f ≡ bytes "goto"
 Named f Ite = f ≡ bytes "ite"
 Named f Halt = f ≡ bytes "halt"
 Named f Set = Code f 1
-Named f (Unary k) = Code f k × (eqb k 1 ≡ false) × (eqb (arity k) 1 ≡ true)
-Named f (Binary k) = Code f k × (eqb k 1 ≡ false) × (eqb (arity k) 1 ≡ false)
+Named f In = Code f 20
+Named f (Unary k) = Code f k × (eqb k 1 ≡ false) × (arity k ≡ 1)
+Named f (Binary k) = Code f k × (eqb k 1 ≡ false) × (arity k ≡ 2)
 Named f Nothing = Unit {0}
 
 pick : (f : List ℕ) (t : Bool) (k rest : Keyword) → (t ≡ true → Named f k) → (t ≡ false → Named f rest) → Named f (choose t k rest)
@@ -79,12 +117,22 @@ pick f true k rest a b = a refl
 pick f false k rest a b = b refl
 
 operation-named : (f : List ℕ) (o : Option ℕ) → codeIn 1 instructionNames f ≡ o → Named f (operation o)
+unfolding instructionNames
 operation-named f none e = tt
 operation-named f (some k) e =
-    let c = code-of f k e in
+    let i = in-names 1 instructionNames f k e in
+    let l = i .low in
+    let u = i .high in
+    let z : k ≡ suc (k - 1) = omega arith in
+    let h : k ≤ 11 = omega arith in
+    let c : Code f k = record { name = i .named ∙ ap (λ (n : ℕ). getD ([] ∷ instructionNames) n []) (sym z) ∙ sym (low-name k h); known = inl (l, h) } in
     pick f (eqb k 1) Set (choose (eqb (arity k) 1) (Unary k) (Binary k))
-    (λ h. rw (eqb-true k 1 h) at c)
-    (λ h. pick f (eqb (arity k) 1) (Unary k) (Binary k) (λ q. (c, h, q)) (λ q. (c, h, q)))
+    (λ q. rw (eqb-true k 1 q) at c)
+    (λ q. pick f (eqb (arity k) 1) (Unary k) (Binary k) (λ a. (c, q, eqb-true (arity k) 1 a)) (λ a. (c, q, two-read k h (low-shape k l h) a)))
+
+in-named : (f : List ℕ) → f ≡ bytes "in" → Code f 20
+unfolding instructionName
+in-named f e = record { name = e; known = inr refl }
 
 pub keyword-named : (f : List ℕ) → Named f (keywordOf f)
 unfolding keywordOf
@@ -94,89 +142,28 @@ keyword-named f =
     (λ e₂. pick f (same f (bytes "goto")) Goto _ (same-eq f (bytes "goto"))
     (λ e₃. pick f (same f (bytes "ite")) Ite _ (same-eq f (bytes "ite"))
     (λ e₄. pick f (same f (bytes "halt")) Halt _ (same-eq f (bytes "halt"))
-    (λ e₅. operation-named f (codeIn 1 instructionNames f) refl)))))
-
--- codes 1 to 11, one by one
-pub data Codes : ℕ → Type 0 where
-  set : Codes 1
-  copy : Codes 2
-  add : Codes 3
-  sub : Codes 4
-  and : Codes 5
-  or : Codes 6
-  xor : Codes 7
-  shl : Codes 8
-  shr : Codes 9
-  sar : Codes 10
-  sx : Codes 11
-
-pub codes : (k : ℕ) → 1 ≤ k → k ≤ 11 → Codes k
-codes zero l h = absurd (omega arith)
-codes (suc zero) l h = set
-codes (suc (suc zero)) l h = copy
-codes (suc (suc (suc zero))) l h = add
-codes (suc (suc (suc (suc zero)))) l h = sub
-codes (suc (suc (suc (suc (suc zero))))) l h = and
-codes (suc (suc (suc (suc (suc (suc zero)))))) l h = or
-codes (suc (suc (suc (suc (suc (suc (suc zero))))))) l h = xor
-codes (suc (suc (suc (suc (suc (suc (suc (suc zero)))))))) l h = shl
-codes (suc (suc (suc (suc (suc (suc (suc (suc (suc zero))))))))) l h = shr
-codes (suc (suc (suc (suc (suc (suc (suc (suc (suc (suc zero)))))))))) l h = sar
-codes (suc (suc (suc (suc (suc (suc (suc (suc (suc (suc (suc zero))))))))))) l h = sx
-codes (suc (suc (suc (suc (suc (suc (suc (suc (suc (suc (suc (suc k)))))))))))) l h = absurd (omega arith)
-
-pub name-read : (k : ℕ) → Codes k → keywordOf (instructionName k) ≡ operation (some k)
-unfolding keywordOf instructionName arity
-name-read k set = refl
-name-read k copy = refl
-name-read k add = refl
-name-read k sub = refl
-name-read k and = refl
-name-read k or = refl
-name-read k xor = refl
-name-read k shl = refl
-name-read k shr = refl
-name-read k sar = refl
-name-read k sx = refl
-
--- 1 or 2 operands
-pub arity-one-two : (k : ℕ) → Codes k → (arity k ≡ 1) ⊎ (arity k ≡ 2)
-unfolding arity
-arity-one-two k set = inl refl
-arity-one-two k copy = inl refl
-arity-one-two k add = inr refl
-arity-one-two k sub = inr refl
-arity-one-two k and = inr refl
-arity-one-two k or = inr refl
-arity-one-two k xor = inr refl
-arity-one-two k shl = inr refl
-arity-one-two k shr = inr refl
-arity-one-two k sar = inr refl
-arity-one-two k sx = inl refl
+    (λ e₅. pick f (same f (bytes "in")) In _ (λ q. in-named f (same-eq f (bytes "in") q))
+    (λ e₆. operation-named f (codeIn 1 instructionNames f) refl))))))
 
 -- a test that holds of every name
-pub name-test : (p : List ℕ → Bool) → every p instructionNames ≡ true → (k : ℕ) → 1 ≤ k → k ≤ 11 → p (instructionName k) ≡ true
+pub name-test : (p : List ℕ → Bool) → every p instructionNames ≡ true → p (bytes "in") ≡ true → (k : ℕ) → KnownCode k → p (instructionName k) ≡ true
 unfolding instructionName instructionNames
-name-test p h k l u =
+name-test p h n k (inl g) =
+    let l = g .0 in
+    let u = g .1 in
     let e : k ≡ suc (k - 1) = omega arith in
-    ap (λ (n : ℕ). p (getD ([] ∷ instructionNames) n [])) e ∙ every-at p instructionNames h (k - 1) [] (omega arith)
+    ap p (low-name k u)
+    ∙ ap (λ (n : ℕ). p (getD ([] ∷ instructionNames) n [])) e
+    ∙ every-at p instructionNames h (k - 1) [] (omega arith)
+name-test p h n k (inr e) = rw e n
 
--- what a `match` on the codes says where none of them fits
-pub not-code : (k : ℕ) → NoKey 0 11 k → 1 ≤ k → k ≤ 11 → ⊥
-not-code k n l h = let p = past 0 11 k n l in after k p h
-  where
-    after : (k : ℕ) → 0 + 11 < k → k ≤ 11 → ⊥
-    after k p h = omega arith
-
--- a code that is none has no name
-pub no-name : (k : ℕ) → (1 ≤ k → k ≤ 11 → ⊥) → instructionName k ≡ []
+-- a code that is none, as a `match` on the codes says it, has no name
+pub no-name : (k : ℕ) → NoKey 0 11 k → (k ≡ 20 → ⊥) → instructionName k ≡ []
 unfolding instructionName instructionNames
-no-name zero h = refl
-no-name (suc k) h = go (decLt k 11)
-  where
-    go : Dec (k < 11) → instructionName (suc k) ≡ []
-    go (yes l) = absurd (h (omega arith) (omega arith))
-    go (no l) = List·getD-eq-default instructionNames [] {n = k} (omega arith)
+no-name zero h n = refl
+no-name (suc k) h n =
+    let p = past 0 11 (suc k) h (omega arith) in
+    rw (ne-eqb (suc k) 20 n) (List·getD-eq-default instructionNames [] {n = k} (omega arith))
 
 -- ---- comparisons
 

@@ -18,7 +18,7 @@ use Rattle.cfg_line.specs.declared.Line.{Line}
 use Rattle.cfg_line.specs.declared.Line.the-variants as line
 use Rattle.cfg_write.specs.Write.{instructionName, comparisonName, literalText, operandsOf, fieldsOf, parted, lineText}
 use Rattle.cfg_write.specs.Put.{Put, commas, numbered}
-use Rattle.cfg_write.proofs.LineLaws.{operands-set, operands-one, operands-two}
+use Rattle.cfg_write.proofs.LineLaws.{operands-set, operands-none, operands-one, operands-two}
 
 -- ---- stores one after another are one store
 
@@ -130,13 +130,17 @@ module _ (i : Instruction) where
   pub set-text : i .code ≡ 1 → 44 ∷ literalText (i .a) ≡ commas (operandsOf i)
   set-text e = rw (operands-set i (eq-eqb (i .code) 1 e), commas-one (literalText (i .a)))
 
-  pub one-text : (i .code ≡ 1 → ⊥) → arity (i .code) ≡ 1 → 44 ∷ decimalOf (i .a) ≡ commas (operandsOf i)
-  one-text a b =
-      rw (operands-one i (ne-eqb (i .code) 1 a) (eq-eqb (arity (i .code)) 1 b), commas-one (decimalOf (i .a)))
+  pub none-text : (i .code ≡ 1 → ⊥) → arity (i .code) ≡ 0 → [] ≡ commas (operandsOf i)
+  none-text a b = rw (operands-none i (ne-eqb (i .code) 1 a) b, commas-none)
 
-  pub two-text : (i .code ≡ 1 → ⊥) → (arity (i .code) ≡ 1 → ⊥) → 44 ∷ (decimalOf (i .a) ++ (44 ∷ decimalOf (i .b))) ≡ commas (operandsOf i)
-  two-text a b =
-      rw (operands-two i (ne-eqb (i .code) 1 a) (ne-eqb (arity (i .code)) 1 b), commas-two (decimalOf (i .a)) (decimalOf (i .b)))
+  pub one-text : (i .code ≡ 1 → ⊥) → arity (i .code) ≡ 1 → 44 ∷ decimalOf (i .a) ≡ commas (operandsOf i)
+  one-text a b = rw (operands-one i (ne-eqb (i .code) 1 a) b, commas-one (decimalOf (i .a)))
+
+  pub two-text :
+      (i .code ≡ 1 → ⊥) → (arity (i .code) ≡ 0 → ⊥) → (arity (i .code) ≡ 1 → ⊥)
+      → 44 ∷ (decimalOf (i .a) ++ (44 ∷ decimalOf (i .b))) ≡ commas (operandsOf i)
+  two-text a z b =
+      rw (operands-two i (ne-eqb (i .code) 1 a) (omega arith), commas-two (decimalOf (i .a)) (decimalOf (i .b)))
 
 -- ---- each form of line
 

@@ -8,7 +8,7 @@ use mathlib.Core.List.{List, [], _∷_, _++_, map, append-assoc}
 use lib.Dec.{eqb, leb, ltb}
 use lib.ListN.{length, length-append}
 use borrow.Author.Tests.{leb-true, ltb-true, ne-eqb, lt-ltb}
-use Rattle.word.specs.Word.{choose, arity}
+use Rattle.word.specs.Word.{choose}
 use Rattle.runs.specs.Lists.{every, concatMap}
 use Rattle.runs.proofs.ListLaws.{and-left, and-right, and-both}
 use Rattle.decimal.specs.Decimal.{decimalOf}
@@ -22,8 +22,8 @@ use Rattle.cfg_line.specs.Form.{Fields, splitAt, byName, lineOf}
 use Rattle.cfg_write.specs.Write.{instructionName, comparisonName, literalText, operandsOf, fieldsOf, parted, lineText}
 use Rattle.cfg_write.proofs.NumberLaws.{decimal-digits, number-length, literal-length}
 use Rattle.cfg_write.proofs.SplitLaws.{split-parted, parted-split, parted-more, apart-parted}
-use Rattle.cfg_write.proofs.NameLaws.{name-test, comparison-test}
-use Rattle.cfg_write.proofs.LineLaws.{Formed, FormedInstruction, operands-set, operands-one, operands-two, fields-read, fields-back}
+use Rattle.cfg_write.proofs.NameLaws.{Shape, literal, nothing, one, two, shape, not-one, name-test, comparison-test}
+use Rattle.cfg_write.proofs.LineLaws.{Formed, FormedInstruction, operands-set, operands-none, operands-one, operands-two, first-small, second-small, fields-read, fields-back}
 
 -- a line without its line feed
 abbrev pub lineBytes : Line → List ℕ
@@ -71,11 +71,12 @@ one-above f h = and-both (above f) true h refl
 two-above : (f : List ℕ) (fs : Fields) → above f ≡ true → every above fs ≡ true → every above (f ∷ fs) ≡ true
 two-above f fs h k = and-both (above f) (every above fs) h k
 
-operands-above : (i : Instruction) → (p : Bool) → eqb (i .code) 1 ≡ p → (q : Bool) → eqb (arity (i .code)) 1 ≡ q → every above (operandsOf i) ≡ true
-operands-above i true e q w = rw (operands-set i e) (one-above (literalText (i .a)) (literal-above (i .a)))
-operands-above i false e true w = rw (operands-one i e w) (one-above (decimalOf (i .a)) (number-above (i .a)))
-operands-above i false e false w =
-    rw (operands-two i e w) (two-above (decimalOf (i .a)) (decimalOf (i .b) ∷ []) (number-above (i .a)) (one-above (decimalOf (i .b)) (number-above (i .b))))
+operands-above : (i : Instruction) → Shape (i .code) → every above (operandsOf i) ≡ true
+operands-above i (literal e o k) = rw (operands-set i e) (one-above (literalText (i .a)) (literal-above (i .a)))
+operands-above i (nothing e o k) = rw (operands-none i (not-one (i .code) e) o)
+operands-above i (one e o k) = rw (operands-one i e o) (one-above (decimalOf (i .a)) (number-above (i .a)))
+operands-above i (two e o k) =
+    rw (operands-two i e (omega arith)) (two-above (decimalOf (i .a)) (decimalOf (i .b) ∷ []) (number-above (i .a)) (one-above (decimalOf (i .b)) (number-above (i .b))))
 
 fields-above : (l : Line) → Formed l → every above (fieldsOf l) ≡ true
 unfolding fieldsOf instructionNames comparisonNames
@@ -83,8 +84,8 @@ fields-above (line.Graph b r) h = two-above (decimalOf b) (decimalOf r ∷ []) (
 fields-above (line.Block n) h = one-above (decimalOf n) (number-above n)
 fields-above (line.Instruction i) h =
     two-above (instructionName (i .code)) (decimalOf (i .d) ∷ operandsOf i)
-    (name-test above refl (i .code) (h .low) (h .high))
-    (two-above (decimalOf (i .d)) (operandsOf i) (number-above (i .d)) (operands-above i (eqb (i .code) 1) refl (eqb (arity (i .code)) 1) refl))
+    (name-test above refl refl (i .code) (h .fits .known))
+    (two-above (decimalOf (i .d)) (operandsOf i) (number-above (i .d)) (operands-above i (shape (i .code) (h .fits .known))))
 fields-above (line.Goto t) h = one-above (decimalOf t) (number-above t)
 fields-above (line.Ite c t f) h =
     two-above (comparisonName (c .comparison)) (decimalOf (c .a) ∷ decimalOf (c .b) ∷ decimalOf t ∷ decimalOf f ∷ [])
@@ -176,15 +177,14 @@ fields-length : (c : ℕ) (fs : Fields) → 0 < length fs → length (parted c f
 fields-length c [] h = absurd (omega arith)
 fields-length c (f ∷ fs) h = parted-length c f fs
 
-operands-total :
-    (i : Instruction) → FormedInstruction i
-    → (p : Bool) → eqb (i .code) 1 ≡ p → (q : Bool) → eqb (arity (i .code)) 1 ≡ q → total (operandsOf i) ≤ 12
-operands-total i h true e q w = let l = literal-length (i .a) (h .literal e) in rw (operands-set i e) (omega arith)
-operands-total i h false e true w = let l = number-length (i .a) (h .first e) in rw (operands-one i e w) (omega arith)
-operands-total i h false e false w =
-    let l = number-length (i .a) (h .first e) in
-    let k = number-length (i .b) (h .second w) in
-    rw (operands-two i e w) (omega arith)
+operands-total : (i : Instruction) → FormedInstruction i → Shape (i .code) → total (operandsOf i) ≤ 12
+operands-total i h (literal e o k) = let l = literal-length (i .a) (h .literal e) in rw (operands-set i e) (omega arith)
+operands-total i h (nothing e o k) = rw (operands-none i (not-one (i .code) e) o) (omega arith)
+operands-total i h (one e o k) = let l = number-length (i .a) (first-small i h e (omega arith)) in rw (operands-one i e o) (omega arith)
+operands-total i h (two e o k) =
+    let l = number-length (i .a) (first-small i h e (omega arith)) in
+    let m = number-length (i .b) (second-small i h o) in
+    rw (operands-two i e (omega arith)) (omega arith)
 
 fields-total : (l : Line) → Formed l → total (fieldsOf l) ≤ 24
 unfolding fieldsOf instructionNames comparisonNames
@@ -196,9 +196,10 @@ fields-total (line.Graph b r) h =
     omega arith
 fields-total (line.Block n) h = let x = number-length n h in omega arith
 fields-total (line.Instruction i) h =
-    let n = leb-true (length (instructionName (i .code))) 4 (name-test (λ (f : List ℕ). leb (length f) 4) refl (i .code) (h .low) (h .high)) in
-    let x = number-length (i .d) (h .written) in
-    let o = operands-total i h (eqb (i .code) 1) refl (eqb (arity (i .code)) 1) refl in
+    let n = leb-true (length (instructionName (i .code))) 4 (name-test (λ (f : List ℕ). leb (length f) 4) refl refl (i .code) (h .fits .known)) in
+    let w = h .fits .written in
+    let x = number-length (i .d) (omega arith) in
+    let o = operands-total i h (shape (i .code) (h .fits .known)) in
     omega arith
 fields-total (line.Goto t) h = let x = number-length t h in omega arith
 fields-total (line.Ite c t f) h =

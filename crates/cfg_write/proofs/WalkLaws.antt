@@ -2,15 +2,14 @@
 use Prim.Native.Nat.{ℕ, suc, _+_, _*_, _^_, _≤_, _<_}
 use native.Mathlib.Omega.{arith}
 use mathlib.Core.Path.{_≡_, refl, sym, ap₂, _∙_}
-use mathlib.Core.Bool.{Bool, true, false, _&&_}
+use mathlib.Core.Bool.{true, false, _&&_}
 use mathlib.Core.List.{List, [], _∷_, _++_, map, append-assoc, append-nil}
-use mathlib.Core.Logic.{_⊎_, inl, inr}
 use lib.Dec.{eqb, leb, ltb}
 use lib.ListN.{length, getD, drop, length-append, length-map, List·getD-eq-default}
 use lib.Seq.{length-take-le, getD-take, ext-getD}
 use native.Mathlib.Decide.{decLt}
 use borrow.Author.Tests.{ltb-true, eqb-true, eqb-false, eq-eqb, lt-ltb}
-use Rattle.word.specs.Word.{choose, arity}
+use Rattle.word.specs.Word.{arity}
 use Rattle.runs.specs.Lists.{every, padded}
 use Rattle.runs.proofs.ListLaws.{and-left, and-right, and-both, length-padded, getD-padded}
 use Rattle.cfg.specs.Layout.{maxBlocks, maxRegisters, maxInstructions}
@@ -26,7 +25,7 @@ use Rattle.cfg_line.specs.Form.{lineOf}
 use Rattle.cfg_text.specs.Walk.{Progress, between, inside, go, read, allBelow, instructionRegisters, endingRegisters, blockWith, closed, next, finish, proceed, walk}
 use Rattle.cfg_write.specs.Write.{endingLine, blockLines, linesFrom}
 use Rattle.cfg_write.proofs.Whole.{proper}
-use Rattle.cfg_write.proofs.NameLaws.{codes, arity-one-two}
+use Rattle.cfg_write.proofs.NameLaws.{Shape, literal, nothing, one, two, shape, not-one}
 use Rattle.cfg_write.proofs.LineLaws.{Formed, FormedInstruction}
 use Rattle.cfg_write.proofs.TextLaws.{lineBytes, AllFormed, line-read}
 
@@ -60,41 +59,32 @@ walk-goes {p} g (step {m = m} {l = l} {ls = ls} e k) h f n =
 -- ---- the lines of a valid graph
 
 module _ (r : ℕ) (i : Instruction) (v : ValidInstruction r i) where
-  -- one operand where the code does not read two
-  two-read : eqb (arity (i .code)) 1 ≡ false → arity (i .code) ≡ 2
-  two-read e = by (arity-one-two (i .code) (codes (i .code) (v .codeLow) (v .codeHigh)))
-    where
-      by : (arity (i .code) ≡ 1) ⊎ (arity (i .code) ≡ 2) → arity (i .code) ≡ 2
-      by (inl q) = absurd (eqb-false (arity (i .code)) 1 e q)
-      by (inr q) = q
+  below-first : eqb (i .code) 1 ≡ false → 0 < arity (i .code) → ltb (i .a) r ≡ true
+  below-first e o = lt-ltb (i .a) r (v .first o (eqb-false (i .code) 1 e))
 
   pub registers-below : allBelow r (instructionRegisters i) ≡ true
-  registers-below =
-      and-both (ltb (i .d) r) (allBelow r (choose (eqb (i .code) 1) [] (choose (eqb (arity (i .code)) 1) (i .a ∷ []) (i .a ∷ i .b ∷ []))))
-      (lt-ltb (i .d) r (v .written))
-      (by (eqb (i .code) 1) refl (eqb (arity (i .code)) 1) refl)
+  registers-below = by (shape (i .code) (v .known))
     where
-      by :
-          (p : Bool) → eqb (i .code) 1 ≡ p → (q : Bool) → eqb (arity (i .code)) 1 ≡ q
-          → allBelow r (choose p [] (choose q (i .a ∷ []) (i .a ∷ i .b ∷ []))) ≡ true
-      by true e q w = refl
-      by false e true w = and-both (ltb (i .a) r) true (lt-ltb (i .a) r (v .first (eqb-false (i .code) 1 e))) refl
-      by false e false w =
-          and-both (ltb (i .a) r) (ltb (i .b) r && true)
-          (lt-ltb (i .a) r (v .first (eqb-false (i .code) 1 e)))
-          (and-both (ltb (i .b) r) true (lt-ltb (i .b) r (v .second (two-read w))) refl)
+      by : Shape (i .code) → allBelow r (instructionRegisters i) ≡ true
+      by (literal e o k) = rw (lt-ltb (i .d) r (v .written), e)
+      by (nothing e o k) = rw (lt-ltb (i .d) r (v .written), not-one (i .code) e, o)
+      by (one e o k) = rw (lt-ltb (i .d) r (v .written), e, o, below-first e (omega arith))
+      by (two e o k) = rw (lt-ltb (i .d) r (v .written), e, o, below-first e (omega arith), lt-ltb (i .b) r (v .second o))
 
   formed-instruction : r ≤ maxRegisters → ltb (i .a) (2 ^ 32) ≡ true → FormedInstruction i
   formed-instruction h w =
       let d = v .written in
       record {
-        low = v .codeLow;
-        high = v .codeHigh;
-        written = omega arith;
+        fits =
+            record {
+              known = v .known;
+              written = omega arith;
+              first = λ o e. let a = v .first o e in omega arith;
+              noFirst = v .noFirst;
+              second = λ e. let b = v .second e in omega arith;
+              noSecond = v .noSecond;
+            };
         literal = λ e. ltb-true (i .a) (2 ^ 32) w;
-        first = λ e. let a = v .first (eqb-false (i .code) 1 e) in omega arith;
-        noSecond = λ e. let o = eqb-true (arity (i .code)) 1 e in v .noSecond (λ t. omega arith);
-        second = λ e. let b = v .second (two-read e) in omega arith;
       }
 
 -- ---- a block's lines

@@ -2,7 +2,7 @@
 use Prim.Native.Nat.{ℕ, suc, _-_, _^_}
 use mathlib.Core.Bool.{not}
 use mathlib.Core.List.{List, [], _∷_, _++_, map}
-use lib.ListN.{length, getD, drop}
+use lib.ListN.{length, getD, take, drop}
 use lib.Dec.{eqb, ltb}
 use Rattle.word.specs.declared.Comparison.{Comparison}
 use Rattle.word.specs.Word.{choose, arity, codeOf as comparisonCode}
@@ -42,10 +42,10 @@ linesOf g = line.Graph (length (g .blocks)) (g .registers) ∷ linesFrom 0 (g .b
 
 -- ---- the bytes of a line
 
--- codes 1 to 11 have a name
+-- codes 1 to 11, and 20, have a name
 unfoldable pub instructionName : ℕ → List ℕ
 unfolding instructionNames
-instructionName k = getD ([] ∷ instructionNames) k []
+instructionName k = choose (eqb k 20) (bytes "in") (getD ([] ∷ instructionNames) k [])
 
 unfoldable pub comparisonName : Comparison → List ℕ
 unfolding comparisonNames
@@ -56,12 +56,11 @@ unfoldable pub literalText : ℕ → List ℕ
 unfolding decimalOf
 literalText w = choose (ltb w (2 ^ 31)) (decimalOf w) (45 ∷ decimalOf (2 ^ 32 - w))
 
--- behind name and d: a set's literal; of copy and sx a; else a and b
+-- behind name and d: a set's literal, else as many of a and b as the code reads
 unfoldable pub operandsOf : Instruction → List (List ℕ)
 unfolding literalText decimalOf arity
 operandsOf i =
-    choose (eqb (i .code) 1) (literalText (i .a) ∷ [])
-    (choose (eqb (arity (i .code)) 1) (decimalOf (i .a) ∷ []) (decimalOf (i .a) ∷ decimalOf (i .b) ∷ []))
+    choose (eqb (i .code) 1) (literalText (i .a) ∷ []) (take (arity (i .code)) (decimalOf (i .a) ∷ decimalOf (i .b) ∷ []))
 
 unfoldable pub fieldsOf : Line → List (List ℕ)
 unfolding decimalOf instructionName comparisonName operandsOf

@@ -75,6 +75,7 @@ fn put_name(out: &mut [u8], at: usize, code: u32) -> usize
         9 => put_bytes(out, at, b"shr"),
         10 => put_bytes(out, at, b"sar"),
         11 => put_bytes(out, at, b"sx"),
+        20 => put_bytes(out, at, b"in"),
         _ => at,
     }
 }
@@ -101,8 +102,12 @@ fn put_operands(out: &mut [u8], at: usize, i: Instruction) -> usize
     if i.code == 1 {
         return put_literal(out, at, i.a);
     }
+    let operands = word::arity(i.code);
+    if operands == 0 {
+        return at;
+    }
     let next = put_number(out, at, i.a);
-    if word::arity(i.code) == 1 {
+    if operands == 1 {
         return next;
     }
     put_number(out, next, i.b)

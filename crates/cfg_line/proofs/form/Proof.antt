@@ -61,17 +61,20 @@ returns-8 : tie.Need-returns-8
 returns-8 c = rw (c .before .enum-told8 .given .1) (c .set-form .ensures)
 
 returns-9 : tie.Need-returns-9
-returns-9 c = rw (c .before .before .word .given .1) (c .unary-form .ensures)
+returns-9 c = rw (c .before .enum-told9 .given .1) (c .in-form .ensures)
 
 returns-10 : tie.Need-returns-10
-returns-10 c = rw (c .before .before .word2 .given .1) (c .binary-form .ensures)
+returns-10 c = rw (c .before .before .word .given .1) (c .unary-form .ensures)
 
 returns-11 : tie.Need-returns-11
+returns-11 c = rw (c .before .before .word2 .given .1) (c .binary-form .ensures)
+
+returns-12 : tie.Need-returns-12
 unfolding formOf
-returns-11 c =
+returns-12 c =
     let a = c .before .before .before .before .args in
     let t = now (a .text) in
-    rw (c .before .enum-told9 .given .1) (c .no-form4 .ensures ∙ sym (form-none (formOf keyword.Nothing) (a .at) (drop (a .at) t) (λ f fs. refl)))
+    rw (c .before .enum-told10 .given .1) (c .no-form4 .ensures ∙ sym (form-none (formOf keyword.Nothing) (a .at) (drop (a .at) t) (λ f fs. refl)))
 
 pub form-spec : {M : Type 1} → statement M
 form-spec =
@@ -103,6 +106,8 @@ form-spec =
     (λ c κs. search needs)
     (λ c. search needs)
     (λ c κs. search needs)
+    (λ c. search needs)
+    (λ c κs. search needs)
     returns-3
     returns-4
     returns-5
@@ -111,4 +116,5 @@ form-spec =
     returns-8
     returns-9
     returns-10
-    returns-11)
+    returns-11
+    returns-12)

@@ -73,26 +73,31 @@ returns-16 c = λ f b e. found (bytes "sx") f refl (c .match .keys16) b e
 
 returns-17 : tie.Need-returns-17
 unfolding keywordOf packed
-returns-17 c =
+returns-17 c = λ f b e. found (bytes "in") f refl (c .match .keys17) b e
+
+returns-18 : tie.Need-returns-18
+unfolding keywordOf packed
+returns-18 c =
     λ f b e.
     let r = c .match .rest in
     simp (
-      other f (bytes "graph") e (r .0 .0 .0 .0 .0 .0 .0 .0 .0 .0 .0 .0 .0 .0 .0 .1),
-      other f (bytes "block") e (r .0 .0 .0 .0 .0 .0 .0 .0 .0 .0 .0 .0 .0 .0 .1),
-      other f (bytes "goto") e (r .0 .0 .0 .0 .0 .0 .0 .0 .0 .0 .0 .0 .0 .1),
-      other f (bytes "ite") e (r .0 .0 .0 .0 .0 .0 .0 .0 .0 .0 .0 .0 .1),
-      other f (bytes "halt") e (r .0 .0 .0 .0 .0 .0 .0 .0 .0 .0 .0 .1),
-      other f (bytes "set") e (r .0 .0 .0 .0 .0 .0 .0 .0 .0 .0 .1),
-      other f (bytes "copy") e (r .0 .0 .0 .0 .0 .0 .0 .0 .0 .1),
-      other f (bytes "add") e (r .0 .0 .0 .0 .0 .0 .0 .0 .1),
-      other f (bytes "sub") e (r .0 .0 .0 .0 .0 .0 .0 .1),
-      other f (bytes "and") e (r .0 .0 .0 .0 .0 .0 .1),
-      other f (bytes "or") e (r .0 .0 .0 .0 .0 .1),
-      other f (bytes "xor") e (r .0 .0 .0 .0 .1),
-      other f (bytes "shl") e (r .0 .0 .0 .1),
-      other f (bytes "shr") e (r .0 .0 .1),
-      other f (bytes "sar") e (r .0 .1),
-      other f (bytes "sx") e (r .1),
+      other f (bytes "graph") e (r .0 .0 .0 .0 .0 .0 .0 .0 .0 .0 .0 .0 .0 .0 .0 .0 .1),
+      other f (bytes "block") e (r .0 .0 .0 .0 .0 .0 .0 .0 .0 .0 .0 .0 .0 .0 .0 .1),
+      other f (bytes "goto") e (r .0 .0 .0 .0 .0 .0 .0 .0 .0 .0 .0 .0 .0 .0 .1),
+      other f (bytes "ite") e (r .0 .0 .0 .0 .0 .0 .0 .0 .0 .0 .0 .0 .0 .1),
+      other f (bytes "halt") e (r .0 .0 .0 .0 .0 .0 .0 .0 .0 .0 .0 .0 .1),
+      other f (bytes "set") e (r .0 .0 .0 .0 .0 .0 .0 .0 .0 .0 .0 .1),
+      other f (bytes "copy") e (r .0 .0 .0 .0 .0 .0 .0 .0 .0 .0 .1),
+      other f (bytes "add") e (r .0 .0 .0 .0 .0 .0 .0 .0 .0 .1),
+      other f (bytes "sub") e (r .0 .0 .0 .0 .0 .0 .0 .0 .1),
+      other f (bytes "and") e (r .0 .0 .0 .0 .0 .0 .0 .1),
+      other f (bytes "or") e (r .0 .0 .0 .0 .0 .0 .1),
+      other f (bytes "xor") e (r .0 .0 .0 .0 .0 .1),
+      other f (bytes "shl") e (r .0 .0 .0 .0 .1),
+      other f (bytes "shr") e (r .0 .0 .0 .1),
+      other f (bytes "sar") e (r .0 .0 .1),
+      other f (bytes "sx") e (r .0 .1),
+      other f (bytes "in") e (r .1),
     )
 
 pub keyword-of-spec : {M : Type 1} → statement M
@@ -115,4 +120,5 @@ keyword-of-spec =
     returns-14
     returns-15
     returns-16
-    returns-17)
+    returns-17
+    returns-18)

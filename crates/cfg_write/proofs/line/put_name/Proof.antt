@@ -4,7 +4,7 @@ use native.Mathlib.Omega.{arith}
 use Rattle.cfg_line.specs.Name.{instructionNames}
 use Rattle.cfg_write.specs.Write.{instructionName}
 use Rattle.cfg_write.proofs.PutLaws.{put-as, put-none}
-use Rattle.cfg_write.proofs.NameLaws.{not-code, no-name}
+use Rattle.cfg_write.proofs.NameLaws.{no-name}
 use borrow.Author.Needs.{needs}
 use Rattle.cfg_write.proofs.line.put_name.Statement.{statement}
 use Rattle.cfg_write.proofs.line.put_name.Tie as tie
@@ -76,15 +76,23 @@ returns-11 c =
     (c .before .before .put-bytes11 .ensures)
 
 returns-12 : tie.Need-returns-12
+unfolding instructionName instructionNames
 returns-12 c =
+    put-as 8 (instructionName (c .before .before .before .before .before .before .before .args .code)) (omega arith) (sym (ap instructionName (c .before .before .before .before .before .match .keys12)))
+    (c .before .before .put-bytes12 .ensures)
+
+returns-13 : tie.Need-returns-13
+returns-13 c =
     let k = c .before .before in
-    put-as 8 (instructionName (k .args .code)) (omega arith) (sym (no-name (k .args .code) (not-code (k .args .code) (c .match .rest))))
+    put-as 8 (instructionName (k .args .code)) (omega arith) (sym (no-name (k .args .code) (c .match .rest .0) (c .match .rest .1)))
     (put-none (k .args .out .now) (k .args .at))
 
 pub put-name-spec : {M : Type 1} → statement M
 put-name-spec =
     tie.close
     (tie.spec
+    (λ c. search needs)
+    (λ c κs. search needs)
     (λ c. search needs)
     (λ c κs. search needs)
     (λ c. search needs)
@@ -129,4 +137,6 @@ put-name-spec =
     returns-10
     (λ c. search needs)
     returns-11
-    returns-12)
+    (λ c. search needs)
+    returns-12
+    returns-13)

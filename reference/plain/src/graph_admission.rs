@@ -8,17 +8,15 @@ fn all_zero(words: &[u32]) -> bool {
     words.iter().fold(0, |all, word| all | word) == 0
 }
 
-/// An instruction that fits and reads the input sets `reads`.
+/// Code 20 sets `reads`.
 fn instruction_fits(instruction: &[u32], registers: u32, reads: &mut bool) -> bool {
     let (code, d, a, b) = (instruction[0], instruction[1], instruction[2], instruction[3]);
+    *reads |= code == 20;
     let operands = match code {
         1 => b == 0,
         2 | 11 => a < registers && b == 0,
         3..=10 => a < registers && b < registers,
-        20 => {
-            *reads = true;
-            a == 0 && b == 0
-        }
+        20 => a == 0 && b == 0,
         _ => false,
     };
     operands && d < registers

@@ -20,18 +20,15 @@ fn is_reference(x: u32, registers: u32, n: u32) -> bool {
     x < registers || (x >= REGISTERS as u32 && x - (REGISTERS as u32) < n)
 }
 
-/// A wire that reads the input sets `reads`.
+/// Code 20 sets `reads`.
 fn wire_fits(wire: &[u32], registers: u32, n: u32, reads: &mut bool) -> bool {
     let fits = |x: u32| is_reference(x, registers, n);
+    *reads |= wire[0] == 20;
     match wire[0] {
-        1 => true,
+        1 | 20 => true,
         2 | 11 => fits(wire[1]),
         3..=10 | 12..=18 => fits(wire[1]) && fits(wire[2]),
         19 => fits(wire[1]) && fits(wire[2]) && fits(wire[3]),
-        20 => {
-            *reads = true;
-            true
-        }
         _ => false,
     }
 }

@@ -9,7 +9,7 @@ use gutkavu::operations::{RunFields, RunWithWordsFields};
 use gutkavu::GRAPH_WORDS;
 
 /// Runs a block on the registers; the next block, if it does not halt.
-#[inline]
+#[inline(always)]
 fn step(block: &[u32], file: &mut [u32; REGISTERS], input: u32) -> Option<u32> {
     for instruction in block[1..ENDING].chunks_exact(4).take(block[0] as usize) {
         let (code, d, a, b) = (instruction[0], instruction[1], instruction[2], instruction[3]);

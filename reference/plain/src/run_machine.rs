@@ -8,7 +8,7 @@ use gutkavu::operations::{RunFields, RunWithWordsFields};
 use gutkavu::MACHINE_WORDS;
 
 /// One cycle: `words` holds the registers, and behind them room for the wires. Gives the next state.
-#[inline]
+#[inline(always)]
 fn cycle(table: &[u32], state: usize, registers: usize, words: &mut [u32], input: u32) -> u32 {
     let record = record(table, state);
     for (wire, at) in wires(table, record).chunks_exact(4).zip(REGISTERS..) {

@@ -1,8 +1,9 @@
-/* A compiler of control-flow graphs into state machines: five operations on buffers that the caller lends.
+/* A compiler of control-flow graphs into state machines: seven operations on buffers that the caller lends.
  *
- * Every function returns the number of a refusal, or 0. On a refusal no buffer is changed, and every other field is set
- * to 0 unless its comment says otherwise. Words of a buffer past the length of its table are neither read nor changed.
- * The buffers and fields of one call must not overlap, and no pointer may be null.
+ * Every function returns the number of a refusal, or 0. On a refusal no buffer is changed, and every other field is
+ * set to 0 unless its comment says otherwise. Words of a buffer past the length of its table are neither read nor
+ * changed. The buffers and fields of one call must not overlap, and no pointer may be null, that of an empty list
+ * included.
  *
  * The refusals:
  *   1  text too long                        6  table not one that reading makes
@@ -10,6 +11,14 @@
  *   3  a form not due here                  8  output short
  *   4  register not below R                 9  start is no block or no state
  *   5  target not below B                  10  no machine table
+ *  11  starter list without block 0 or the start block, or with a block not below B
+ *  12  a table that holds code 20, in a run without words
+ *
+ * A run with words is given a list of input words, of any length. The start of the run is arrival 0, and arrival k
+ * uses word k: every `in` (code 20) gives that word until the next arrival. In a machine each cycle begins with an
+ * arrival, in a graph each step to a block of a starter list makes the next one; a halt makes none. With budget left
+ * and no word for the arrival the run is dry: it ends before that block or cycle, whether or not the word would be
+ * read.
  */
 #ifndef GUTKAVU_H
 #define GUTKAVU_H
@@ -27,6 +36,13 @@ enum {
     GUTKAVU_MACHINE_WORDS = 13634, /* of a machine table */
     GUTKAVU_REGISTER_WORDS = 16,   /* of a register buffer, at least */
     GUTKAVU_NONE = 255             /* no block, or no state */
+};
+
+/* How a run with words ended. */
+enum {
+    GUTKAVU_SPENT = 0,  /* the budget is spent */
+    GUTKAVU_HALTED = 1, /* a halt came, also on the last unit of the budget */
+    GUTKAVU_DRY = 2     /* with budget left there was no word for an arrival */
 };
 
 /* Where things stand in a machine table, in words. Word 0 is the number of states, word 1 that of registers. */
@@ -50,16 +66,33 @@ uint32_t gutkavu_write(const uint32_t *table, size_t table_len, uint8_t *out, si
 /* Synthesises a graph table into a machine table. Refusals 7, 6. */
 uint32_t gutkavu_synthesise(const uint32_t *graph, size_t graph_len, uint32_t *machine, size_t machine_len);
 
-/* Runs a graph from a start block on, at most budget blocks. Refusals 7, 6, 9. Sets halted to 1 or 0, the count of blocks
- * run, the halting one included, and the next block, GUTKAVU_NONE where it halted. Registers from R up keep their words. */
+/* Runs a graph from a start block on, at most budget blocks. Refusals 7, 6, 12, 9. Sets halted to 1 or 0, the count of
+ * blocks run, the halting one included, and the next block, GUTKAVU_NONE where it halted. Registers from R up keep
+ * their words. */
 uint32_t gutkavu_run_graph(const uint32_t *graph, size_t graph_len, uint32_t *registers, size_t registers_len,
                            uint32_t start, uint32_t budget, uint32_t *halted, uint32_t *count, uint32_t *next);
 
-/* Runs a machine from a start state on, at most budget cycles. Refusals 7, 10, 9. Sets halted to 1 or 0, the count of
- * cycles run, the halting one included, and the next state, GUTKAVU_NONE where it halted. Registers from R up keep
+/* Runs a machine from a start state on, at most budget cycles. Refusals 7, 10, 12, 9. Sets halted to 1 or 0, the count
+ * of cycles run, the halting one included, and the next state, GUTKAVU_NONE where it halted. Registers from R up keep
  * their words. */
 uint32_t gutkavu_run_machine(const uint32_t *machine, size_t machine_len, uint32_t *registers, size_t registers_len,
                              uint32_t start, uint32_t budget, uint32_t *halted, uint32_t *count, uint32_t *next);
+
+/* Runs a graph with words from a start block on, at most budget blocks. Refusals 7, 6, 9, 11. The starter list is a
+ * set: order and repeats do not matter. Sets the outcome, the count of blocks run, the halting one included, and the
+ * next block, GUTKAVU_NONE where it halted. Registers from R up keep their words. With the starters of the graph's
+ * machine, and from one of them, graph and machine use the same words. */
+uint32_t gutkavu_run_graph_with_words(const uint32_t *graph, size_t graph_len, uint32_t *registers,
+                                      size_t registers_len, uint32_t start, uint32_t budget, const uint32_t *words,
+                                      size_t words_len, const uint32_t *starters, size_t starters_len,
+                                      uint32_t *outcome, uint32_t *count, uint32_t *next);
+
+/* Runs a machine with words from a start state on, at most budget cycles. Refusals 7, 10, 9. Sets the outcome, the
+ * count of cycles run, the halting one included, and the next state, GUTKAVU_NONE where it halted. Registers from R up
+ * keep their words. */
+uint32_t gutkavu_run_machine_with_words(const uint32_t *machine, size_t machine_len, uint32_t *registers,
+                                        size_t registers_len, uint32_t start, uint32_t budget, const uint32_t *words,
+                                        size_t words_len, uint32_t *outcome, uint32_t *count, uint32_t *next);
 
 #ifdef __cplusplus
 }

@@ -1,4 +1,5 @@
-/* How a C program reads a graph, synthesises its machine and runs both: example PATH, the path of examples/swing.txt. */
+/* How a C program reads a graph, synthesises its machine and runs both, without words and with them: example SWING
+ * TURN, the paths of examples/swing.txt and examples/turn.txt. */
 #include "gutkavu.h"
 
 #include <inttypes.h>
@@ -88,6 +89,29 @@ static void print_swing(int32_t rate)
     printf("blocks %" PRIu32 ", cycles %" PRIu32 "\n", blocks, cycles);
 }
 
+/* Runs graph and machine with a word of the gyro for each cycle, the first taken at rest. Both are dry when the words
+ * end, and leave the same registers. */
+static void print_turn(void)
+{
+    const uint32_t words[] = {10, 65346, 410, 10, 65146, 160};
+    const size_t length = sizeof words / sizeof words[0];
+    uint32_t registers[GUTKAVU_REGISTER_WORDS] = {[3] = (uint32_t)-300, [4] = 300}, others[GUTKAVU_REGISTER_WORDS];
+    uint32_t outcome, outcome_too, blocks, cycles, next;
+    memcpy(others, registers, sizeof registers);
+    uint32_t number = gutkavu_run_machine(machine, GUTKAVU_MACHINE_WORDS, others, GUTKAVU_REGISTER_WORDS, 0, BUDGET,
+                                          &outcome, &cycles, &next);
+    printf("  without words: refused %" PRIu32 "\n", number);
+    made(gutkavu_run_graph_with_words(graph, GUTKAVU_GRAPH_WORDS, registers, GUTKAVU_REGISTER_WORDS, 0, BUDGET, words,
+                                      length, machine + GUTKAVU_STARTERS, machine[0], &outcome, &blocks, &next));
+    made(gutkavu_run_machine_with_words(machine, GUTKAVU_MACHINE_WORDS, others, GUTKAVU_REGISTER_WORDS, 0, BUDGET,
+                                        words, length, &outcome_too, &cycles, &next));
+    if (outcome != GUTKAVU_DRY || outcome_too != GUTKAVU_DRY || memcmp(registers, others, sizeof registers) != 0)
+        fail("graph and machine do not agree");
+    printf("  %zu words: lowest %" PRId32 ", highest %" PRId32, length, (int32_t)registers[1], (int32_t)registers[2]);
+    printf(", outside %" PRIu32 "; ", registers[5]);
+    printf("dry after blocks %" PRIu32 ", cycles %" PRIu32 "\n", blocks, cycles);
+}
+
 /* The same text with its first signed comparison made unsigned. */
 static size_t make_unsigned(const char *text, char *out)
 {
@@ -100,8 +124,8 @@ static size_t make_unsigned(const char *text, char *out)
 int main(int count, char **arguments)
 {
     static char text[TEXT_ROOM], other[TEXT_ROOM];
-    if (count != 2)
-        fail("usage: example PATH");
+    if (count != 3)
+        fail("usage: example SWING TURN");
     size_t length = load(arguments[1], text);
     compile(text, length);
     print_machine();
@@ -115,5 +139,8 @@ int main(int count, char **arguments)
     uint32_t line;
     uint32_t number = gutkavu_read((const uint8_t *)text, length - 1, graph, GUTKAVU_GRAPH_WORDS, &line);
     printf("without the last line feed\n  refused %" PRIu32 " at line %" PRIu32 "\n", number, line);
+    compile(text, load(arguments[2], text));
+    printf("rate of turn\n");
+    print_turn();
     return EXIT_SUCCESS;
 }

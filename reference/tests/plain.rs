@@ -1,12 +1,13 @@
 //! The plain program of the measurements against the second program, refusals included.
 
+use gutkavu::operations::RunWithWordsFields;
 use reference::answer::buffers_of;
 use reference::case::Case;
 use reference::generate;
-use reference::operations::{self, RunAnswer};
+use reference::operations::{self, RunAnswer, WordsRunAnswer};
 use std::collections::BTreeSet;
 
-/// Operation and number of each answer seen.
+/// Operation and number of each answer seen, and outcomes.
 type Seen = BTreeSet<(&'static str, u32)>;
 
 fn words(length: u32) -> Vec<u32> {
@@ -56,6 +57,33 @@ fn runs_agree(case: &Case, graph: &[u32], machine: &[u32], seen: &mut Seen) {
     seen.insert(("run machine", plain.number));
 }
 
+fn fields_with_words(answer: WordsRunAnswer) -> RunWithWordsFields {
+    let WordsRunAnswer { number, outcome, count, next } = answer;
+    RunWithWordsFields { number, outcome, count, next }
+}
+
+fn graph_runs_with_words_agree(case: &Case, graph: &[u32], seen: &mut Seen) {
+    let (mut x, mut y) = (case.registers.clone(), case.registers.clone());
+    let (start, budget) = (case.start_block, case.block_budget);
+    let (words, starters) = (&case.words[..], &case.starters[..]);
+    let second = operations::run_graph_with_words(graph, &mut x, start, budget, words, starters);
+    let plain = plain::run_graph_with_words(graph, &mut y, start, budget, words, starters);
+    assert_eq!((fields_with_words(second), x), (plain, y));
+    seen.insert(("run graph with words", plain.number));
+    seen.insert(("the outcome of a graph", plain.outcome));
+}
+
+fn machine_runs_with_words_agree(case: &Case, machine: &[u32], seen: &mut Seen) {
+    let (mut x, mut y) = (case.registers.clone(), case.registers.clone());
+    let (start, budget) = (case.start_state, case.cycle_budget);
+    let words = &case.words[..];
+    let second = operations::run_machine_with_words(machine, &mut x, start, budget, words);
+    let plain = plain::run_machine_with_words(machine, &mut y, start, budget, words);
+    assert_eq!((fields_with_words(second), x), (plain, y));
+    seen.insert(("run machine with words", plain.number));
+    seen.insert(("the outcome of a machine", plain.outcome));
+}
+
 #[test]
 fn the_plain_program_gives_what_the_second_gives() {
     let mut seen = Seen::new();
@@ -64,13 +92,19 @@ fn the_plain_program_gives_what_the_second_gives() {
         texts_agree(&case, &graph, &mut seen);
         machines_agree(&case, &graph, &mut seen);
         runs_agree(&case, &graph, &machine, &mut seen);
+        graph_runs_with_words_agree(&case, &graph, &mut seen);
+        machine_runs_with_words_agree(&case, &machine, &mut seen);
     }
     let every = [
         ("read", &[0, 1, 2, 3, 4, 5, 7][..]),
         ("write", &[0, 6, 7, 8]),
         ("synthesise", &[0, 6, 7]),
-        ("run graph", &[0, 6, 7, 9]),
-        ("run machine", &[0, 7, 9, 10]),
+        ("run graph", &[0, 6, 7, 9, 12]),
+        ("run machine", &[0, 7, 9, 10, 12]),
+        ("run graph with words", &[0, 6, 7, 9, 11]),
+        ("the outcome of a graph", &[0, 1, 2]),
+        ("run machine with words", &[0, 7, 9, 10]),
+        ("the outcome of a machine", &[0, 1, 2]),
     ];
     for (name, numbers) in every {
         for &number in numbers {

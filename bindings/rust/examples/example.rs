@@ -1,7 +1,7 @@
-//! How a Rust program reads a graph, synthesises its machine and runs both: `example PATH`, the
-//! path of examples/swing.txt.
+//! How a Rust program reads a graph, synthesises its machine and runs both, without words and with
+//! them: `example SWING TURN`, the paths of examples/swing.txt and examples/turn.txt.
 
-use gutkavu::{Graph, Machine};
+use gutkavu::{Graph, Machine, Outcome};
 use std::error::Error;
 
 const BUDGET: u32 = 1_000;
@@ -35,9 +35,35 @@ fn print_swing(graph: &Graph, machine: &Machine, rate: i32) -> Result<(), Box<dy
     Ok(())
 }
 
+/// Runs graph and machine with a word of the gyro for each cycle, the first taken at rest. Both are
+/// dry when the words end, and leave the same registers.
+fn print_turn(graph: &Graph, machine: &Machine) -> Result<(), Box<dyn Error>> {
+    let words = [10, 65_346, 410, 10, 65_146, 160];
+    let mut registers = [0; 16];
+    (registers[3], registers[4]) = (-300i32 as u32, 300);
+    let mut others = registers;
+    if let Err(refused) = machine.run(&mut others, 0, BUDGET) {
+        println!("  without words: refused {}", refused.number());
+    }
+    let starters = machine.starters();
+    let by_graph = graph.run_with_words(&mut registers, 0, BUDGET, &words, starters)?;
+    let by_machine = machine.run_with_words(&mut others, 0, BUDGET, &words)?;
+    let dry = [by_graph.outcome, by_machine.outcome] == [Outcome::Dry; 2];
+    if !dry || registers != others {
+        return Err("graph and machine do not agree".into());
+    }
+    let (lowest, highest, outside) = (registers[1] as i32, registers[2] as i32, registers[5]);
+    print!("  {} words: lowest {lowest}, highest {highest}, outside {outside}; ", words.len());
+    println!("dry after blocks {}, cycles {}", by_graph.count, by_machine.count);
+    Ok(())
+}
+
 fn main() -> Result<(), Box<dyn Error>> {
-    let path = std::env::args().nth(1).ok_or("usage: example PATH")?;
-    let text = std::fs::read_to_string(path)?;
+    let paths: Vec<String> = std::env::args().skip(1).collect();
+    let [swing, turn] = &paths[..] else {
+        return Err("usage: example SWING TURN".into());
+    };
+    let text = std::fs::read_to_string(swing)?;
     let graph: Graph = text.parse()?;
     let machine = graph.synthesise();
     print_machine(&graph, &machine);
@@ -54,5 +80,7 @@ fn main() -> Result<(), Box<dyn Error>> {
     if let Err(refused) = Graph::read(&text.as_bytes()[..text.len() - 1]) {
         println!("  refused {} at line {}", refused.number(), refused.line());
     }
-    Ok(())
+    let graph: Graph = std::fs::read_to_string(turn)?.parse()?;
+    println!("rate of turn");
+    print_turn(&graph, &graph.synthesise())
 }

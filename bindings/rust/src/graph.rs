@@ -1,7 +1,8 @@
 //! A graph, held as its table.
 
 use crate::{layout, operations};
-use crate::{Machine, ReadRefusal, Refusal, Run, GRAPH_WORDS, MACHINE_WORDS, TEXT_BYTES};
+use crate::{Machine, ReadRefusal, Refusal, Run, RunWithWords};
+use crate::{GRAPH_WORDS, MACHINE_WORDS, TEXT_BYTES};
 use std::fmt;
 use std::str::FromStr;
 
@@ -26,7 +27,8 @@ impl Graph {
     /// The graph that a table holds; words past the table are not taken. Refusals 7, 6.
     pub fn from_words(words: &[u32]) -> Result<Graph, Refusal> {
         // Every graph has block 0, so a run of no blocks refuses the table or nothing.
-        Run::answer(operations::run_graph(words, &mut [0; 16], 0, 0))?;
+        let fields = operations::run_graph_with_words(words, &mut [0; 16], 0, 0, &[], &[0]);
+        RunWithWords::answer(fields)?;
         let mut table = Box::new([0; GRAPH_WORDS]);
         table.copy_from_slice(&words[..GRAPH_WORDS]);
         Ok(Graph { words: table })
@@ -49,10 +51,28 @@ impl Graph {
         Machine::from(words)
     }
 
-    /// Runs at most `budget` blocks from a start block. Refusal 9. Registers from R up keep their
-    /// words.
+    /// Runs at most `budget` blocks from a start block. Refusals 12, 9. Registers from R up keep
+    /// their words.
     pub fn run(&self, registers: &mut [u32; 16], start: u32, budget: u32) -> Result<Run, Refusal> {
         Run::answer(operations::run_graph(&self.words[..], registers, start, budget))
+    }
+
+    /// As `run`, with a list of words for `in`: the start is arrival 0, each step to a block of the
+    /// starter list the next one, and arrival k uses word k. Refusals 9, 11. The order of the
+    /// starters does not matter, nor do repeats; with [`Machine::starters`] the graph and its
+    /// machine use the same words.
+    pub fn run_with_words(
+        &self,
+        registers: &mut [u32; 16],
+        start: u32,
+        budget: u32,
+        words: &[u32],
+        starters: &[u32],
+    ) -> Result<RunWithWords, Refusal> {
+        let table = &self.words[..];
+        let fields =
+            operations::run_graph_with_words(table, registers, start, budget, words, starters);
+        RunWithWords::answer(fields)
     }
 
     /// The number of blocks, B.

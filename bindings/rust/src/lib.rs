@@ -19,7 +19,26 @@
 //! # Ok::<(), Box<dyn std::error::Error>>(())
 //! ```
 //!
-//! [`operations`] has the five operations on lent buffers, with every field that they answer, for
+//! A graph that reads input words (`in,d`) is run with a list of them, one for each arrival at a
+//! starter. Without a word for an arrival the run is dry.
+//!
+//! ```
+//! use gutkavu::{Graph, Outcome, RunWithWords};
+//!
+//! let text = "graph,1,2\nblock,0\nin,1\nadd,0,0,1\ngoto,0\n";
+//! let graph = Graph::read(text.as_bytes())?;
+//! let machine = graph.synthesise();
+//!
+//! let (mut registers, mut others) = ([0; 16], [0; 16]);
+//! let run = machine.run_with_words(&mut registers, 0, 1_000, &[12, 30])?;
+//! assert_eq!(run, RunWithWords { outcome: Outcome::Dry, count: 2, next: Some(0) });
+//! let run = graph.run_with_words(&mut others, 0, 1_000, &[12, 30], machine.starters())?;
+//! assert_eq!(run.outcome, Outcome::Dry);
+//! assert_eq!((registers[0], registers), (42, others));
+//! # Ok::<(), Box<dyn std::error::Error>>(())
+//! ```
+//!
+//! [`operations`] has the seven operations on lent buffers, with every field that they answer, for
 //! programs that keep their own tables. [`layout`] says where things stand in a table.
 
 pub mod layout;
@@ -34,7 +53,7 @@ mod run;
 pub use graph::Graph;
 pub use machine::Machine;
 pub use refusal::{ReadRefusal, Refusal};
-pub use run::Run;
+pub use run::{Outcome, Run, RunWithWords};
 
 /// Bytes of a text, at most.
 pub const TEXT_BYTES: usize = 16_384;

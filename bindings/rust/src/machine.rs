@@ -1,7 +1,7 @@
 //! A machine, held as its table.
 
 use crate::layout::{machine::*, MOST_BLOCKS, MOST_STATES};
-use crate::{operations, Refusal, Run, MACHINE_WORDS};
+use crate::{operations, Refusal, Run, RunWithWords, MACHINE_WORDS};
 use std::fmt;
 
 /// A state machine. One made by synthesis runs from each of its states; one made of other words may
@@ -21,10 +21,23 @@ impl Machine {
         Ok(Machine { words: table })
     }
 
-    /// Runs at most `budget` cycles from a start state. Refusals 10, 9. Registers from R up keep
-    /// their words.
+    /// Runs at most `budget` cycles from a start state. Refusals 10, 12, 9. Registers from R up
+    /// keep their words.
     pub fn run(&self, registers: &mut [u32; 16], start: u32, budget: u32) -> Result<Run, Refusal> {
         Run::answer(operations::run_machine(&self.words[..], registers, start, budget))
+    }
+
+    /// As `run`, with a list of words for `in`: cycle k, from 0, uses word k. Refusals 10, 9.
+    pub fn run_with_words(
+        &self,
+        registers: &mut [u32; 16],
+        start: u32,
+        budget: u32,
+        words: &[u32],
+    ) -> Result<RunWithWords, Refusal> {
+        let table = &self.words[..];
+        let fields = operations::run_machine_with_words(table, registers, start, budget, words);
+        RunWithWords::answer(fields)
     }
 
     /// The number of states, N.
@@ -40,6 +53,12 @@ impl Machine {
     /// The starter of a state below N.
     pub fn starter(&self, state: u32) -> Option<u32> {
         self.index(state).map(|index| self.words[STARTERS + index])
+    }
+
+    /// The starters of the states below N, in the order of the states.
+    pub fn starters(&self) -> &[u32] {
+        let count = self.states().min(MOST_STATES as u32) as usize;
+        &self.words[STARTERS..][..count]
     }
 
     /// The state of a block; none for a block that is unreachable or not there.

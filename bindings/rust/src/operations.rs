@@ -1,4 +1,4 @@
-//! The five operations on lent buffers. On a refusal every buffer is left as it was.
+//! The seven operations on lent buffers. On a refusal every buffer is left as it was.
 
 use crate::raw;
 
@@ -19,6 +19,15 @@ pub struct WriteFields {
 pub struct RunFields {
     pub number: u32,
     pub halted: u32,
+    pub count: u32,
+    pub next: u32,
+}
+
+/// The outcome is 0 for spent, 1 for halted, 2 for dry.
+#[derive(Clone, Copy, Debug, PartialEq, Eq)]
+pub struct RunWithWordsFields {
+    pub number: u32,
+    pub outcome: u32,
     pub count: u32,
     pub next: u32,
 }
@@ -81,4 +90,64 @@ pub fn run_graph(graph: &[u32], registers: &mut [u32], start: u32, budget: u32) 
 /// Runs a machine from a start state, at most `budget` cycles.
 pub fn run_machine(machine: &[u32], registers: &mut [u32], start: u32, budget: u32) -> RunFields {
     run(raw::gutkavu_run_machine, machine, registers, start, budget)
+}
+
+/// Runs a graph from a start block, at most `budget` blocks, with a word for each arrival at a
+/// block of the starter list.
+pub fn run_graph_with_words(
+    graph: &[u32],
+    registers: &mut [u32],
+    start: u32,
+    budget: u32,
+    words: &[u32],
+    starters: &[u32],
+) -> RunWithWordsFields {
+    let (mut outcome, mut count, mut next) = (UNSET, UNSET, UNSET);
+    // SAFETY: as in `read`.
+    let number = unsafe {
+        raw::gutkavu_run_graph_with_words(
+            graph.as_ptr(),
+            graph.len(),
+            registers.as_mut_ptr(),
+            registers.len(),
+            start,
+            budget,
+            words.as_ptr(),
+            words.len(),
+            starters.as_ptr(),
+            starters.len(),
+            &mut outcome,
+            &mut count,
+            &mut next,
+        )
+    };
+    RunWithWordsFields { number, outcome, count, next }
+}
+
+/// Runs a machine from a start state, at most `budget` cycles, with a word for each cycle.
+pub fn run_machine_with_words(
+    machine: &[u32],
+    registers: &mut [u32],
+    start: u32,
+    budget: u32,
+    words: &[u32],
+) -> RunWithWordsFields {
+    let (mut outcome, mut count, mut next) = (UNSET, UNSET, UNSET);
+    // SAFETY: as in `read`.
+    let number = unsafe {
+        raw::gutkavu_run_machine_with_words(
+            machine.as_ptr(),
+            machine.len(),
+            registers.as_mut_ptr(),
+            registers.len(),
+            start,
+            budget,
+            words.as_ptr(),
+            words.len(),
+            &mut outcome,
+            &mut count,
+            &mut next,
+        )
+    };
+    RunWithWordsFields { number, outcome, count, next }
 }

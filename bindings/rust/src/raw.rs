@@ -56,4 +56,32 @@ extern "C" {
         count: *mut u32,
         next: *mut u32,
     ) -> u32;
+    pub fn gutkavu_run_graph_with_words(
+        graph: *const u32,
+        graph_len: usize,
+        registers: *mut u32,
+        registers_len: usize,
+        start: u32,
+        budget: u32,
+        words: *const u32,
+        words_len: usize,
+        starters: *const u32,
+        starters_len: usize,
+        outcome: *mut u32,
+        count: *mut u32,
+        next: *mut u32,
+    ) -> u32;
+    pub fn gutkavu_run_machine_with_words(
+        machine: *const u32,
+        machine_len: usize,
+        registers: *mut u32,
+        registers_len: usize,
+        start: u32,
+        budget: u32,
+        words: *const u32,
+        words_len: usize,
+        outcome: *mut u32,
+        count: *mut u32,
+        next: *mut u32,
+    ) -> u32;
 }

@@ -26,10 +26,14 @@ pub enum Refusal {
     NoStart = 9,
     /// 10: the table is not a machine's.
     NoMachine = 10,
+    /// 11: the starter list lacks block 0 or the start block, or holds a block not below B.
+    NoStarters = 11,
+    /// 12: a run without words has a table that holds code 20.
+    WordsNeeded = 12,
 }
 
 impl Refusal {
-    const ALL: [Refusal; 10] = [
+    const ALL: [Refusal; 12] = [
         Refusal::TextTooLong,
         Refusal::NoForm,
         Refusal::NotDue,
@@ -40,9 +44,11 @@ impl Refusal {
         Refusal::OutputShort,
         Refusal::NoStart,
         Refusal::NoMachine,
+        Refusal::NoStarters,
+        Refusal::WordsNeeded,
     ];
 
-    /// The refusal's number, from 1 to 10.
+    /// The refusal's number, from 1 to 12.
     pub fn number(self) -> u32 {
         self as u32
     }
@@ -65,6 +71,10 @@ impl Refusal {
             Refusal::OutputShort => "output short",
             Refusal::NoStart => "start is no block or no state",
             Refusal::NoMachine => "no machine table",
+            Refusal::NoStarters => {
+                "starter list without block 0 or the start block, or with a block not below B"
+            }
+            Refusal::WordsNeeded => "a table that holds code 20, in a run without words",
         }
     }
 
@@ -72,7 +82,7 @@ impl Refusal {
     pub(crate) fn answer(number: u32) -> Result<(), Refusal> {
         match number {
             0 => Ok(()),
-            _ => Err(Refusal::from_number(number).expect("a refusal's number is 1 to 10")),
+            _ => Err(Refusal::from_number(number).expect("a refusal's number is 1 to 12")),
         }
     }
 }

@@ -1,6 +1,6 @@
 //! What a run of a graph or a machine answers.
 
-use crate::operations::RunFields;
+use crate::operations::{RunFields, RunWithWordsFields};
 use crate::Refusal;
 
 /// A run that was not refused: it halted, or its budget is spent.
@@ -20,5 +20,40 @@ impl Run {
         let halted = fields.halted == 1;
         let next = (!halted).then_some(fields.next);
         Ok(Run { halted, count: fields.count, next })
+    }
+}
+
+/// How a run with words ended.
+#[derive(Clone, Copy, Debug, PartialEq, Eq, Hash)]
+pub enum Outcome {
+    /// The budget is spent.
+    Spent = 0,
+    /// A halt came.
+    Halted = 1,
+    /// With budget left there was no word for an arrival.
+    Dry = 2,
+}
+
+/// A run with words that was not refused.
+#[derive(Clone, Copy, Debug, PartialEq, Eq, Hash)]
+pub struct RunWithWords {
+    pub outcome: Outcome,
+    /// Blocks or cycles run, the halting one included.
+    pub count: u32,
+    /// The block or state it then stands in; none where it halted.
+    pub next: Option<u32>,
+}
+
+impl RunWithWords {
+    pub(crate) fn answer(fields: RunWithWordsFields) -> Result<RunWithWords, Refusal> {
+        Refusal::answer(fields.number)?;
+        let outcome = match fields.outcome {
+            0 => Outcome::Spent,
+            1 => Outcome::Halted,
+            2 => Outcome::Dry,
+            other => unreachable!("an outcome is 0 to 2, not {other}"),
+        };
+        let next = (outcome != Outcome::Halted).then_some(fields.next);
+        Ok(RunWithWords { outcome, count: fields.count, next })
     }
 }

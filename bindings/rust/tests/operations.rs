@@ -1,8 +1,8 @@
 //! The operations on lent buffers: every field, and short buffers.
 
-use gutkavu::operations::{
-    read, run_graph, run_machine, synthesise, write, ReadFields, RunFields, WriteFields,
-};
+use gutkavu::operations::{read, run_graph, run_machine, synthesise, write};
+use gutkavu::operations::{run_graph_with_words, run_machine_with_words};
+use gutkavu::operations::{ReadFields, RunFields, RunWithWordsFields, WriteFields};
 use gutkavu::{GRAPH_WORDS, MACHINE_WORDS};
 
 const TEXT: &[u8] = b"graph,1,1\nblock,0\nset,0,-200\nhalt\n";
@@ -48,4 +48,55 @@ fn short_buffers() {
     assert_eq!(run_machine(&machine, &mut [5; 15], 0, 1), refused(7));
     assert_eq!(run_machine(&machine, &mut [5; 16], 0, 1), refused(10));
     assert_eq!(run_graph(&graph, &mut [5; 16], 1, 1), refused(9));
+}
+
+fn fields(number: u32, outcome: u32, count: u32, next: u32) -> RunWithWordsFields {
+    RunWithWordsFields { number, outcome, count, next }
+}
+
+#[test]
+fn runs_with_words() {
+    let text = b"graph,1,1\nblock,0\nin,0\nhalt\n";
+    let (mut graph, mut machine) = ([9; GRAPH_WORDS + 1], [9; MACHINE_WORDS + 1]);
+    assert_eq!(read(text, &mut graph), ReadFields { number: 0, line: 0 });
+    assert_eq!(synthesise(&graph, &mut machine), 0);
+    assert_eq!(run_graph(&graph, &mut [5; 16], 1, 1), refused(12));
+    assert_eq!(run_machine(&machine, &mut [5; 16], 1, 1), refused(12));
+    let (mut by_graph, mut by_machine) = ([5; 17], [5; 17]);
+    for (budget, words, answer) in [
+        (0, &[8][..], fields(0, 0, 0, 0)),
+        (1, &[], fields(0, 2, 0, 0)),
+        (1, &[8], fields(0, 1, 1, 255)),
+    ] {
+        assert_eq!(run_graph_with_words(&graph, &mut by_graph, 0, budget, words, &[0, 0]), answer);
+        assert_eq!(run_machine_with_words(&machine, &mut by_machine, 0, budget, words), answer);
+        assert_eq!(by_graph, by_machine);
+        let first = if answer.outcome == 1 { 8 } else { 5 };
+        assert_eq!((by_graph[0], &by_graph[1..]), (first, &[5; 16][..]));
+    }
+}
+
+#[test]
+fn refusals_of_runs_with_words() {
+    let (mut graph, mut machine) = ([0; GRAPH_WORDS], [0; MACHINE_WORDS]);
+    assert_eq!(read(TEXT, &mut graph), ReadFields { number: 0, line: 0 });
+    assert_eq!(synthesise(&graph, &mut machine), 0);
+    let mut registers = [5; 16];
+    let mut refused = |graph: &[u32], length: usize, start: u32, starters: &[u32]| {
+        run_graph_with_words(graph, &mut registers[..length], start, 1, &[1], starters)
+    };
+    assert_eq!(refused(&graph[1..], 16, 0, &[0]), fields(7, 0, 0, 0));
+    assert_eq!(refused(&graph, 15, 1, &[]), fields(7, 0, 0, 0));
+    assert_eq!(refused(&[0; GRAPH_WORDS], 16, 1, &[]), fields(6, 0, 0, 0));
+    assert_eq!(refused(&graph, 16, 1, &[]), fields(9, 0, 0, 0));
+    assert_eq!(refused(&graph, 16, 0, &[]), fields(11, 0, 0, 0));
+    assert_eq!(refused(&graph, 16, 0, &[0, 1]), fields(11, 0, 0, 0));
+    let mut refused = |machine: &[u32], length: usize| {
+        run_machine_with_words(machine, &mut registers[..length], 1, 1, &[1])
+    };
+    assert_eq!(refused(&machine[1..], 16), fields(7, 0, 0, 0));
+    assert_eq!(refused(&machine, 15), fields(7, 0, 0, 0));
+    assert_eq!(refused(&[0; MACHINE_WORDS], 16), fields(10, 0, 0, 0));
+    assert_eq!(refused(&machine, 16), fields(9, 0, 0, 0));
+    assert_eq!(registers, [5; 16]);
 }

@@ -8,12 +8,15 @@ fn all_zero(words: &[u32]) -> bool {
     words.iter().fold(0, |all, word| all | word) == 0
 }
 
-fn instruction_fits(instruction: &[u32], registers: u32) -> bool {
+/// Code 20 sets `reads`.
+fn instruction_fits(instruction: &[u32], registers: u32, reads: &mut bool) -> bool {
     let (code, d, a, b) = (instruction[0], instruction[1], instruction[2], instruction[3]);
+    *reads |= code == 20;
     let operands = match code {
         1 => b == 0,
         2 | 11 => a < registers && b == 0,
         3..=10 => a < registers && b < registers,
+        20 => a == 0 && b == 0,
         _ => false,
     };
     operands && d < registers
@@ -29,25 +32,27 @@ fn ending_fits(ending: &[u32], blocks: u32, registers: u32) -> bool {
     }
 }
 
-fn block_fits(block: &[u32], blocks: u32, registers: u32) -> bool {
+fn block_fits(block: &[u32], blocks: u32, registers: u32, reads: &mut bool) -> bool {
     let used = block[0] as usize;
     if used > INSTRUCTIONS {
         return false;
     }
     let (code, unused) = block[1..ENDING].split_at(4 * used);
-    code.chunks_exact(4).all(|instruction| instruction_fits(instruction, registers))
+    code.chunks_exact(4).all(|instruction| instruction_fits(instruction, registers, reads))
         && all_zero(unused)
         && ending_fits(&block[ENDING..], blocks, registers)
         && block[BLOCK_WORDS - 1] == 0
 }
 
-/// The table has at least the words of a graph table.
-pub fn admitted(table: &[u32]) -> bool {
+/// Whether an admitted table holds code 20; none for one that is not admitted. The table has at
+/// least the words of a graph table.
+pub fn admitted(table: &[u32]) -> Option<bool> {
     let (blocks, registers) = (table[0], table[1]);
     if !(1..=BLOCKS as u32).contains(&blocks) || !(1..=REGISTERS as u32).contains(&registers) {
-        return false;
+        return None;
     }
-    let used = blocks as usize;
-    (0..used).all(|n| block_fits(block(table, n), blocks, registers))
-        && all_zero(&table[HEAD + BLOCK_WORDS * used..GRAPH_WORDS])
+    let (used, mut reads) = (blocks as usize, false);
+    let fits = (0..used).all(|n| block_fits(block(table, n), blocks, registers, &mut reads))
+        && all_zero(&table[HEAD + BLOCK_WORDS * used..GRAPH_WORDS]);
+    fits.then_some(reads)
 }

@@ -1,4 +1,4 @@
-//! The plain program: the five operations as plain Rust on flat arrays, with the same checks and the
+//! The plain program: the seven operations as plain Rust on flat arrays, with the same checks and the
 //! same algorithms as the proved library. Nothing is allocated.
 
 pub mod graph_admission;
@@ -12,15 +12,16 @@ pub mod run_machine;
 pub mod state;
 pub mod synthesise;
 pub mod value;
+pub mod words;
 pub mod write;
 
 pub use read::read;
-pub use run_graph::run_graph;
-pub use run_machine::run_machine;
+pub use run_graph::{run_graph, run_graph_with_words};
+pub use run_machine::{run_machine, run_machine_with_words};
 pub use synthesise::synthesise;
 pub use write::write;
 
-use gutkavu::operations::RunFields;
+use gutkavu::operations::{RunFields, RunWithWordsFields};
 
 pub const BLOCKS: usize = 64;
 pub const REGISTERS: usize = 16;
@@ -46,6 +47,25 @@ fn block(table: &[u32], n: usize) -> &[u32] {
     &table[HEAD + BLOCK_WORDS * n..][..BLOCK_WORDS]
 }
 
-fn refused(number: u32) -> RunFields {
-    RunFields { number, halted: 0, count: 0, next: 0 }
+fn refused(number: u32) -> RunWithWordsFields {
+    RunWithWordsFields { number, outcome: 0, count: 0, next: 0 }
+}
+
+/// How a run ends, with the block or state stood in unless it halted.
+fn spent(count: u32, next: u32) -> RunWithWordsFields {
+    RunWithWordsFields { number: 0, outcome: 0, count, next }
+}
+
+fn halted(count: u32) -> RunWithWordsFields {
+    RunWithWordsFields { number: 0, outcome: 1, count, next: gutkavu::NONE }
+}
+
+fn dry(count: u32, next: u32) -> RunWithWordsFields {
+    RunWithWordsFields { number: 0, outcome: 2, count, next }
+}
+
+/// A run without words is never dry.
+fn without_words(fields: RunWithWordsFields) -> RunFields {
+    let RunWithWordsFields { number, outcome, count, next } = fields;
+    RunFields { number, halted: outcome, count, next }
 }

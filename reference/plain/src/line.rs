@@ -72,6 +72,10 @@ impl<'a> Cursor<'a> {
         Some(Line::Instruction([1, self.number(b',')?, self.literal()?, 0]))
     }
 
+    fn input(&mut self) -> Option<Line> {
+        Some(Line::Instruction([20, self.number(b'\n')?, 0, 0]))
+    }
+
     fn unary(&mut self, code: u32) -> Option<Line> {
         Some(Line::Instruction([code, self.number(b',')?, self.number(b'\n')?, 0]))
     }
@@ -111,6 +115,7 @@ impl<'a> Cursor<'a> {
             (b"shr", _) => self.binary(9),
             (b"sar", _) => self.binary(10),
             (b"sx", _) => self.unary(11),
+            (b"in", _) => self.input(),
             (b"block", _) => Some(Line::Block(self.number(b'\n')?)),
             (b"goto", _) => Some(Line::Goto(self.number(b'\n')?)),
             (b"ite", _) => self.ite(),

@@ -20,10 +20,12 @@ fn is_reference(x: u32, registers: u32, n: u32) -> bool {
     x < registers || (x >= REGISTERS as u32 && x - (REGISTERS as u32) < n)
 }
 
-fn wire_fits(wire: &[u32], registers: u32, n: u32) -> bool {
+/// Code 20 sets `reads`.
+fn wire_fits(wire: &[u32], registers: u32, n: u32, reads: &mut bool) -> bool {
     let fits = |x: u32| is_reference(x, registers, n);
+    *reads |= wire[0] == 20;
     match wire[0] {
-        1 => true,
+        1 | 20 => true,
         2 | 11 => fits(wire[1]),
         3..=10 | 12..=18 => fits(wire[1]) && fits(wire[2]),
         19 => fits(wire[1]) && fits(wire[2]) && fits(wire[3]),
@@ -31,11 +33,11 @@ fn wire_fits(wire: &[u32], registers: u32, n: u32) -> bool {
     }
 }
 
-fn state_fits(table: &[u32], k: usize, registers: u32) -> bool {
+fn state_fits(table: &[u32], k: usize, registers: u32, reads: &mut bool) -> bool {
     let record = record(table, k);
     let wires = wires(table, record).chunks_exact(4);
     let next = &record[2..3 + registers as usize];
-    wires.zip(0..).all(|(wire, n)| wire_fits(wire, registers, n))
+    wires.zip(0..).all(|(wire, n)| wire_fits(wire, registers, n, reads))
         && next.iter().all(|&x| is_reference(x, registers, record[1]))
 }
 
@@ -50,14 +52,16 @@ fn apart(x: (u64, u64), y: (u64, u64)) -> bool {
     x.0 == x.1 || y.0 == y.1 || x.1 <= y.0 || y.1 <= x.0
 }
 
-/// The table has at least the words of a machine table.
-pub fn admitted(table: &[u32]) -> bool {
+/// Whether an admitted table holds code 20; none for one that is not admitted. The table has at
+/// least the words of a machine table.
+pub fn admitted(table: &[u32]) -> Option<bool> {
     let (states, registers) = (table[0], table[1]);
     if !(1..=BLOCKS as u32).contains(&states) || !(1..=REGISTERS as u32).contains(&registers) {
-        return false;
+        return None;
     }
-    let states = states as usize;
-    (0..states).all(|k| span(table, k).1 <= WIRES as u64)
+    let (states, mut reads) = (states as usize, false);
+    let fits = (0..states).all(|k| span(table, k).1 <= WIRES as u64)
         && (0..states).all(|k| (0..k).all(|j| apart(span(table, j), span(table, k))))
-        && (0..states).all(|k| state_fits(table, k, registers))
+        && (0..states).all(|k| state_fits(table, k, registers, &mut reads));
+    fits.then_some(reads)
 }

@@ -1,17 +1,18 @@
-//! "Run machine".
+//! "Run machine", without words and with them.
 
 use crate::machine_admission::{self, record, wires};
 use crate::value::value;
-use crate::{refused, REGISTERS, WIRES};
-use gutkavu::operations::RunFields;
-use gutkavu::{MACHINE_WORDS, NONE};
+use crate::words::{Unread, Words};
+use crate::{dry, halted, refused, spent, without_words, REGISTERS, WIRES};
+use gutkavu::operations::{RunFields, RunWithWordsFields};
+use gutkavu::MACHINE_WORDS;
 
 /// One cycle: `words` holds the registers, and behind them room for the wires. Gives the next state.
-#[inline]
-fn cycle(table: &[u32], state: usize, registers: usize, words: &mut [u32]) -> u32 {
+#[inline(always)]
+fn cycle(table: &[u32], state: usize, registers: usize, words: &mut [u32], input: u32) -> u32 {
     let record = record(table, state);
     for (wire, at) in wires(table, record).chunks_exact(4).zip(REGISTERS..) {
-        words[at] = value(words, wire[0], wire[1], wire[2], wire[3]);
+        words[at] = value(words, wire[0], [wire[1], wire[2], wire[3]], input);
     }
     let mut next = [0; REGISTERS];
     for (word, &reference) in next[..registers].iter_mut().zip(&record[3..]) {
@@ -22,28 +23,63 @@ fn cycle(table: &[u32], state: usize, registers: usize, words: &mut [u32]) -> u3
     state
 }
 
-pub fn run_machine(table: &[u32], registers: &mut [u32], start: u32, budget: u32) -> RunFields {
-    if table.len() < MACHINE_WORDS || registers.len() < REGISTERS {
-        return refused(7);
-    }
-    if !machine_admission::admitted(table) {
-        return refused(10);
-    }
+#[inline]
+fn run(
+    table: &[u32],
+    registers: &mut [u32],
+    start: u32,
+    budget: u32,
+    mut inputs: impl Words,
+) -> RunWithWordsFields {
     let (states, used) = (table[0], table[1] as usize);
-    if start >= states {
-        return refused(9);
-    }
     let mut words = [0; REGISTERS + WIRES];
     words[..used].copy_from_slice(&registers[..used]);
     let (mut state, mut count) = (start, 0);
-    while count < budget && state < states {
+    let answer = loop {
+        if state >= states {
+            break halted(count);
+        }
+        if count == budget {
+            break spent(count, state);
+        }
+        let Some(input) = inputs.take() else {
+            break dry(count, state);
+        };
         count += 1;
-        state = cycle(table, state as usize, used, &mut words);
-    }
+        state = cycle(table, state as usize, used, &mut words, input);
+    };
     registers[..used].copy_from_slice(&words[..used]);
-    if state < states {
-        RunFields { number: 0, halted: 0, count, next: state }
-    } else {
-        RunFields { number: 0, halted: 1, count, next: NONE }
+    answer
+}
+
+/// Whether the table holds code 20, or the refusal 7 or 10.
+#[inline]
+fn checked(table: &[u32], registers: &[u32]) -> Result<bool, u32> {
+    if table.len() < MACHINE_WORDS || registers.len() < REGISTERS {
+        return Err(7);
+    }
+    machine_admission::admitted(table).ok_or(10)
+}
+
+pub fn run_machine(table: &[u32], registers: &mut [u32], start: u32, budget: u32) -> RunFields {
+    without_words(match checked(table, registers) {
+        Err(number) => refused(number),
+        Ok(true) => refused(12),
+        Ok(_) if start >= table[0] => refused(9),
+        Ok(_) => run(table, registers, start, budget, Unread),
+    })
+}
+
+pub fn run_machine_with_words(
+    table: &[u32],
+    registers: &mut [u32],
+    start: u32,
+    budget: u32,
+    words: &[u32],
+) -> RunWithWordsFields {
+    match checked(table, registers) {
+        Err(number) => refused(number),
+        Ok(_) if start >= table[0] => refused(9),
+        Ok(_) => run(table, registers, start, budget, words.iter()),
     }
 }

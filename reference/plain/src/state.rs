@@ -104,6 +104,7 @@ impl<'a> State<'a> {
         let wire = match code {
             1 => [1, a, 0, 0],
             2 | 11 => [code, value(a), 0, 0],
+            20 => [20, 0, 0, 0],
             _ => [code, value(a), value(b), 0],
         };
         self.values[words[1] as usize] = self.wire(wire);

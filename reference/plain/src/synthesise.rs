@@ -42,7 +42,7 @@ pub fn synthesise(graph: &[u32], machine: &mut [u32]) -> u32 {
     if graph.len() < GRAPH_WORDS || machine.len() < MACHINE_WORDS {
         return 7;
     }
-    if !graph_admission::admitted(graph) {
+    if graph_admission::admitted(graph).is_none() {
         return 6;
     }
     fill(graph, &mut machine[..MACHINE_WORDS]);

@@ -1,9 +1,9 @@
 //! What an instruction or a wire gives.
 
 /// The value of a code over the words that its operands name; a set's operand is its literal.
-/// An operand that the code does not read is not looked at.
+/// An operand that the code does not read is not looked at. `input` is the arrival's word.
 #[inline(always)]
-pub fn value(words: &[u32], code: u32, a: u32, b: u32, c: u32) -> u32 {
+pub fn value(words: &[u32], code: u32, [a, b, c]: [u32; 3], input: u32) -> u32 {
     let at = |reference: u32| words[reference as usize];
     match code {
         1 => a,
@@ -20,7 +20,7 @@ pub fn value(words: &[u32], code: u32, a: u32, b: u32, c: u32) -> u32 {
         12..=17 => u32::from(compare(code, at(a), at(b))),
         18 => at(a) & !at(b),
         19 => at(if at(a) != 0 { b } else { c }),
-        _ => 0,
+        _ => input,
     }
 }
 

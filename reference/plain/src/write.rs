@@ -5,9 +5,9 @@ use gutkavu::operations::WriteFields;
 use gutkavu::{GRAPH_WORDS, TEXT_BYTES};
 
 /// Names of the codes from 0.
-const NAMES: [&[u8]; 18] = [
+const NAMES: [&[u8]; 21] = [
     b"", b"set", b"copy", b"add", b"sub", b"and", b"or", b"xor", b"shl", b"shr", b"sar", b"sx",
-    b"eq", b"ne", b"lt", b"ge", b"ltu", b"geu",
+    b"eq", b"ne", b"lt", b"ge", b"ltu", b"geu", b"", b"", b"in",
 ];
 
 /// A text in the making; any graph's fits.
@@ -64,6 +64,7 @@ impl Writer {
         match words[0] {
             1 => self.literal(words[2]),
             2 | 11 => self.number(words[2]),
+            20 => {}
             _ => {
                 self.number(words[2]);
                 self.number(words[3]);
@@ -109,7 +110,7 @@ pub fn write(table: &[u32], out: &mut [u8]) -> WriteFields {
     if table.len() < GRAPH_WORDS {
         return WriteFields { number: 7, length: 0 };
     }
-    if !graph_admission::admitted(table) {
+    if graph_admission::admitted(table).is_none() {
         return WriteFields { number: 6, length: 0 };
     }
     let mut writer = Writer { text: [0; TEXT_BYTES], length: 0 };

@@ -2,6 +2,7 @@
 
 mod graphs;
 mod growth;
+mod runs;
 mod table;
 mod timing;
 mod work;
@@ -21,13 +22,17 @@ fn load() -> String {
 /// Every operation on graphs of 1, 8 and 64 blocks with 1 and 16 registers.
 fn operations(out: &mut String) -> Result<(), String> {
     out.push_str(&table::heading());
+    let mut highest = 0.0;
     for registers in [1, 16] {
         for blocks in [1, 8, 64] {
             let work = Work::of(&mut Random::new(2_026), blocks, registers)?;
             work.check()?;
-            out.push_str(&table::rows(&work));
+            let (rows, ratio) = table::rows(&work);
+            out.push_str(&rows);
+            highest = ratio.max(highest);
         }
     }
+    let _ = writeln!(out, "\nWith words / without, proved: the highest ratio is {highest:.2}.");
     Ok(())
 }
 

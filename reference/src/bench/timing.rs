@@ -1,4 +1,4 @@
-//! Times of calls: two programs in turns, medians and quartiles.
+//! Times of calls: two in turns, medians and quartiles.
 
 use std::hint::black_box;
 use std::time::{Duration, Instant};
@@ -7,11 +7,11 @@ pub const ROUNDS: usize = 15;
 /// A sample takes at least this long.
 pub const SAMPLE: Duration = Duration::from_millis(5);
 
-/// What two programs take for the same call, in seconds.
+/// What two calls take, in seconds.
 pub struct Timing {
-    pub proved: f64,
-    pub plain: f64,
-    /// Quartiles of proved / plain over the rounds; the second is the median.
+    pub first: f64,
+    pub second: f64,
+    /// Quartiles of first / second over the rounds; the second of them is the median.
     pub ratio: [f64; 3],
 }
 
@@ -56,25 +56,25 @@ fn batch<T>(call: &mut impl FnMut() -> T, least: Duration) -> u32 {
     ((least.as_secs_f64() / 5.0 / each) as u32).max(1)
 }
 
-/// The two programs in turns, the one first and then the other.
-pub fn compare<T>(mut proved: impl FnMut() -> T, mut plain: impl FnMut() -> T) -> Timing {
-    let (of_proved, of_plain) = (batch(&mut proved, SAMPLE), batch(&mut plain, SAMPLE));
-    let (mut first, mut second, mut ratios) = (Vec::new(), Vec::new(), Vec::new());
+/// The two calls in turns, the one first and then the other.
+pub fn compare<T>(mut first: impl FnMut() -> T, mut second: impl FnMut() -> T) -> Timing {
+    let (of_first, of_second) = (batch(&mut first, SAMPLE), batch(&mut second, SAMPLE));
+    let (mut xs, mut ys, mut ratios) = (Vec::new(), Vec::new(), Vec::new());
     for round in 0..ROUNDS {
         let (x, y) = if round % 2 == 0 {
-            let x = sample(&mut proved, of_proved, SAMPLE);
-            (x, sample(&mut plain, of_plain, SAMPLE))
+            let x = sample(&mut first, of_first, SAMPLE);
+            (x, sample(&mut second, of_second, SAMPLE))
         } else {
-            let y = sample(&mut plain, of_plain, SAMPLE);
-            (sample(&mut proved, of_proved, SAMPLE), y)
+            let y = sample(&mut second, of_second, SAMPLE);
+            (sample(&mut first, of_first, SAMPLE), y)
         };
-        first.push(x);
-        second.push(y);
+        xs.push(x);
+        ys.push(y);
         ratios.push(x / y);
     }
     Timing {
-        proved: quantile(&mut first, 0.5),
-        plain: quantile(&mut second, 0.5),
+        first: quantile(&mut xs, 0.5),
+        second: quantile(&mut ys, 0.5),
         ratio: [0.25, 0.5, 0.75].map(|part| quantile(&mut ratios, part)),
     }
 }

@@ -1,17 +1,28 @@
 //! One graph with its tables: what is timed, and that both programs give the same on it.
 
 use super::graphs;
+use super::runs::{Kind, Program, PLAIN, PROVED};
+use gutkavu::layout::{graph, machine};
 use gutkavu::{operations, GRAPH_WORDS, MACHINE_WORDS, REGISTER_WORDS, TEXT_BYTES};
 use reference::random::Random;
+
+/// A graph table and the machine table made of it.
+pub struct Tables {
+    pub graph: Vec<u32>,
+    pub machine: Vec<u32>,
+}
 
 pub struct Work {
     pub blocks: usize,
     pub registers: usize,
     pub text: Vec<u8>,
-    pub graph: Vec<u32>,
-    pub machine: Vec<u32>,
+    pub tables: Tables,
+    /// The same graph, but the first instruction of each block is `in`.
+    pub reading: Tables,
     /// The words that a run begins with.
     pub file: [u32; REGISTER_WORDS],
+    /// Enough for a long run, also where each block is an arrival.
+    pub words: Vec<u32>,
 }
 
 /// Blocks and cycles of a long run.
@@ -29,6 +40,32 @@ fn same<T: PartialEq>(what: &str, x: T, y: T) -> Result<(), String> {
     (x == y).then_some(()).ok_or_else(|| format!("the two programs differ: {what}"))
 }
 
+impl Tables {
+    fn of(graph: Vec<u32>) -> Result<Tables, String> {
+        let mut machine = fresh(MACHINE_WORDS);
+        match operations::synthesise(&graph, &mut machine) {
+            0 => Ok(Tables { graph, machine }),
+            number => Err(format!("a graph is refused with {number}")),
+        }
+    }
+
+    fn reading(&self) -> Result<Tables, String> {
+        let mut table = self.graph.clone();
+        for n in 0..table[graph::BLOCKS] as usize {
+            let block = graph::FIRST_BLOCK + graph::BLOCK_WORDS * n;
+            let [code, _, a, b, ..] = &mut table[block + graph::FIRST_INSTRUCTION..] else {
+                continue;
+            };
+            (*code, *a, *b) = (20, 0, 0);
+        }
+        Tables::of(table)
+    }
+
+    pub fn starters(&self) -> &[u32] {
+        &self.machine[machine::STARTERS..][..self.machine[machine::STATES] as usize]
+    }
+}
+
 impl Work {
     /// With one register two instructions a block and loops, with more eight and many joins.
     pub fn of(random: &mut Random, blocks: usize, registers: usize) -> Result<Work, String> {
@@ -36,44 +73,58 @@ impl Work {
         let shape = if many { graphs::joins } else { graphs::loops }(random, blocks);
         let text = graphs::text(random, &shape, registers, if many { 8 } else { 2 });
         let file = [0; REGISTER_WORDS].map(|_: u32| random.word());
-        let (mut graph, mut machine) = (fresh(GRAPH_WORDS), fresh(MACHINE_WORDS));
-        let read = operations::read(&text, &mut graph);
-        let made = operations::synthesise(&graph, &mut machine);
-        same("a graph is refused", (read.number, made), (0, 0))?;
-        Ok(Work { blocks, registers, text, graph, machine, file })
+        let words = (0..BLOCK_BUDGET).map(|_| random.word()).collect();
+        let mut graph = fresh(GRAPH_WORDS);
+        match operations::read(&text, &mut graph).number {
+            0 => {}
+            number => return Err(format!("a graph is refused with {number}")),
+        }
+        let tables = Tables::of(graph)?;
+        let reading = tables.reading()?;
+        Ok(Work { blocks, registers, text, tables, reading, file, words })
     }
 
     pub fn states(&self) -> u32 {
-        self.machine[0]
+        self.tables.machine[machine::STATES]
     }
 
     pub fn wires(&self) -> u32 {
-        (0..self.states() as usize).map(|k| self.machine[131 + 19 * k]).sum()
+        let count = machine::RECORDS + machine::WIRE_COUNT;
+        let states = self.states() as usize;
+        (0..states).map(|k| self.tables.machine[count + machine::RECORD_WORDS * k]).sum()
     }
 
     /// Both programs give the same answers and leave the same buffers.
     pub fn check(&self) -> Result<(), String> {
+        let graph = &self.tables.graph;
         let (mut x, mut y) = (fresh(GRAPH_WORDS), fresh(GRAPH_WORDS));
         same("read", operations::read(&self.text, &mut x), plain::read(&self.text, &mut y))?;
         same("the graph table", &x, &y)?;
         let (mut x, mut y) = (vec![7; TEXT_BYTES], vec![7; TEXT_BYTES]);
-        same("write", operations::write(&self.graph, &mut x), plain::write(&self.graph, &mut y))?;
+        same("write", operations::write(graph, &mut x), plain::write(graph, &mut y))?;
         same("the text", &x, &y)?;
-        let (mut x, mut y) = (fresh(MACHINE_WORDS), fresh(MACHINE_WORDS));
-        let made = operations::synthesise(&self.graph, &mut x);
-        same("synthesise", made, plain::synthesise(&self.graph, &mut y))?;
-        same("the machine table", &x, &y)?;
-        [0, 1, 2, BLOCK_BUDGET].iter().try_for_each(|&budget| self.check_runs(budget))
+        for tables in [&self.tables, &self.reading] {
+            let mut made = fresh(MACHINE_WORDS);
+            same("synthesise", plain::synthesise(&tables.graph, &mut made), 0)?;
+            same("the machine table", &made, &tables.machine)?;
+            self.check_runs(tables)?;
+        }
+        Ok(())
     }
 
-    fn check_runs(&self, budget: u32) -> Result<(), String> {
-        let (mut x, mut y) = (self.file, self.file);
-        let ran = operations::run_graph(&self.graph, &mut x, 0, budget);
-        same("run graph", ran, plain::run_graph(&self.graph, &mut y, 0, budget))?;
-        same("the registers of a graph", x, y)?;
-        let (mut x, mut y) = (self.file, self.file);
-        let ran = operations::run_machine(&self.machine, &mut x, 0, budget);
-        same("run machine", ran, plain::run_machine(&self.machine, &mut y, 0, budget))?;
-        same("the registers of a machine", x, y)
+    /// The last budget is one more than there are words, so that a machine ends dry.
+    fn check_runs(&self, tables: &Tables) -> Result<(), String> {
+        let kinds: [(&str, Kind); 4] = [
+            ("run graph", Program::graph),
+            ("run machine", Program::machine),
+            ("run graph with words", Program::graph_with_words),
+            ("run machine with words", Program::machine_with_words),
+        ];
+        for (name, run) in kinds {
+            for budget in [0, 1, 2, BLOCK_BUDGET, BLOCK_BUDGET + 1] {
+                same(name, run(&PROVED, self, tables, budget), run(&PLAIN, self, tables, budget))?;
+            }
+        }
+        Ok(())
     }
 }

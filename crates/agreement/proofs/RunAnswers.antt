@@ -20,7 +20,8 @@ use Rattle.cfg.specs.Graph.{CFG, graphRunner}
 use Rattle.fsmd.specs.Layout.{maxRegisters, machineWords}
 use Rattle.fsmd.specs.Machine.{machineRunner}
 use Rattle.fsmd.specs.Table.{machineOf, admitted}
-use Rattle.fsmd.specs.Run.{refusal, runAnswer, runRegisters}
+use Rattle.runs.specs.Operations.{answered, registersLeft}
+use Rattle.runs.proofs.OperationLaws.{refused, accepted, accepted-left}
 use Rattle.grouping.specs.Grouping.{Groups}
 use Rattle.synthesis.specs.Synthesis.{machineFor}
 use Rattle.agreement.specs.Agreement.{graphAfter, machineAfter, stateIn, placeIn, inState, stoodIn, HaltingCycle, DryCycle, RunAgrees, SameEnd, RunsAlike, SameAnswer}
@@ -61,14 +62,12 @@ outcome-dry (standing n) true c h = ((n, refl), refl)
 outcome-dry (standing n) false c h = absurd (omega arith)
 outcome-dry halted left c h = absurd (omega arith)
 
--- ---- Run machine on a table that is long enough and admitted, from one of its states
+-- ---- an operation that is refused for a short buffer alone, of a machine: n is the number of its refusal
 
-module _ (t : List ℕ) (long : machineWords ≤ length t) (ok : admitted t ≡ true) (ws : Supply) (q₀ : ℕ) (known : q₀ < getD t 0 0) (buffer : List ℕ) (k : ℕ) where
+module _ (m : Runner) (each : (q : ℕ) → m .arrives q ≡ true) (ws : Supply) (q₀ : ℕ) (buffer : List ℕ) (k n : ℕ)
+    (short : length buffer < maxRegisters → n ≡ 7) (full : maxRegisters ≤ length buffer → n ≡ 0) where
   abbrev rs : List ℕ
   rs = take maxRegisters buffer
-
-  abbrev m : Runner
-  m = machineRunner (machineOf t)
 
   abbrev c₀ : Configuration
   c₀ = startAt q₀ rs
@@ -79,25 +78,18 @@ module _ (t : List ℕ) (long : machineWords ≤ length t) (ok : admitted t ≡ 
   abbrev count : ℕ
   count = stepsRun m ws k c₀
 
-  refused : length buffer < maxRegisters → refusal t buffer q₀ ≡ 7
-  unfolding refusal
-  refused h = rw (le-ltb (length t) machineWords long, lt-ltb (length buffer) maxRegisters h)
+  abbrev result : RunAnswer
+  result = answered n m ws buffer q₀ k
 
-  accepted : maxRegisters ≤ length buffer → refusal t buffer q₀ ≡ 0
-  unfolding refusal
-  accepted h = rw (le-ltb (length t) machineWords long, le-ltb (length buffer) maxRegisters h, ok, lt-ltb q₀ (getD t 0 0) known)
+  abbrev Agrees : Type 0
+  Agrees = RunAgrees m ws q₀ k buffer (registersLeft n m ws buffer q₀ k) result
 
-  run-refused : length buffer < maxRegisters → runAnswer ws t buffer q₀ k ≡ Refused 7
-  unfolding runAnswer
-  run-refused h = rw (refused h)
+  run-outcome : maxRegisters ≤ length buffer → result ≡ outcome place (ltb count k) count
+  run-outcome h = accepted m ws buffer q₀ k n (full h) ∙ answer-is m ws k c₀
 
-  run-outcome : maxRegisters ≤ length buffer → runAnswer ws t buffer q₀ k ≡ outcome place (ltb count k) count
-  unfolding runAnswer answer
-  run-outcome h = rw (accepted h)
-
-  run-registers : maxRegisters ≤ length buffer → runRegisters ws t buffer q₀ k ≡ machineAfter m ws q₀ rs k .registers ++ drop maxRegisters buffer
-  unfolding runRegisters registersAfter
-  run-registers h = rw (accepted h)
+  run-registers : maxRegisters ≤ length buffer → registersLeft n m ws buffer q₀ k ≡ machineAfter m ws q₀ rs k .registers ++ drop maxRegisters buffer
+  unfolding registersAfter
+  run-registers h = accepted-left m ws buffer q₀ k n (full h)
 
   halting : place ≡ halted → HaltingCycle m ws q₀ rs count
   halting h =
@@ -106,31 +98,32 @@ module _ (t : List ℕ) (long : machineWords ≤ length t) (ok : admitted t ≡ 
         stopped = sym (place-of (at-count m ws k c₀ (halted-ends ws (times m ws k c₀) h))) ∙ h;
       }
 
-  drying : (n : ℕ) → place ≡ standing n → count < k → DryCycle m ws q₀ rs k count
-  drying n h l =
+  drying : (x : ℕ) → place ≡ standing x → count < k → DryCycle m ws q₀ rs k count
+  drying x h l =
       let e = left-ended m ws k c₀ l in
       let s = at-count m ws k c₀ e in
       let p = sym (place-of s) ∙ h in
-      let a : times m ws count c₀ .arrivals ≡ count = sym (arrivals-of s) ∙ arrivals-run m ws (λ q. refl) k c₀ n h ∙ omega arith in
+      let a : times m ws count c₀ .arrivals ≡ count = sym (arrivals-of s) ∙ arrivals-run m ws each k c₀ x h ∙ omega arith in
       record {
         running = going-before m ws k c₀;
-        standing = λ d. never-both (times m ws count c₀ .place) n p d;
+        standing = λ d. never-both (times m ws count c₀ .place) x p d;
         arrival = a;
-        dry = ap (λ (i : ℕ). ws .lasts i) (sym a) ∙ dry-lasts ws (times m ws count c₀) n p (ap (goes ws) (sym s) ∙ e);
+        dry = ap (λ (i : ℕ). ws .lasts i) (sym a) ∙ dry-lasts ws (times m ws count c₀) x p (ap (goes ws) (sym s) ∙ e);
         left = l;
       }
 
-  long-enough : maxRegisters ≤ length buffer → RunAgrees t buffer ws q₀ k
+  long-enough : maxRegisters ≤ length buffer → Agrees
   long-enough h =
       let e = run-outcome h in
       let left = ltb count k in
       let number = ap numberOf e ∙ outcome-number place left count in
       let counted = ap countOf e ∙ outcome-count place left count in
       record {
-        not9 = λ n. absurd (omega arith);
-        not10 = λ n. absurd (omega arith);
-        accepted = λ n. number;
-        answers = λ n. record {
+        not9 = λ d. absurd (omega arith);
+        not10 = λ d. absurd (omega arith);
+        not12 = λ d. absurd (omega arith);
+        accepted = λ d. number;
+        answers = λ z. record {
           halts = (λ d. outcome-halted place left count (sym (ap outcomeOf e) ∙ d), λ d. ap outcomeOf e ∙ halted-outcome place left count d);
           registers = run-registers h;
           next = ap nextOf e ∙ outcome-next place left count;
@@ -144,20 +137,21 @@ module _ (t : List ℕ) (long : machineWords ≤ length t) (ok : admitted t ≡ 
         };
       }
 
-  too-short : length buffer < maxRegisters → RunAgrees t buffer ws q₀ k
+  too-short : length buffer < maxRegisters → Agrees
   too-short h =
-      let seven : numberOf (runAnswer ws t buffer q₀ k) ≡ 7 = ap numberOf (run-refused h) in
+      let seven : numberOf result ≡ 7 = ap numberOf (refused m ws buffer q₀ k n 6 (short h)) in
       record {
-        not9 = λ n. absurd (omega arith);
-        not10 = λ n. absurd (omega arith);
-        accepted = λ n. absurd (omega arith);
-        answers = λ n. absurd (omega arith);
+        not9 = λ d. absurd (omega arith);
+        not10 = λ d. absurd (omega arith);
+        not12 = λ d. absurd (omega arith);
+        accepted = λ d. absurd (omega arith);
+        answers = λ d. absurd (omega arith);
       }
 
-  pub run-agrees : RunAgrees t buffer ws q₀ k
+  pub run-agrees : Agrees
   run-agrees = go (decLt (length buffer) maxRegisters)
     where
-      go : Dec (length buffer < maxRegisters) → RunAgrees t buffer ws q₀ k
+      go : Dec (length buffer < maxRegisters) → Agrees
       go (yes h) = too-short h
       go (no h) = long-enough (omega arith)
 

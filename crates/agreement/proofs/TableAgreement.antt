@@ -14,14 +14,15 @@ use Rattle.runs.proofs.MembershipLaws.{in-every}
 use Rattle.runs.specs.Runs.{startAt, Supply, listed, unread, Runner, answer, registersAfter, outcomeOf}
 use Rattle.runs.proofs.RunLaws.{step-ended}
 use Rattle.cfg.specs.Graph.{CFG, blockOf, runBlock, graphRunner}
-use Rattle.cfg.specs.Run.{wordsRefusal, wordsAnswer, wordsRegisters}
-use Rattle.cfg.proofs.Running.{none-refused}
+use Rattle.cfg.specs.Run.{wordsRefusal as graphRefusal, wordsAnswer as graphAnswer, wordsRegisters as graphLeft}
+use Rattle.cfg.proofs.Running.{words-none-refused}
 use Rattle.cfg.specs.Table.{graphOf, admitted}
 use Rattle.cfg.proofs.Admitted.{ValidGraph, valid-graph, admitted-halves, admitted-facts, blocks-length}
 use Rattle.fsmd.specs.Layout.{maxRegisters, machineWords}
 use Rattle.fsmd.specs.Machine.{State, FSMD, machineRunner, wordless as wordlessMachine}
-use Rattle.fsmd.specs.Run.{refusal}
-use Rattle.fsmd.proofs.Steps.{refuse-none, run-answer, run-registers}
+use Rattle.fsmd.specs.Run.{refusal, wordsRefusal, wordsAnswer as machineAnswer, wordsRegisters as machineLeft}
+use Rattle.fsmd.proofs.Steps.{refuse-registers, refuse-none, words-refuse-registers, words-refuse-none}
+use Rattle.runs.proofs.OperationLaws.{accepted, accepted-left}
 use Rattle.fsmd.specs.Table.{tableOf, machineOf, admitted as admittedMachine}
 use Rattle.fsmd.proofs.Machines.{states-length, registers-is, state-is, admitted-facts as machine-facts}
 use Rattle.fsmd.proofs.WrittenTable.{count-is, table-length}
@@ -115,31 +116,37 @@ module _ (t rest : List ℕ) (ok : admitted t ≡ true) where
     graph-same : graphRunner g starters ≡ graphRunner g (s .starters)
     graph-same = ap (λ (f : ℕ → Bool). record { unit = λ w n q. runBlock w (blockOf g n) q; arrives = f }) (fun-ext alike)
 
-    graph-accepted : wordsRefusal t buffer b₀ starters ≡ 0
-    unfolding wordsRefusal
+    graph-accepted : graphRefusal t buffer b₀ starters ≡ 0
     graph-accepted =
-        rw (
-          none-refused t buffer b₀ (admitted-facts t ok .long) enough ok (starters-below b₀ start),
+        words-none-refused t buffer b₀ starters (admitted-facts t ok .long) enough ok (starters-below b₀ start)
+        (rw (
           alike 0 ∙ arranged .entry,
           alike b₀ ∙ start,
           in-every (λ b. ltb b (getD t 0 0)) starters (λ b i. lt-ltb b (getD t 0 0) (starters-below b (sym (alike b) ∙ In→mem b starters i))),
-        )
+        ))
 
-    graph-answer : (n : ℕ) → wordsAnswer t buffer b₀ n words starters ≡ answer (graphRunner g (s .starters)) ws n (startAt b₀ rs)
-    unfolding wordsAnswer
-    graph-answer n = rw graph-accepted (ap (λ (r : Runner). answer r ws n (startAt b₀ rs)) graph-same)
+    graph-answer : (n : ℕ) → graphAnswer t buffer b₀ n words starters ≡ answer (graphRunner g (s .starters)) ws n (startAt b₀ rs)
+    graph-answer n =
+        accepted (graphRunner g starters) ws buffer b₀ n (graphRefusal t buffer b₀ starters) graph-accepted
+        ∙ ap (λ (r : Runner). answer r ws n (startAt b₀ rs)) graph-same
 
-    graph-registers : (n : ℕ) → wordsRegisters t buffer b₀ n words starters ≡ registersAfter (graphRunner g (s .starters)) ws n (startAt b₀ rs) ++ drop maxRegisters buffer
-    unfolding wordsRegisters
-    graph-registers n = rw graph-accepted (ap (λ (r : Runner). registersAfter r ws n (startAt b₀ rs) ++ drop maxRegisters buffer) graph-same)
+    graph-registers : (n : ℕ) → graphLeft t buffer b₀ n words starters ≡ registersAfter (graphRunner g (s .starters)) ws n (startAt b₀ rs) ++ drop maxRegisters buffer
+    graph-registers n =
+        accepted-left (graphRunner g starters) ws buffer b₀ n (graphRefusal t buffer b₀ starters) graph-accepted
+        ∙ ap (λ (r : Runner). registersAfter r ws n (startAt b₀ rs) ++ drop maxRegisters buffer) graph-same
 
-    machine-accepted : refusal table buffer (stateIn s b₀) ≡ 0
-    machine-accepted = refuse-none table buffer (stateIn s b₀) long enough table-admitted (start-known b₀ start)
+    machine-accepted : wordsRefusal table buffer (stateIn s b₀) ≡ 0
+    machine-accepted = words-refuse-none table buffer (stateIn s b₀) long enough table-admitted (start-known b₀ start)
+
+    machine-answer : machineAnswer table buffer (stateIn s b₀) k words ≡ answer m ws k (startAt (stateIn s b₀) rs)
+    machine-answer = accepted m ws buffer (stateIn s b₀) k (wordsRefusal table buffer (stateIn s b₀)) machine-accepted
+
+    machine-registers : machineLeft table buffer (stateIn s b₀) k words ≡ registersAfter m ws k (startAt (stateIn s b₀) rs) ++ drop maxRegisters buffer
+    machine-registers = accepted-left m ws buffer (stateIn s b₀) k (wordsRefusal table buffer (stateIn s b₀)) machine-accepted
 
     answers-alike : (n : ℕ) → SameEnd g s m ws b₀ rs k n → Alike t table s buffer words starters b₀ k n
     answers-alike n e =
-        rw (graph-answer n, graph-registers n, run-answer ws table buffer (stateIn s b₀) k machine-accepted, run-registers ws table buffer (stateIn s b₀) k machine-accepted)
-        (ends-alike g s m ws b₀ rs k n (drop maxRegisters buffer) e)
+        rw (graph-answer n, graph-registers n, machine-answer, machine-registers) (ends-alike g s m ws b₀ rs k n (drop maxRegisters buffer) e)
 
     operations-alike : OperationsAlike t table s buffer words starters b₀ k
     operations-alike =
@@ -147,8 +154,7 @@ module _ (t rest : List ℕ) (ok : admitted t ≡ true) where
         record {
           blocks = r .blocks;
           at = answers-alike (r .blocks) (r .at);
-          beyond = λ d n l.
-              answers-alike n (r .beyond (λ z. d (ap outcomeOf (run-answer ws table buffer (stateIn s b₀) k machine-accepted) ∙ z)) n l);
+          beyond = λ d n l. answers-alike n (r .beyond (λ z. d (ap outcomeOf machine-answer ∙ z)) n l);
         }
 
   pub agreement : Agreement t table
@@ -159,27 +165,39 @@ module _ (t rest : List ℕ) (ok : admitted t ≡ true) where
         agree = λ ws b start rs size k lasts.
             subst (λ (x : Runner). AgreeAfter g s x ws b rs k) machine-same (agree-after g s (graph-fits g valid) a ws b start rs size k lasts);
         alike = runs-same;
-        runs = λ ws b start. run-agrees table long table-admitted ws (stateIn s b) (start-known b start);
+        runs = λ words b start buffer k.
+            let q = stateIn s b in
+            run-agrees m (λ q. refl) (listed words) q buffer k (wordsRefusal table buffer q)
+            (words-refuse-registers table buffer q long)
+            (λ full. words-refuse-none table buffer q long full table-admitted (start-known b start));
+        wordlessRuns = λ w b start buffer k.
+            let q = stateIn s b in
+            run-agrees m (λ q. refl) unread q buffer k (refusal table buffer q)
+            (refuse-registers table buffer q long)
+            (λ full. refuse-none table buffer q long full table-admitted w (start-known b start));
         operations = operations-alike;
+        entry = arranged .entry;
+        begins = arranged .entry-state;
+        silent = λ h.
+            wordless-same (machineOf table) (machineFor g s) (read-states (machine g) rest fits ∙ ap (λ (x : FSMD). x .states) (machine-is g))
+            ∙ wordless-machine g s h;
         idle = λ ws c. step-ended m ws c;
         wires = λ k l.
             let z = states-length table in
             rw (registers-is table, state-is table k (omega arith)) (h .valid k (omega arith));
       }
 
-  -- from block 0 and state 0, where every arrival has a word
-  pub agreement-without-words : AgreementWithoutWords t table
-  agreement-without-words =
-      let zero-is = arranged .entry-state in
-      record {
-        agree = λ rs size k. agreement .agree unread 0 (arranged .entry) rs size k (λ j l. refl);
-        begins = zero-is;
-        silent = λ h. wordless-same (machineOf table) (machineFor g s) (read-states (machine g) rest fits ∙ ap (λ (x : FSMD). x .states) (machine-is g)) ∙ wordless-machine g s h;
-        runs = λ buffer k. rw zero-is at (agreement .runs unread 0 (arranged .entry) buffer k);
-        unmarked = λ rs n.
-            let l = times-level (graphRunner g [] .unit) (λ b. mem b []) (λ b. mem b (s .starters)) n (startAt 0 rs) (startAt 0 rs) (record { place = refl; registers = refl }) in
-            (l .place, l .registers);
-      }
+-- the case without words, where every arrival has one
+pub without-words : (t table : List ℕ) → Agreement t table → AgreementWithoutWords t table
+without-words t table a = record {
+  agree = λ rs size k. a .agree unread 0 (a .entry) rs size k (λ j l. refl);
+  begins = a .begins;
+  runs = λ h buffer k. rw (a .begins) at (a .wordlessRuns (a .silent h) 0 (a .entry) buffer k);
+  unmarked = λ rs n.
+      let g = graphOf t in
+      let l = times-level (graphRunner g [] .unit) (λ b. mem b []) (λ b. mem b (groups g .starters)) n (startAt 0 rs) (startAt 0 rs) (record { place = refl; registers = refl }) in
+      (l .place, l .registers);
+}
 
 -- while words of a list last
 pub listed-lasts : (ws : List ℕ) (k : ℕ) → k ≤ length ws → LastsTo (listed ws) k
@@ -189,6 +207,3 @@ listed-lasts ws k h j l = lt-ltb j (length ws) (omega arith)
 
 pub synthesised-agrees : (t old : List ℕ) → synthesisAnswer t old ≡ Made → Agreement t (synthesisWords t old)
 synthesised-agrees t old e = rw (made-words t old e) (agreement t (drop machineWords old) (made-admitted t old e))
-
-pub synthesised-agrees-without-words : (t old : List ℕ) → synthesisAnswer t old ≡ Made → AgreementWithoutWords t (synthesisWords t old)
-synthesised-agrees-without-words t old e = rw (made-words t old e) (agreement-without-words t (drop machineWords old) (made-admitted t old e))

@@ -11,11 +11,11 @@ use Rattle.runs.specs.Runs.{Place, standing, halted, Configuration, standsAt, s
 use Rattle.runs.specs.declared.RunAnswer.{RunAnswer}
 use Rattle.cfg.specs.Graph.{CFG, graphRunner, wordless}
 use Rattle.cfg.specs.Table.{graphOf}
-use Rattle.cfg.specs.Run.{wordsAnswer, wordsRegisters}
+use Rattle.cfg.specs.Run.{wordsAnswer as graphAnswer, wordsRegisters as graphLeft}
 use Rattle.fsmd.specs.Layout.{maxRegisters, none}
 use Rattle.fsmd.specs.Machine.{stateOf, machineRunner, wordless as wordlessMachine}
 use Rattle.fsmd.specs.Table.{machineOf, validState}
-use Rattle.fsmd.specs.Run.{runAnswer, runRegisters}
+use Rattle.fsmd.specs.Run.{runAnswer, runRegisters, wordsAnswer as machineAnswer, wordsRegisters as machineLeft}
 use Rattle.grouping.specs.Grouping.{Groups, groups}
 use Rattle.placement.specs.Placement.{members}
 
@@ -96,7 +96,7 @@ pub record RunsAlike (g : CFG) (s : Groups) (m : Runner) (ws : Supply) (b₀ : �
   pub at : SameEnd g s m ws b₀ rs k blocks
   pub beyond : outcomeOf (answer m ws k (startAt (stateIn s b₀) rs)) ≢ 0 → (n : ℕ) → blocks ≤ n → SameEnd g s m ws b₀ rs k n
 
--- ---- Run machine on a table from state q₀, with a register buffer and budget k, on the words ws
+-- ---- Run machine from state q₀, with a register buffer and budget k, on the words ws
 
 -- c is the number of the cycle in which the machine halts
 pub record HaltingCycle (m : Runner) (ws : Supply) (q₀ : ℕ) (rs : List ℕ) (c : ℕ) : Type 0 where
@@ -129,13 +129,14 @@ pub record Answers (m : Runner) (ws : Supply) (q₀ k : ℕ) (buffer after : Lis
   pub ended : outcomeOf a ≡ 1 → HaltingCycle m ws q₀ (take maxRegisters buffer) (countOf a)
   pub dried : outcomeOf a ≡ 2 → DryCycle m ws q₀ (take maxRegisters buffer) k (countOf a)
 
-pub record RunAgrees (table buffer : List ℕ) (ws : Supply) (q₀ k : ℕ) : Type 0 where
-  -- never refused 9 or 10, and not at all where the buffer has its 16 words
-  pub not9 : numberOf (runAnswer ws table buffer q₀ k) ≢ 9
-  pub not10 : numberOf (runAnswer ws table buffer q₀ k) ≢ 10
-  pub accepted : maxRegisters ≤ length buffer → numberOf (runAnswer ws table buffer q₀ k) ≡ 0
-  pub answers : numberOf (runAnswer ws table buffer q₀ k) ≡ 0
-      → Answers (machineRunner (machineOf table)) ws q₀ k buffer (runRegisters ws table buffer q₀ k) (runAnswer ws table buffer q₀ k)
+-- the same of an operation that may be refused
+pub record RunAgrees (m : Runner) (ws : Supply) (q₀ k : ℕ) (buffer after : List ℕ) (a : RunAnswer) : Type 0 where
+  -- never refused 9, 10 or 12, and not at all where the buffer has its 16 words
+  pub not9 : numberOf a ≢ 9
+  pub not10 : numberOf a ≢ 10
+  pub not12 : numberOf a ≢ 12
+  pub accepted : maxRegisters ≤ length buffer → numberOf a ≡ 0
+  pub answers : numberOf a ≡ 0 → Answers m ws q₀ k buffer after a
 
 -- ---- Run graph with words and starters beside Run machine with words
 
@@ -150,14 +151,14 @@ module _ (graphTable machineTable : List ℕ) (s : Groups) (buffer words starter
   -- with a budget of n blocks and one of k cycles
   abbrev pub Alike : ℕ → Type 0
   Alike n =
-      SameAnswer s (wordsAnswer graphTable buffer b₀ n words starters) (runAnswer (listed words) machineTable buffer (stateIn s b₀) k)
-      (wordsRegisters graphTable buffer b₀ n words starters) (runRegisters (listed words) machineTable buffer (stateIn s b₀) k)
+      SameAnswer s (graphAnswer graphTable buffer b₀ n words starters) (machineAnswer machineTable buffer (stateIn s b₀) k words)
+      (graphLeft graphTable buffer b₀ n words starters) (machineLeft machineTable buffer (stateIn s b₀) k words)
 
   -- there is a budget of blocks at which they are and, where the machine's run is halted or dry, from which on they are
   pub record OperationsAlike : Type 0 where
     pub blocks : ℕ
     pub at : Alike blocks
-    pub beyond : outcomeOf (runAnswer (listed words) machineTable buffer (stateIn s b₀) k) ≢ 0 → (n : ℕ) → blocks ≤ n → Alike n
+    pub beyond : outcomeOf (machineAnswer machineTable buffer (stateIn s b₀) k words) ≢ 0 → (n : ℕ) → blocks ≤ n → Alike n
 
 -- ---- demand 3, on the words of a graph table and a machine table
 
@@ -172,26 +173,36 @@ pub record Agreement (graphTable machineTable : List ℕ) : Type 0 where
   -- every k, also where the words do not last
   pub alike : (ws : Supply) (b₀ : ℕ) → mem b₀ (groups (graphOf graphTable) .starters) ≡ true → (rs : List ℕ) → length rs ≡ maxRegisters
       → (k : ℕ) → RunsAlike (graphOf graphTable) (groups (graphOf graphTable)) (machineRunner (machineOf machineTable)) ws b₀ rs k
-  -- every k, and so each that a budget can hold
-  pub runs : (ws : Supply) (b₀ : ℕ) → mem b₀ (groups (graphOf graphTable) .starters) ≡ true → (buffer : List ℕ)
-      → (k : ℕ) → RunAgrees machineTable buffer ws (stateIn (groups (graphOf graphTable)) b₀) k
+  -- Run machine with words: every k, and so each that a budget can hold
+  pub runs : (words : List ℕ) (b₀ : ℕ) → mem b₀ (groups (graphOf graphTable) .starters) ≡ true → (buffer : List ℕ) (k : ℕ)
+      → let q₀ = stateIn (groups (graphOf graphTable)) b₀ in
+      RunAgrees (machineRunner (machineOf machineTable)) (listed words) q₀ k buffer (machineLeft machineTable buffer q₀ k words) (machineAnswer machineTable buffer q₀ k words)
+  -- and Run machine, of a machine that reads no word
+  pub wordlessRuns : wordlessMachine (machineOf machineTable) ≡ true → (b₀ : ℕ) → mem b₀ (groups (graphOf graphTable) .starters) ≡ true → (buffer : List ℕ) (k : ℕ)
+      → let q₀ = stateIn (groups (graphOf graphTable)) b₀ in
+      RunAgrees (machineRunner (machineOf machineTable)) unread q₀ k buffer (runRegisters machineTable buffer q₀ k) (runAnswer machineTable buffer q₀ k)
   -- a starter list that holds the machine's starters and no others
   pub operations : (words starters : List ℕ) → ((b : ℕ) → mem b starters ≡ mem b (groups (graphOf graphTable) .starters))
       → (b₀ : ℕ) → mem b₀ (groups (graphOf graphTable) .starters) ≡ true → (buffer : List ℕ) → maxRegisters ≤ length buffer
       → (k : ℕ) → OperationsAlike graphTable machineTable (groups (graphOf graphTable)) buffer words starters b₀ k
+  -- block 0 is a starter, and its state is 0
+  pub entry : mem 0 (groups (graphOf graphTable) .starters) ≡ true
+  pub begins : stateIn (groups (graphOf graphTable)) 0 ≡ 0
+  -- the machine of a graph without code 20 has none either
+  pub silent : wordless (graphOf graphTable) ≡ true → wordlessMachine (machineOf machineTable) ≡ true
   -- further cycles of a machine that has halted or is dry change nothing
   pub idle : (ws : Supply) (c : Configuration) → goes ws c ≡ false → step (machineRunner (machineOf machineTable)) ws c ≡ c
   -- each wire reads only registers at the start of the cycle and earlier wires
   pub wires : (k : ℕ) → k < length (machineOf machineTable .states)
       → validState (machineOf machineTable .registers) (stateOf (machineOf machineTable) k) ≡ true
 
--- Demand 3 without words: from block 0 and state 0, for graphs without code 20, whose machine has none either.
+-- Its case without words, from block 0 and state 0: demand 3 as paper 01 puts it, for graphs without code 20
 pub record AgreementWithoutWords (graphTable machineTable : List ℕ) : Type 0 where
   pub agree : (rs : List ℕ) → length rs ≡ maxRegisters → (k : ℕ)
       → AgreeAfter (graphOf graphTable) (groups (graphOf graphTable)) (machineRunner (machineOf machineTable)) unread 0 rs k
   pub begins : stateIn (groups (graphOf graphTable)) 0 ≡ 0
-  pub silent : wordless (graphOf graphTable) ≡ true → wordlessMachine (machineOf machineTable) ≡ true
-  pub runs : (buffer : List ℕ) (k : ℕ) → RunAgrees machineTable buffer unread 0 k
+  pub runs : wordless (graphOf graphTable) ≡ true → (buffer : List ℕ) (k : ℕ)
+      → RunAgrees (machineRunner (machineOf machineTable)) unread 0 k buffer (runRegisters machineTable buffer 0 k) (runAnswer machineTable buffer 0 k)
   -- the graph's run without words, which knows no starters, goes through the same places and registers
   pub unmarked : (rs : List ℕ) (n : ℕ)
       → let run = graphAfter (graphOf graphTable) [] unread 0 rs n in

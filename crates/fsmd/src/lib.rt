@@ -1,7 +1,7 @@
 // The synthesised machine, a finite state machine with its datapath: limits, wires, and the layout of its table.
 pub mod table; // table.rt: words of a machine table
 pub mod admission; // admission.rt: which machine tables are admitted
-pub mod words; // words.rt: whether a machine reads the sampled word
+pub mod sampling; // sampling.rt: whether a machine reads the sampled word
 pub mod clock; // clock.rt: one cycle
 pub mod run; // run.rt: a run with a budget
 

@@ -11,8 +11,8 @@ ghost use Rattle.fsmd.specs.Run.{runAnswer, runRegisters, wordsAnswer, w
 use super::Machine;
 use super::admission::admitted;
 use super::clock::cycle;
+use super::sampling::is_wordless;
 use super::table::wide;
-use super::words::is_wordless;
 use runs::RunAnswer;
 use word::Registers;
 

@@ -1,4 +1,4 @@
--- `fsmd::words::wires_wordless` meets its contract: the wires from n on decide for all. Assumes nothing.
+-- `fsmd::sampling::wires_wordless` meets its contract: the wires from n on decide for all. Assumes nothing.
 use Prim.Native.Nat.{_-_, _≤_}
 use native.Mathlib.Omega.{arith}
 use mathlib.Core.Bool.{not}
@@ -11,8 +11,8 @@ use borrow.Author.Tests.{eq-eqb, ne-eqb}
 use Rattle.runs.specs.Lists.{every}
 use Rattle.fsmd.proofs.Machines.{wordlessWires}
 use Rattle.fsmd.proofs.Windows.{wiresFrom, wires-next, wires-end}
-use Rattle.fsmd.proofs.words.wires_wordless.Statement.{statement}
-use Rattle.fsmd.proofs.words.wires_wordless.Tie as tie
+use Rattle.fsmd.proofs.sampling.wires_wordless.Statement.{statement}
+use Rattle.fsmd.proofs.sampling.wires_wordless.Tie as tie
 
 abbrev Inv-loop : tie.InvT-loop
 Inv-loop table first count n₀ n =

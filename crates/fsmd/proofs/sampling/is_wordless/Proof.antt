@@ -1,4 +1,4 @@
--- `fsmd::words::is_wordless` meets its contract: the states from k on decide for all. Assumes nothing.
+-- `fsmd::sampling::is_wordless` meets its contract: the states from k on decide for all. Assumes nothing.
 use Prim.Native.Nat.{_-_, _≤_, _<_}
 use native.Mathlib.Omega.{arith}
 use mathlib.Core.Path.{_≡_, sym, ap₂, _∙_}
@@ -11,8 +11,8 @@ use Rattle.fsmd.specs.Layout.{maxStates}
 use Rattle.fsmd.specs.Machine.{wordless}
 use Rattle.fsmd.specs.Table.{machineOf}
 use Rattle.fsmd.proofs.Machines.{wordlessWires, wordlessState, wordless-is, admitted-facts}
-use Rattle.fsmd.proofs.words.is_wordless.Statement.{statement}
-use Rattle.fsmd.proofs.words.is_wordless.Tie as tie
+use Rattle.fsmd.proofs.sampling.is_wordless.Statement.{statement}
+use Rattle.fsmd.proofs.sampling.is_wordless.Tie as tie
 
 abbrev Inv-loop : tie.InvT-loop
 Inv-loop table states k₀ k = (k ≤ states) × (states ≤ maxStates) × (wordless (machineOf table) ≡ every (wordlessState table) (drop k (upFrom 0 states)))

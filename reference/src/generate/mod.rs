@@ -142,7 +142,7 @@ impl Cases {
 
     pub fn get(&self, index: usize) -> Case {
         match self.fixed.get(index / 4) {
-            Some(fixed) if index % 4 == 0 => fixed.clone(),
+            Some(fixed) if index.is_multiple_of(4) => fixed.clone(),
             _ => case(self.seed, index as u64),
         }
     }

@@ -92,14 +92,18 @@ impl Made {
         }
     }
 
-    /// The machine's run of k cycles, and the graph's run up to its end.
-    fn check(&self, begin: &Begin, k: usize) {
+    /// For every k the machine's run of k cycles, and the graph's run up to its end.
+    fn check(&self, begin: &Begin, cycles: &[usize]) {
         let moments = self.arrivals(begin);
+        cycles.iter().for_each(|&k| self.check_cycles(begin, &moments, k));
+    }
+
+    fn check_cycles(&self, begin: &Begin, moments: &[Moment], k: usize) {
         let mut registers = begin.registers.to_vec();
         let start = begin.state as u32;
         let answer =
             run_machine_with_words(&self.machine, &mut registers, start, k as u32, begin.words);
-        assert_eq!(answer, self.expected(&moments, k));
+        assert_eq!(answer, self.expected(moments, k));
         let passed = &moments[..=k.min(moments.len() - 1)];
         assert_eq!(registers, self.whole(&passed[passed.len() - 1], begin));
         self.check_graph_run(begin, passed, answer.outcome);
@@ -168,15 +172,13 @@ fn reading_and_silent(seed: u64, count: usize) -> impl Iterator<Item = Made> {
 #[test]
 fn first_cycles_agree_from_every_starter() {
     let mut random = Random::new(21);
-    for made in reading_and_silent(22, 500) {
+    for made in reading_and_silent(22, 300) {
         for state in 0..made.starters.len() {
             let registers = words::registers(&mut random, 18);
             let words = words::registers(&mut random, 12);
-            for length in [0, 1, 2, 5, 12] {
+            for length in [0, 1, 5, 12] {
                 let begin = Begin { state, registers: &registers, words: &words[..length] };
-                for k in [0, 1, 2, 3, 4, 5, 6, 12, 13] {
-                    made.check(&begin, k);
-                }
+                made.check(&begin, &[0, 1, 2, 3, 5, 6, 12, 13]);
             }
         }
     }
@@ -189,9 +191,8 @@ fn long_runs_agree() {
         let registers = words::registers(&mut random, 16);
         let words = words::registers(&mut random, 200);
         let state = random.below(made.starters.len());
-        for k in [50, 100, 199, 200, 201, u32::MAX as usize] {
-            made.check(&Begin { state, registers: &registers, words: &words }, k);
-        }
+        let begin = Begin { state, registers: &registers, words: &words };
+        made.check(&begin, &[50, 100, 199, 200, 201, u32::MAX as usize]);
     }
 }
 
@@ -211,9 +212,7 @@ fn halting_runs_agree() {
         halting[usize::from(made.graph.reads_words())] += 1;
         for length in [last - 1, last, last + 1] {
             let begin = Begin { state: 0, registers: &registers, words: &words[..length] };
-            for k in [last - 1, last, last + 1, u32::MAX as usize] {
-                made.check(&begin, k);
-            }
+            made.check(&begin, &[last - 1, last, last + 1, u32::MAX as usize]);
         }
     }
     assert!(halting.iter().all(|&graphs| graphs > 50), "{halting:?}");

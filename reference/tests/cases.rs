@@ -1,13 +1,24 @@
 //! The case stream: its form, its size, and what its cases hit.
 
-use reference::answer::{answer, digest};
-use reference::case::read_cases;
+use reference::answer::{answer, digest, Answer};
+use reference::case::{read_cases, Case};
 use reference::generate::cases;
 use reference::grouping::group;
 use reference::operations::WordsRunAnswer;
 use reference::parse::parse;
 use reference::stats::{Counted, Stats};
 use std::collections::BTreeSet;
+use std::sync::OnceLock;
+
+/// The cases that are stored, with their answers; several tests look at them.
+fn stored() -> &'static [(Case, Answer)] {
+    static STORED: OnceLock<Vec<(Case, Answer)>> = OnceLock::new();
+    let with_answer = |case: Case| {
+        let answer = answer(&case);
+        (case, answer)
+    };
+    STORED.get_or_init(|| cases(1, 4_500).into_iter().map(with_answer).collect())
+}
 
 #[test]
 fn streams_read_back() {
@@ -67,8 +78,7 @@ fn every_refusal_is_hit() {
 #[test]
 fn runs_go_dry_at_many_counts() {
     let (mut graph, mut machine) = (BTreeSet::new(), BTreeSet::new());
-    for case in cases(1, 4_500) {
-        let answer = answer(&case);
+    for (_, answer) in stored() {
         let dry = |ran: WordsRunAnswer| (ran.outcome == 2).then_some(ran.count);
         graph.extend(dry(answer.run_graph_with_words.answer));
         machine.extend(dry(answer.run_machine_with_words.answer));
@@ -84,7 +94,7 @@ fn runs_go_dry_at_many_counts() {
 #[test]
 fn many_cases_go_dry_together() {
     let mut together = 0;
-    for case in cases(1, 4_500) {
+    for (case, answer) in stored() {
         let Ok(graph) = parse(&case.text) else {
             continue;
         };
@@ -92,7 +102,6 @@ fn many_cases_go_dry_together() {
         let list: BTreeSet<usize> = case.starters.iter().map(|&block| block as usize).collect();
         let paired = starters.get(case.start_state as usize) == Some(&(case.start_block as usize));
         let patched = !case.graph_patches.is_empty() || !case.machine_patches.is_empty();
-        let answer = answer(&case);
         let (graph, machine) = (answer.run_graph_with_words, answer.run_machine_with_words);
         let dry = graph.answer.outcome == 2 && machine.answer.outcome == 2;
         if paired && dry && !patched && list == starters.iter().copied().collect() {
@@ -107,7 +116,7 @@ fn many_cases_go_dry_together() {
 #[test]
 fn stored_cases_stay_small() {
     let mut stream = Vec::new();
-    cases(1, 4_500).iter().for_each(|case| case.append_to(&mut stream));
+    stored().iter().for_each(|(case, _)| case.append_to(&mut stream));
     assert!(stream.len() < 3_500_000, "{}", stream.len());
 }
 
@@ -133,10 +142,9 @@ fn all_names_are_used() {
         "sx,", "ite,eq,", "ite,ne,", "ite,lt,", "ite,ge,", "ite,ltu,", "ite,geu,", "goto,",
         "halt\n", ",-2147483648\n", ",2147483647\n", "graph,64,16\n", "block,63\n", "graph,1,1\n",
     ];
-    let made = cases(1, 4_500);
-    let read = made.iter().filter(|case| answer(case).read.number == 0);
+    let read = stored().iter().filter(|(_, answer)| answer.read.number == 0);
     let texts: Vec<String> =
-        read.map(|case| String::from_utf8_lossy(&case.text).into_owned()).collect();
+        read.map(|(case, _)| String::from_utf8_lossy(&case.text).into_owned()).collect();
     for name in names {
         assert!(texts.iter().filter(|text| text.contains(name)).count() > 2, "{name}");
     }
@@ -145,8 +153,7 @@ fn all_names_are_used() {
 /// Budgets are such that every answer comes soon.
 #[test]
 fn runs_are_short() {
-    for case in cases(1, 4_500) {
-        let answer = answer(&case);
+    for (_, answer) in stored() {
         let counts = [
             answer.run_graph.answer.count,
             answer.run_machine.answer.count,

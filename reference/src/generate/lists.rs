@@ -27,18 +27,18 @@ fn other_set(random: &mut Random, own: &[u32], blocks: usize, start: u32) -> Vec
     list
 }
 
-/// A list with one of the faults, or with two where the start is block 0.
+/// A list with a fault: empty, lacking block 0 or the start, or with a block from B up.
 fn faulty(random: &mut Random, own: &[u32], blocks: usize, start: u32) -> Vec<u32> {
     let mut list = [own, &[start]].concat();
-    match random.below(8) {
-        0 => list.clear(),
-        1 | 2 => list.retain(|&block| block != 0),
-        3 | 4 => list.retain(|&block| block != start),
-        5 | 6 => list.insert(random.below(list.len() + 1), blocks as u32),
-        _ => {
-            let large = random.pick(&[64, 65, 255, 256, 65_536, 2_147_483_648, u32::MAX]);
-            list.insert(random.below(list.len() + 1), large);
-        }
+    if random.percent(10) {
+        list.clear();
+    } else if random.percent(if start == 0 { 20 } else { 60 }) {
+        let lacking = random.pick(&[0, start]);
+        list.retain(|&block| block != lacking);
+    } else {
+        let large = random.pick(&[64, 65, 255, 256, 65_536, 2_147_483_648, u32::MAX]);
+        let past = random.pick(&[blocks as u32, large]);
+        list.insert(random.below(list.len() + 1), past);
     }
     list
 }
@@ -64,12 +64,12 @@ pub fn starters(random: &mut Random, own: &[usize], blocks: usize, start: u32) -
 /// A number of words around what a run needs.
 pub fn length(random: &mut Random, needed: usize) -> usize {
     let length = match random.below(20) {
-        0..=7 => needed,
-        8..=11 => needed.saturating_sub(1),
-        12 => 0,
-        13..=15 => random.below(needed + 1),
-        16..=18 => needed + random.between(1, 4),
-        _ => MAX_WORDS,
+        0 => 0,
+        1..=4 if needed > 1 || random.percent(40) => needed.saturating_sub(1),
+        5..=7 if needed > 1 => random.between(1, needed - 1),
+        8..=10 => needed + random.between(1, 4),
+        11 => MAX_WORDS,
+        _ => needed,
     };
     length.min(MAX_WORDS)
 }

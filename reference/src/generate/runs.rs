@@ -144,9 +144,9 @@ pub fn choose(random: &mut Random, about_starts: bool, case: &mut Case) {
     let states = found.machine.as_ref().map_or(2, |machine| machine.states.len());
     case.start_block = start(random, about_starts, blocks);
     case.start_state = start(random, about_starts, states);
-    if random.percent(35) {
-        // A starter and its state, where the two runs are to agree.
-        let state = random.below(own.len());
+    if random.percent(45) {
+        // A starter and its state, where the two runs are to agree; the entry's more seldom.
+        let state = random.below(own.len()).max(random.below(own.len()));
         (case.start_block, case.start_state) = (own[state] as u32, state as u32);
     }
     case.starters = lists::starters(random, &own, blocks, case.start_block);

@@ -1,10 +1,18 @@
-//! The answer to a case: eight steps, and one line of numbers.
+//! The answer to a case: ten steps, and one line of numbers.
 
 use crate::case::{Case, Patch};
 use crate::listing::listing;
 use crate::operations::{
-    read, run_graph, run_machine, synthesise, write, ReadAnswer, RunAnswer, WriteAnswer,
+    read, run_graph, run_graph_with_words, run_machine, run_machine_with_words, synthesise, write,
+    ReadAnswer, RunAnswer, WordsRunAnswer, WriteAnswer,
 };
+
+/// What a run answered, and the digest of its registers after.
+#[derive(Clone, Copy, Debug, PartialEq, Eq)]
+pub struct Ran<A> {
+    pub answer: A,
+    pub registers: u64,
+}
 
 #[derive(Clone, Debug, PartialEq, Eq)]
 pub struct Answer {
@@ -14,10 +22,10 @@ pub struct Answer {
     pub output_digest: u64,
     pub synthesise: u32,
     pub machine_digest: u64,
-    pub run_graph: RunAnswer,
-    pub graph_registers_digest: u64,
-    pub run_machine: RunAnswer,
-    pub machine_registers_digest: u64,
+    pub run_graph: Ran<RunAnswer>,
+    pub run_machine: Ran<RunAnswer>,
+    pub run_graph_with_words: Ran<WordsRunAnswer>,
+    pub run_machine_with_words: Ran<WordsRunAnswer>,
     pub listing_length: usize,
     pub listing_digest: u64,
 }
@@ -46,7 +54,7 @@ pub fn patch(buffer: &mut [u32], patches: &[Patch]) {
     }
 }
 
-/// The graph and machine buffers as the two runs find them.
+/// The graph and machine buffers as the runs find them.
 pub fn buffers_of(case: &Case) -> (Vec<u32>, Vec<u32>) {
     let mut graph = fresh_words(case.graph_length);
     read(&case.text, &mut graph);
@@ -55,6 +63,13 @@ pub fn buffers_of(case: &Case) -> (Vec<u32>, Vec<u32>) {
     synthesise(&graph, &mut machine);
     patch(&mut machine, &case.machine_patches);
     (graph, machine)
+}
+
+/// Each run has its own copy of the register buffer.
+fn ran<A>(case: &Case, run: impl FnOnce(&mut [u32]) -> A) -> Ran<A> {
+    let mut registers = case.registers.clone();
+    let answer = run(&mut registers);
+    Ran { answer, registers: digest(&registers) }
 }
 
 pub fn answer(case: &Case) -> Answer {
@@ -68,8 +83,9 @@ pub fn answer(case: &Case) -> Answer {
     let synthesise = synthesise(&graph, &mut machine);
     let machine_digest = digest(&machine);
     patch(&mut machine, &case.machine_patches);
-    let mut graph_registers = case.registers.clone();
-    let mut machine_registers = case.registers.clone();
+    let (block, blocks) = (case.start_block, case.block_budget);
+    let (state, cycles) = (case.start_state, case.cycle_budget);
+    let (words, starters) = (&case.words, &case.starters);
     let listing = listing(&case.text);
     Answer {
         read,
@@ -78,20 +94,27 @@ pub fn answer(case: &Case) -> Answer {
         output_digest: digest(&output),
         synthesise,
         machine_digest,
-        run_graph: run_graph(&graph, &mut graph_registers, case.start_block, case.block_budget),
-        graph_registers_digest: digest(&graph_registers),
-        run_machine: run_machine(
-            &machine, &mut machine_registers, case.start_state, case.cycle_budget,
-        ),
-        machine_registers_digest: digest(&machine_registers),
+        run_graph: ran(case, |copy| run_graph(&graph, copy, block, blocks)),
+        run_machine: ran(case, |copy| run_machine(&machine, copy, state, cycles)),
+        run_graph_with_words: ran(case, |copy| {
+            run_graph_with_words(&graph, copy, block, blocks, words, starters)
+        }),
+        run_machine_with_words: ran(case, |copy| {
+            run_machine_with_words(&machine, copy, state, cycles, words)
+        }),
         listing_length: listing.len(),
         listing_digest: digest(listing.as_bytes()),
     }
 }
 
-fn run_fields(run: &RunAnswer, registers: u64) -> Vec<u64> {
-    let halted = u64::from(run.halted);
-    vec![u64::from(run.number), halted, u64::from(run.count), u64::from(run.next), registers]
+fn run_fields(ran: &Ran<RunAnswer>) -> [u64; 5] {
+    let RunAnswer { number, halted, count, next } = ran.answer;
+    [number.into(), halted.into(), count.into(), next.into(), ran.registers]
+}
+
+fn words_run_fields(ran: &Ran<WordsRunAnswer>) -> [u64; 5] {
+    let WordsRunAnswer { number, outcome, count, next } = ran.answer;
+    [number.into(), outcome.into(), count.into(), next.into(), ran.registers]
 }
 
 impl Answer {
@@ -107,8 +130,10 @@ impl Answer {
             u64::from(self.synthesise),
             self.machine_digest,
         ];
-        fields.extend(run_fields(&self.run_graph, self.graph_registers_digest));
-        fields.extend(run_fields(&self.run_machine, self.machine_registers_digest));
+        fields.extend(run_fields(&self.run_graph));
+        fields.extend(run_fields(&self.run_machine));
+        fields.extend(words_run_fields(&self.run_graph_with_words));
+        fields.extend(words_run_fields(&self.run_machine_with_words));
         fields.extend([self.listing_length as u64, self.listing_digest]);
         let printed: Vec<String> = fields.iter().map(u64::to_string).collect();
         printed.join(",")

@@ -6,6 +6,8 @@ pub const MAX_OUTPUT_BUFFER: usize = 17_000;
 pub const MAX_MACHINE_BUFFER: usize = 13_700;
 pub const MAX_REGISTER_BUFFER: usize = 20;
 pub const MAX_PATCHES: usize = 64;
+pub const MAX_WORDS: usize = 64;
+pub const MAX_STARTERS: usize = 70;
 
 /// A place in a buffer and the word put there.
 pub type Patch = (u32, u32);
@@ -23,10 +25,12 @@ pub struct Case {
     pub block_budget: u32,
     pub start_state: u32,
     pub cycle_budget: u32,
+    pub words: Vec<u32>,
+    pub starters: Vec<u32>,
 }
 
 impl Case {
-    /// A case with exact buffers, no damage and small budgets.
+    /// A case with exact buffers, no damage, small budgets and a word for each cycle.
     pub fn plain(text: &[u8]) -> Case {
         Case {
             text: text.to_vec(),
@@ -40,6 +44,8 @@ impl Case {
             block_budget: 40,
             start_state: 0,
             cycle_budget: 20,
+            words: (1..=20).collect(),
+            starters: vec![0],
         }
     }
 
@@ -51,17 +57,23 @@ impl Case {
         put(stream, self.output_length);
         put(stream, self.machine_length);
         put_patches(stream, &self.machine_patches);
-        put(stream, self.registers.len() as u32);
-        self.registers.iter().for_each(|&word| put(stream, word));
+        put_list(stream, &self.registers);
         put(stream, self.start_block);
         put(stream, self.block_budget);
         put(stream, self.start_state);
         put(stream, self.cycle_budget);
+        put_list(stream, &self.words);
+        put_list(stream, &self.starters);
     }
 }
 
 fn put(stream: &mut Vec<u8>, word: u32) {
     stream.extend(word.to_le_bytes());
+}
+
+fn put_list(stream: &mut Vec<u8>, words: &[u32]) {
+    put(stream, words.len() as u32);
+    words.iter().for_each(|&word| put(stream, word));
 }
 
 fn put_patches(stream: &mut Vec<u8>, patches: &[Patch]) {
@@ -99,8 +111,8 @@ impl<'a> Stream<'a> {
         (0..count).map(|_| Some((self.word()?, self.word()?))).collect()
     }
 
-    fn registers(&mut self) -> Option<Vec<u32>> {
-        let count = self.count(MAX_REGISTER_BUFFER)?;
+    fn list(&mut self, limit: usize) -> Option<Vec<u32>> {
+        let count = self.count(limit)?;
         (0..count).map(|_| self.word()).collect()
     }
 
@@ -113,11 +125,13 @@ impl<'a> Stream<'a> {
             output_length: self.count(MAX_OUTPUT_BUFFER)?,
             machine_length: self.count(MAX_MACHINE_BUFFER)?,
             machine_patches: self.patches()?,
-            registers: self.registers()?,
+            registers: self.list(MAX_REGISTER_BUFFER)?,
             start_block: self.word()?,
             block_budget: self.word()?,
             start_state: self.word()?,
             cycle_budget: self.word()?,
+            words: self.list(MAX_WORDS)?,
+            starters: self.list(MAX_STARTERS)?,
         })
     }
 }

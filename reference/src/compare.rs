@@ -8,40 +8,62 @@ mod report;
 mod tests;
 
 use crate::tally::Tally;
-use check::check;
+use check::{check, Compared};
 use library::{Library, Operation, Proved};
 use reference::generate::Cases;
 
-/// So many cases hit every number that paper 01 names.
+/// So many cases hit every number that the papers name, and every outcome.
 const CASES_FOR_ALL: usize = 2_000;
 
-/// An operation and the number that it answered.
-type Hit = (Operation, u32);
+/// What a case hits: a number that an operation answers, 0 included, or how a run with words ends.
+#[derive(Clone, Copy, Debug, PartialEq, Eq, PartialOrd, Ord)]
+enum Hit {
+    Number(Operation, u32),
+    Outcome(Operation, u32),
+}
+
+impl Hit {
+    fn name(&self) -> String {
+        match self {
+            Hit::Number(operation, number) => format!("{},{number}", operation.name()),
+            Hit::Outcome(operation, outcome) => {
+                format!("outcome of {},{outcome}", operation.name())
+            }
+        }
+    }
+}
+
+fn count_hits(tally: &mut Tally<Hit>, compared: &Compared) {
+    let (operation, [number, outcome, ..]) = (compared.operation, compared.found);
+    tally.count(Hit::Number(operation, number), 1);
+    if number == 0 && !operation.outcomes().is_empty() {
+        tally.count(Hit::Outcome(operation, outcome), 1);
+    }
+}
 
 fn tally_all(cases: &Cases, count: usize, library: &impl Library) -> Tally<Hit> {
     Tally::of(count, |tally, index| {
         let case = cases.get(index);
         let compared = check(&case, library);
-        for one in &compared {
-            tally.count((one.operation, one.found[0]), 1);
-        }
+        compared.iter().for_each(|one| count_hits(tally, one));
         if compared.iter().any(|one| !one.same()) {
             tally.differ(index, || report::report(cases.seed(), index, &case, &compared));
         }
     })
 }
 
-/// Every number that paper 01 names for an operation.
+/// Every number that the papers name for an operation, and every outcome.
 fn named() -> impl Iterator<Item = Hit> {
-    let operations = Operation::ALL.into_iter();
-    operations.flat_map(|one| one.numbers().iter().map(move |&number| (one, number)))
+    Operation::ALL.into_iter().flat_map(|one| {
+        let numbers = one.numbers().iter().map(move |&number| Hit::Number(one, number));
+        numbers.chain(one.outcomes().iter().map(move |&outcome| Hit::Outcome(one, outcome)))
+    })
 }
 
-/// What is printed; an error where a case differs or a number was not hit.
+/// What is printed; an error where a case differs or something named was not hit.
 fn outcome(seed: u64, count: usize, tally: &Tally<Hit>) -> Result<String, String> {
     let missing = if count < CASES_FOR_ALL { Vec::new() } else { tally.missing(named()) };
-    let name = |(operation, number): &Hit| format!("{},{number}", operation.name());
-    tally.outcome(name, &missing, &format!("seed {seed}: {count} cases"))
+    tally.outcome(Hit::name, &missing, &format!("seed {seed}: {count} cases"))
 }
 
 fn compare(seed: u64, count: usize, library: &impl Library) -> Result<String, String> {

@@ -28,10 +28,28 @@ pub enum Comparison {
 
 #[derive(Clone, Copy, Debug, PartialEq, Eq)]
 pub enum Instruction {
-    Set { d: usize, literal: i32 },
-    Copy { d: usize, a: usize },
-    SignExtend { d: usize, a: usize },
-    Binary { op: Binary, d: usize, a: usize, b: usize },
+    Set {
+        d: usize,
+        literal: i32,
+    },
+    /// The word of the last arrival.
+    In {
+        d: usize,
+    },
+    Copy {
+        d: usize,
+        a: usize,
+    },
+    SignExtend {
+        d: usize,
+        a: usize,
+    },
+    Binary {
+        op: Binary,
+        d: usize,
+        a: usize,
+        b: usize,
+    },
 }
 
 #[derive(Clone, Copy, Debug, PartialEq, Eq)]
@@ -56,6 +74,7 @@ pub struct Graph {
 pub const SET: u32 = 1;
 pub const COPY: u32 = 2;
 pub const SIGN_EXTEND: u32 = 11;
+pub const IN: u32 = 20;
 
 const BINARIES: [(Binary, u32, &str); 8] = [
     (Binary::Add, 3, "add"),
@@ -179,6 +198,7 @@ impl Instruction {
     pub fn target(self) -> usize {
         match self {
             Instruction::Set { d, .. }
+            | Instruction::In { d }
             | Instruction::Copy { d, .. }
             | Instruction::SignExtend { d, .. }
             | Instruction::Binary { d, .. } => d,
@@ -188,16 +208,17 @@ impl Instruction {
     /// Every register the instruction names, the written one included.
     pub fn registers(self) -> Vec<usize> {
         match self {
-            Instruction::Set { d, .. } => vec![d],
+            Instruction::Set { d, .. } | Instruction::In { d } => vec![d],
             Instruction::Copy { d, a } | Instruction::SignExtend { d, a } => vec![d, a],
             Instruction::Binary { d, a, b, .. } => vec![d, a, b],
         }
     }
 
-    /// The word the instruction writes into its register.
-    pub fn value(self, registers: &[u32]) -> u32 {
+    /// The word the instruction writes into its register, given that of the last arrival.
+    pub fn value(self, registers: &[u32], word: u32) -> u32 {
         match self {
             Instruction::Set { literal, .. } => literal as u32,
+            Instruction::In { .. } => word,
             Instruction::Copy { a, .. } => registers[a],
             Instruction::SignExtend { a, .. } => sign_extend(registers[a]),
             Instruction::Binary { op, a, b, .. } => op.apply(registers[a], registers[b]),
@@ -223,7 +244,18 @@ impl Ending {
     }
 }
 
+impl Block {
+    fn reads_words(&self) -> bool {
+        self.instructions.iter().any(|next| matches!(next, Instruction::In { .. }))
+    }
+}
+
 impl Graph {
+    /// Whether any block holds `in`, an unreachable one included.
+    pub fn reads_words(&self) -> bool {
+        self.blocks.iter().any(Block::reads_words)
+    }
+
     pub fn successors(&self, block: usize) -> Vec<usize> {
         self.blocks[block].ending.successors()
     }

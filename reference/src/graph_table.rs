@@ -1,7 +1,7 @@
 //! A graph as its table of 2,562 words, and back.
 
 use crate::graph::{
-    Binary, Block, Comparison, Ending, Graph, Instruction, COPY, MAX_BLOCKS, MAX_INSTRUCTIONS,
+    Binary, Block, Comparison, Ending, Graph, Instruction, COPY, IN, MAX_BLOCKS, MAX_INSTRUCTIONS,
     MAX_REGISTERS, SET, SIGN_EXTEND,
 };
 
@@ -16,6 +16,7 @@ const HALT: u32 = 3;
 fn instruction_words(instruction: Instruction) -> [u32; 4] {
     match instruction {
         Instruction::Set { d, literal } => [SET, d as u32, literal as u32, 0],
+        Instruction::In { d } => [IN, d as u32, 0, 0],
         Instruction::Copy { d, a } => [COPY, d as u32, a as u32, 0],
         Instruction::SignExtend { d, a } => [SIGN_EXTEND, d as u32, a as u32, 0],
         Instruction::Binary { op, d, a, b } => [op.code(), d as u32, a as u32, b as u32],
@@ -55,6 +56,7 @@ fn decode_instruction(words: &[u32], registers: usize) -> Option<Instruction> {
     let d = below(words[1], registers)?;
     match words[0] {
         SET => Some(Instruction::Set { d, literal: words[2] as i32 }),
+        IN => Some(Instruction::In { d }),
         COPY => Some(Instruction::Copy { d, a: below(words[2], registers)? }),
         SIGN_EXTEND => Some(Instruction::SignExtend { d, a: below(words[2], registers)? }),
         code => {

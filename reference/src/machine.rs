@@ -15,6 +15,8 @@ pub enum Source {
 #[derive(Clone, Copy, Debug, PartialEq, Eq)]
 pub enum Wire {
     Set(u32),
+    /// The word sampled at the start of the cycle.
+    In,
     Copy(Source),
     SignExtend(Source),
     Binary(Binary, Source, Source),
@@ -42,6 +44,11 @@ impl Machine {
     pub fn wire_count(&self) -> usize {
         self.states.iter().map(|state| state.wires.len()).sum()
     }
+
+    /// Whether any state has a wire of code 20.
+    pub fn reads_words(&self) -> bool {
+        self.states.iter().any(|state| state.wires.contains(&Wire::In))
+    }
 }
 
 impl Source {
@@ -54,11 +61,12 @@ impl Source {
 }
 
 impl Wire {
-    /// The wire's word, from the cycle's first registers and earlier wires.
-    pub fn value(self, registers: &[u32], wires: &[u32]) -> u32 {
+    /// The wire's word, from the cycle's first registers, its sampled word and earlier wires.
+    pub fn value(self, registers: &[u32], word: u32, wires: &[u32]) -> u32 {
         let read = |source: Source| source.read(registers, wires);
         match self {
             Wire::Set(literal) => literal,
+            Wire::In => word,
             Wire::Copy(a) => read(a),
             Wire::SignExtend(a) => sign_extend(read(a)),
             Wire::Binary(op, a, b) => op.apply(read(a), read(b)),

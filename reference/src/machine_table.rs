@@ -1,6 +1,6 @@
 //! A machine as its table of 13,634 words, and any such table checked.
 
-use crate::graph::{Binary, Comparison, COPY, MAX_BLOCKS, MAX_REGISTERS, SET, SIGN_EXTEND};
+use crate::graph::{Binary, Comparison, COPY, IN, MAX_BLOCKS, MAX_REGISTERS, SET, SIGN_EXTEND};
 use crate::grouping::Grouping;
 use crate::machine::{Machine, Source, State, Wire, MAX_STATES, MAX_WIRES};
 use std::collections::BTreeSet;
@@ -29,6 +29,7 @@ fn wire_words(wire: Wire) -> [u32; WIRE_WORDS] {
     let word = reference;
     match wire {
         Wire::Set(literal) => [SET, literal, 0, 0],
+        Wire::In => [IN, 0, 0, 0],
         Wire::Copy(a) => [COPY, word(a), 0, 0],
         Wire::SignExtend(a) => [SIGN_EXTEND, word(a), 0, 0],
         Wire::Binary(op, a, b) => [op.code(), word(a), word(b), 0],
@@ -91,6 +92,7 @@ impl Scope {
         let b = || self.source(words[2]);
         match words[0] {
             SET => Some(Wire::Set(words[1])),
+            IN => Some(Wire::In),
             COPY => Some(Wire::Copy(a()?)),
             SIGN_EXTEND => Some(Wire::SignExtend(a()?)),
             AND_NOT => Some(Wire::AndNot(a()?, b()?)),

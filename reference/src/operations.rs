@@ -1,11 +1,13 @@
-//! The five operations on lent buffers, with their refusal numbers.
+//! The seven operations on lent buffers, with their refusal numbers.
 
-use crate::graph::MAX_REGISTERS;
+use crate::block_set::BlockSet;
+use crate::graph::{Graph, MAX_REGISTERS};
 use crate::graph_table::{self, GRAPH_WORDS};
+use crate::machine::Machine;
 use crate::machine_table::{self, MACHINE_WORDS};
 use crate::parse::{parse, MAX_TEXT};
 use crate::print::print;
-use crate::run::{self, Outcome};
+use crate::run::{self, Outcome, Run};
 use crate::synthesis;
 
 #[derive(Clone, Copy, Debug, PartialEq, Eq)]
@@ -33,9 +35,32 @@ impl RunAnswer {
         RunAnswer { number, halted: false, count: 0, next: 0 }
     }
 
-    fn ran(outcome: Outcome) -> RunAnswer {
-        let Outcome { halted, count, next } = outcome;
-        RunAnswer { number: 0, halted, count, next }
+    fn of(run: Result<Run, u32>) -> RunAnswer {
+        let Run { outcome, count, next } = match run {
+            Ok(run) => run,
+            Err(number) => return RunAnswer::refused(number),
+        };
+        RunAnswer { number: 0, halted: outcome == Outcome::Halted, count, next }
+    }
+}
+
+/// The outcome is 0 spent, 1 halted, 2 dry.
+#[derive(Clone, Copy, Debug, PartialEq, Eq)]
+pub struct WordsRunAnswer {
+    pub number: u32,
+    pub outcome: u32,
+    pub count: u32,
+    pub next: u32,
+}
+
+impl WordsRunAnswer {
+    fn of(run: Result<Run, u32>) -> WordsRunAnswer {
+        match run {
+            Ok(Run { outcome, count, next }) => {
+                WordsRunAnswer { number: 0, outcome: outcome as u32, count, next }
+            }
+            Err(number) => WordsRunAnswer { number, outcome: 0, count: 0, next: 0 },
+        }
     }
 }
 
@@ -85,35 +110,117 @@ pub fn synthesise(table: &[u32], machine: &mut [u32]) -> u32 {
     0
 }
 
-/// The start as an index, where it is below the limit.
-fn start_below(start: u32, limit: usize) -> Option<usize> {
-    usize::try_from(start).ok().filter(|&index| index < limit)
+/// A word as an index, where it is below the limit.
+fn below(word: u32, limit: usize) -> Option<usize> {
+    usize::try_from(word).ok().filter(|&index| index < limit)
+}
+
+/// The graph of a run, or 7 or 6.
+fn run_of_graph(table: &[u32], registers: &[u32]) -> Result<Graph, u32> {
+    if table.len() < GRAPH_WORDS || registers.len() < MAX_REGISTERS {
+        return Err(7);
+    }
+    graph_table::decode(table).ok_or(6)
+}
+
+/// The machine of a run, or 7 or 10.
+fn run_of_machine(table: &[u32], registers: &[u32]) -> Result<Machine, u32> {
+    if table.len() < MACHINE_WORDS || registers.len() < MAX_REGISTERS {
+        return Err(7);
+    }
+    machine_table::decode(table).ok_or(10)
+}
+
+fn start_below(start: u32, limit: usize) -> Result<usize, u32> {
+    below(start, limit).ok_or(9)
+}
+
+/// A list of starters as a set: it holds block 0, the start and no block from B up, or 11.
+fn starter_set(list: &[u32], blocks: usize, start: usize) -> Result<BlockSet, u32> {
+    let set: Option<BlockSet> = list.iter().map(|&word| below(word, blocks)).collect();
+    set.filter(|set| set.contains(0) && set.contains(start)).ok_or(11)
+}
+
+fn graph_alone(table: &[u32], registers: &mut [u32], start: u32, budget: u32) -> Result<Run, u32> {
+    let graph = run_of_graph(table, registers)?;
+    if graph.reads_words() {
+        return Err(12);
+    }
+    let start = start_below(start, graph.blocks.len())?;
+    let used = &mut registers[..graph.registers];
+    // Nothing reads a word, so it does not matter which blocks are starters.
+    let starters = BlockSet::default();
+    Ok(run::run_graph(&graph, used, start, budget, run::unread_words(), starters))
+}
+
+fn graph_with_words(
+    table: &[u32],
+    registers: &mut [u32],
+    start: u32,
+    budget: u32,
+    words: &[u32],
+    starters: &[u32],
+) -> Result<Run, u32> {
+    let graph = run_of_graph(table, registers)?;
+    let start = start_below(start, graph.blocks.len())?;
+    let starters = starter_set(starters, graph.blocks.len(), start)?;
+    let used = &mut registers[..graph.registers];
+    Ok(run::run_graph(&graph, used, start, budget, words.iter().copied(), starters))
+}
+
+fn machine_alone(
+    table: &[u32],
+    registers: &mut [u32],
+    start: u32,
+    budget: u32,
+) -> Result<Run, u32> {
+    let machine = run_of_machine(table, registers)?;
+    if machine.reads_words() {
+        return Err(12);
+    }
+    let start = start_below(start, machine.states.len())?;
+    let used = &mut registers[..machine.registers];
+    Ok(run::run_machine(&machine, used, start, budget, run::unread_words()))
+}
+
+fn machine_with_words(
+    table: &[u32],
+    registers: &mut [u32],
+    start: u32,
+    budget: u32,
+    words: &[u32],
+) -> Result<Run, u32> {
+    let machine = run_of_machine(table, registers)?;
+    let start = start_below(start, machine.states.len())?;
+    let used = &mut registers[..machine.registers];
+    Ok(run::run_machine(&machine, used, start, budget, words.iter().copied()))
 }
 
 pub fn run_graph(table: &[u32], registers: &mut [u32], start: u32, budget: u32) -> RunAnswer {
-    if table.len() < GRAPH_WORDS || registers.len() < MAX_REGISTERS {
-        return RunAnswer::refused(7);
-    }
-    let Some(graph) = graph_table::decode(table) else {
-        return RunAnswer::refused(6);
-    };
-    let Some(start) = start_below(start, graph.blocks.len()) else {
-        return RunAnswer::refused(9);
-    };
-    let used = &mut registers[..graph.registers];
-    RunAnswer::ran(run::run_graph(&graph, used, start, budget))
+    RunAnswer::of(graph_alone(table, registers, start, budget))
 }
 
 pub fn run_machine(table: &[u32], registers: &mut [u32], start: u32, budget: u32) -> RunAnswer {
-    if table.len() < MACHINE_WORDS || registers.len() < MAX_REGISTERS {
-        return RunAnswer::refused(7);
-    }
-    let Some(machine) = machine_table::decode(table) else {
-        return RunAnswer::refused(10);
-    };
-    let Some(start) = start_below(start, machine.states.len()) else {
-        return RunAnswer::refused(9);
-    };
-    let used = &mut registers[..machine.registers];
-    RunAnswer::ran(run::run_machine(&machine, used, start, budget))
+    RunAnswer::of(machine_alone(table, registers, start, budget))
+}
+
+pub fn run_graph_with_words(
+    table: &[u32],
+    registers: &mut [u32],
+    start: u32,
+    budget: u32,
+    words: &[u32],
+    starters: &[u32],
+) -> WordsRunAnswer {
+    WordsRunAnswer::of(graph_with_words(table, registers, start, budget, words, starters))
+}
+
+pub fn run_machine_with_words(
+    table: &[u32],
+    registers: &mut [u32],
+    start: u32,
+    budget: u32,
+    words: &[u32],
+) -> WordsRunAnswer {
+    WordsRunAnswer::of(machine_with_words(table, registers, start, budget, words))
 }

@@ -50,6 +50,7 @@ fn ite(comparison: &str, numbers: [&str; 4]) -> Option<Line> {
 fn instruction(fields: &[&str]) -> Option<Line> {
     let instruction = match *fields {
         ["set", d, value] => Instruction::Set { d: number(d)?, literal: literal(value)? },
+        ["in", d] => Instruction::In { d: number(d)? },
         ["copy", d, a] => Instruction::Copy { d: number(d)?, a: number(a)? },
         ["sx", d, a] => Instruction::SignExtend { d: number(d)?, a: number(a)? },
         [name, d, a, b] => {

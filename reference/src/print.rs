@@ -5,6 +5,7 @@ use crate::graph::{Ending, Graph, Instruction};
 fn instruction_line(instruction: Instruction) -> String {
     match instruction {
         Instruction::Set { d, literal } => format!("set,{d},{literal}\n"),
+        Instruction::In { d } => format!("in,{d}\n"),
         Instruction::Copy { d, a } => format!("copy,{d},{a}\n"),
         Instruction::SignExtend { d, a } => format!("sx,{d},{a}\n"),
         Instruction::Binary { op, d, a, b } => format!("{},{d},{a},{b}\n", op.name()),

@@ -1,37 +1,86 @@
-//! How many cases hit each refusal number of each operation.
+//! How many cases hit each refusal number of each operation, and each outcome of a run.
 
 use crate::answer::{answer, Answer};
 use crate::case::Case;
 use std::collections::BTreeMap;
 
-/// Counts by name and number, in the order of the names.
+/// What is counted, in the order of printing.
+#[derive(Clone, Copy, Debug, PartialEq, Eq, PartialOrd, Ord)]
+pub enum Counted {
+    Read,
+    Write,
+    Synthesise,
+    RunGraph,
+    RunMachine,
+    RunGraphWithWords,
+    RunMachineWithWords,
+    GraphHalted,
+    MachineHalted,
+    GraphOutcome,
+    MachineOutcome,
+    WriteOfPatched,
+    RunOfPatched,
+    WordsRunOfPatched,
+}
+
+impl Counted {
+    fn name(self) -> &'static str {
+        match self {
+            Counted::Read => "read",
+            Counted::Write => "write",
+            Counted::Synthesise => "synthesise",
+            Counted::RunGraph => "run graph",
+            Counted::RunMachine => "run machine",
+            Counted::RunGraphWithWords => "run graph with words",
+            Counted::RunMachineWithWords => "run machine with words",
+            Counted::GraphHalted => "graph halted",
+            Counted::MachineHalted => "machine halted",
+            Counted::GraphOutcome => "graph outcome with words",
+            Counted::MachineOutcome => "machine outcome with words",
+            Counted::WriteOfPatched => "write of a patched graph",
+            Counted::RunOfPatched => "run of a patched machine",
+            Counted::WordsRunOfPatched => "run with words of a patched machine",
+        }
+    }
+}
+
+/// Counts by what is counted and its number or outcome.
 #[derive(Default)]
 pub struct Stats {
-    counts: BTreeMap<(&'static str, u32), usize>,
+    counts: BTreeMap<(Counted, u32), usize>,
 }
 
 impl Stats {
-    fn count(&mut self, name: &'static str, number: u32) {
-        *self.counts.entry((name, number)).or_insert(0) += 1;
+    fn count(&mut self, counted: Counted, number: u32) {
+        *self.counts.entry((counted, number)).or_insert(0) += 1;
     }
 
     fn add(&mut self, case: &Case, answer: &Answer) {
-        self.count("1 read", answer.read.number);
-        self.count("2 write", answer.write.number);
-        self.count("3 synthesise", answer.synthesise);
-        self.count("4 run graph", answer.run_graph.number);
-        self.count("5 run machine", answer.run_machine.number);
-        if answer.run_graph.number == 0 {
-            self.count("6 graph halted", u32::from(answer.run_graph.halted));
-        }
-        if answer.run_machine.number == 0 {
-            self.count("7 machine halted", u32::from(answer.run_machine.halted));
+        let (graph, machine) = (answer.run_graph.answer, answer.run_machine.answer);
+        let graph_words = answer.run_graph_with_words.answer;
+        let machine_words = answer.run_machine_with_words.answer;
+        self.count(Counted::Read, answer.read.number);
+        self.count(Counted::Write, answer.write.number);
+        self.count(Counted::Synthesise, answer.synthesise);
+        self.count(Counted::RunGraph, graph.number);
+        self.count(Counted::RunMachine, machine.number);
+        self.count(Counted::RunGraphWithWords, graph_words.number);
+        self.count(Counted::RunMachineWithWords, machine_words.number);
+        let outcomes = [
+            (Counted::GraphHalted, graph.number, u32::from(graph.halted)),
+            (Counted::MachineHalted, machine.number, u32::from(machine.halted)),
+            (Counted::GraphOutcome, graph_words.number, graph_words.outcome),
+            (Counted::MachineOutcome, machine_words.number, machine_words.outcome),
+        ];
+        for (counted, _, outcome) in outcomes.into_iter().filter(|&(_, number, _)| number == 0) {
+            self.count(counted, outcome);
         }
         if !case.graph_patches.is_empty() {
-            self.count("8 write of a patched graph", answer.write.number);
+            self.count(Counted::WriteOfPatched, answer.write.number);
         }
         if !case.machine_patches.is_empty() {
-            self.count("9 run of a patched machine", answer.run_machine.number);
+            self.count(Counted::RunOfPatched, machine.number);
+            self.count(Counted::WordsRunOfPatched, machine_words.number);
         }
     }
 
@@ -43,14 +92,14 @@ impl Stats {
         stats
     }
 
-    pub fn get(&self, name: &'static str, number: u32) -> usize {
-        self.counts.get(&(name, number)).copied().unwrap_or(0)
+    pub fn get(&self, counted: Counted, number: u32) -> usize {
+        self.counts.get(&(counted, number)).copied().unwrap_or(0)
     }
 
-    /// One line for each name and number: name, number, cases.
+    /// One line for each count: name, number, cases.
     pub fn print(&self) -> String {
-        let line = |(&(name, number), count): (&(&str, u32), &usize)| {
-            format!("{},{number},{count}\n", &name[2..])
+        let line = |(&(counted, number), count): (&(Counted, u32), &usize)| {
+            format!("{},{number},{count}\n", counted.name())
         };
         self.counts.iter().map(line).collect()
     }

@@ -55,6 +55,7 @@ impl Builder<'_> {
     fn instruct(&mut self, instruction: Instruction, values: &mut [Source]) {
         let wire = match instruction {
             Instruction::Set { literal, .. } => Wire::Set(literal as u32),
+            Instruction::In { .. } => Wire::In,
             Instruction::Copy { a, .. } => Wire::Copy(values[a]),
             Instruction::SignExtend { a, .. } => Wire::SignExtend(values[a]),
             Instruction::Binary { op, a, b, .. } => Wire::Binary(op, values[a], values[b]),

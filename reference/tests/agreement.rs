@@ -1,18 +1,21 @@
-//! Demand 3 executed: whole machine runs against the graph's own runs.
+//! Demand 3 executed, on equal words: whole machine runs against the graph's own runs.
 
 mod common;
 
-use common::many_graphs;
+use common::*;
 use reference::generate::words;
 use reference::graph::Graph;
 use reference::graph_table;
 use reference::grouping::{group, Grouping};
 use reference::machine_table::MACHINE_WORDS;
-use reference::operations::{run_graph, run_machine, synthesise, RunAnswer};
+use reference::operations::{
+    run_graph, run_graph_with_words, run_machine, run_machine_with_words, synthesise,
+    WordsRunAnswer,
+};
 use reference::random::Random;
 use reference::run::graph_step;
 
-/// Where the graph is after an arrival, or that it has halted.
+/// Where the graph is at an arrival, or that it has halted.
 #[derive(Clone)]
 struct Moment {
     block: Option<usize>,
@@ -20,86 +23,163 @@ struct Moment {
     blocks_run: usize,
 }
 
-/// Steps from an arrival up to the one that makes the next, or halts.
-fn to_next_arrival(graph: &Graph, grouping: &Grouping, from: &Moment) -> Moment {
-    let mut registers = from.registers.clone();
-    let mut at = from.block.expect("the graph has not halted");
-    let state = grouping.state_of[&at];
-    for blocks_run in 1.. {
-        assert_eq!(grouping.state_of[&at], state, "a cycle leaves its state");
-        let next = graph_step(graph, at, &mut registers);
-        match next {
-            Some(block) if !grouping.starters.contains(&block) => at = block,
-            _ => return Moment { block: next, registers, blocks_run },
-        }
-    }
-    unreachable!()
+/// A graph with what synthesis makes of it.
+struct Made {
+    graph: Graph,
+    grouping: Grouping,
+    table: Vec<u32>,
+    machine: Vec<u32>,
+    starters: Vec<u32>,
 }
 
-/// Arrivals 0, 1, 2 and so on, to the halt or to so many.
-fn arrivals(graph: &Graph, grouping: &Grouping, registers: &[u32], most: usize) -> Vec<Moment> {
-    let mut moments = vec![Moment { block: Some(0), registers: registers.to_vec(), blocks_run: 0 }];
-    while moments.len() <= most {
-        let last = moments[moments.len() - 1].clone();
-        let Some(block) = last.block else {
-            break;
+/// What a run begins with.
+struct Begin<'a> {
+    state: usize,
+    registers: &'a [u32],
+    words: &'a [u32],
+}
+
+impl Made {
+    fn of(graph: Graph) -> Made {
+        let (grouping, table) = (group(&graph), graph_table::encode(&graph));
+        let mut machine = vec![0; MACHINE_WORDS];
+        assert_eq!(synthesise(&table, &mut machine), 0);
+        let starters = grouping.starters.iter().map(|&block| block as u32).collect();
+        Made { graph, grouping, table, machine, starters }
+    }
+
+    /// Steps from an arrival, on its word, up to the one that makes the next, or halts.
+    fn to_next_arrival(&self, from: &Moment, word: u32) -> Moment {
+        let (mut registers, grouping) = (from.registers.clone(), &self.grouping);
+        let mut at = from.block.expect("the graph has not halted");
+        let state = grouping.state_of[&at];
+        let size = grouping.blocks_of(state).len();
+        for blocks_run in 1..=size {
+            assert_eq!(grouping.state_of[&at], state, "a cycle leaves its state");
+            let next = graph_step(&self.graph, at, &mut registers, word);
+            match next {
+                Some(block) if !grouping.starters.contains(&block) => at = block,
+                _ => return Moment { block: next, registers, blocks_run },
+            }
+        }
+        unreachable!("more blocks in a cycle than the state has")
+    }
+
+    /// Arrivals 0, 1, 2 and so on, to the halt or to the one that has no word.
+    fn arrivals(&self, begin: &Begin) -> Vec<Moment> {
+        let block = Some(self.grouping.starters[begin.state]);
+        let registers = begin.registers[..self.graph.registers].to_vec();
+        let mut moments = vec![Moment { block, registers, blocks_run: 0 }];
+        for &word in begin.words {
+            let last = &moments[moments.len() - 1];
+            if last.block.is_some() {
+                moments.push(self.to_next_arrival(last, word));
+            }
+        }
+        moments
+    }
+
+    /// What the machine is to answer after a budget of k cycles.
+    fn expected(&self, moments: &[Moment], k: usize) -> WordsRunAnswer {
+        let last = moments.len() - 1;
+        let outcome = if k <= last { SPENT } else { DRY };
+        match moments[k.min(last)].block {
+            Some(block) => {
+                let next = self.grouping.state_started_by(block).expect("a starter");
+                ran(outcome, k.min(last) as u32, next as u32)
+            }
+            None => ran(HALTED, last as u32, 255),
+        }
+    }
+
+    /// For every k the machine's run of k cycles, and the graph's run up to its end.
+    fn check(&self, begin: &Begin, cycles: &[usize]) {
+        let moments = self.arrivals(begin);
+        cycles.iter().for_each(|&k| self.check_cycles(begin, &moments, k));
+    }
+
+    fn check_cycles(&self, begin: &Begin, moments: &[Moment], k: usize) {
+        let mut registers = begin.registers.to_vec();
+        let start = begin.state as u32;
+        let answer =
+            run_machine_with_words(&self.machine, &mut registers, start, k as u32, begin.words);
+        assert_eq!(answer, self.expected(moments, k));
+        let passed = &moments[..=k.min(moments.len() - 1)];
+        assert_eq!(registers, self.whole(&passed[passed.len() - 1], begin));
+        self.check_graph_run(begin, passed, answer.outcome);
+        if !self.graph.reads_words() && answer.outcome != DRY {
+            self.check_without_words(begin, k, answer, &registers);
+        }
+    }
+
+    /// A moment's registers with those from R up as they were.
+    fn whole(&self, moment: &Moment, begin: &Begin) -> Vec<u32> {
+        [&moment.registers, &begin.registers[self.graph.registers..]].concat()
+    }
+
+    /// The graph's run on the same words: with the blocks of those cycles, one less, and more.
+    fn check_graph_run(&self, begin: &Begin, moments: &[Moment], outcome: u32) {
+        let blocks: usize = moments.iter().map(|moment| moment.blocks_run).sum();
+        let last = &moments[moments.len() - 1];
+        let start = self.starters[begin.state];
+        let run = |budget: u32| {
+            let mut registers = begin.registers.to_vec();
+            let (words, starters) = (begin.words, &self.starters);
+            let answer =
+                run_graph_with_words(&self.table, &mut registers, start, budget, words, starters);
+            (answer, registers)
         };
-        let next = to_next_arrival(graph, grouping, &last);
-        let size = grouping.blocks_of(grouping.state_of[&block]).len();
-        assert!((1..=size).contains(&next.blocks_run));
-        moments.push(next);
-    }
-    moments
-}
-
-fn expected(grouping: &Grouping, moments: &[Moment], k: usize) -> RunAnswer {
-    let last = moments.len() - 1;
-    let moment = &moments[k.min(last)];
-    match moment.block {
-        Some(block) => {
-            let next = grouping.state_started_by(block).expect("an arrival is at a starter");
-            RunAnswer { number: 0, halted: false, count: k as u32, next: next as u32 }
+        let next = last.block.map_or(255, |block| block as u32);
+        let exact = if outcome == HALTED { HALTED } else { SPENT };
+        let after = self.whole(last, begin);
+        assert_eq!(run(blocks as u32), (ran(exact, blocks as u32, next), after.clone()));
+        if outcome != SPENT {
+            for budget in [blocks as u32 + 1, blocks as u32 + 70, u32::MAX] {
+                assert_eq!(run(budget), (ran(outcome, blocks as u32, next), after.clone()));
+            }
         }
-        None => RunAnswer { number: 0, halted: true, count: last as u32, next: 255 },
+        if blocks > 0 {
+            let (answer, _) = run(blocks as u32 - 1);
+            assert_eq!((answer.outcome, answer.count), (SPENT, blocks as u32 - 1));
+        }
+    }
+
+    /// Runs without words answer the same where nothing reads them.
+    fn check_without_words(
+        &self,
+        begin: &Begin,
+        k: usize,
+        on_words: WordsRunAnswer,
+        after: &[u32],
+    ) {
+        let mut registers = begin.registers.to_vec();
+        let answer = run_machine(&self.machine, &mut registers, begin.state as u32, k as u32);
+        let outcome = u32::from(answer.halted);
+        assert_eq!(
+            WordsRunAnswer { number: 0, outcome, count: answer.count, next: answer.next },
+            on_words
+        );
+        assert_eq!(registers, after);
     }
 }
 
-fn check_graph(graph: &Graph, words: &[u32], most: usize, cycles: &[usize]) {
-    let table = graph_table::encode(graph);
-    let mut machine = vec![0; MACHINE_WORDS];
-    assert_eq!(synthesise(&table, &mut machine), 0);
-    let grouping = group(graph);
-    let moments = arrivals(graph, &grouping, &words[..graph.registers], most);
-    for &k in cycles {
-        let mut registers = words.to_vec();
-        let answer = run_machine(&machine, &mut registers, 0, k as u32);
-        assert_eq!(answer, expected(&grouping, &moments, k));
-        let moment = &moments[k.min(moments.len() - 1)];
-        assert_eq!(registers[..graph.registers], moment.registers[..]);
-        assert_eq!(registers[graph.registers..], words[graph.registers..]);
-        check_graph_run(&table, words, &moments[..=k.min(moments.len() - 1)]);
-    }
-}
-
-/// The graph's interpreter, given the blocks of those cycles, agrees too.
-fn check_graph_run(table: &[u32], words: &[u32], moments: &[Moment]) {
-    let blocks: usize = moments.iter().map(|moment| moment.blocks_run).sum();
-    let last = &moments[moments.len() - 1];
-    let mut registers = words.to_vec();
-    let answer = run_graph(table, &mut registers, 0, blocks as u32);
-    assert_eq!((answer.number, answer.count), (0, blocks as u32));
-    assert_eq!(answer.halted, last.block.is_none());
-    assert_eq!(answer.next, last.block.map_or(255, |block| block as u32));
-    assert_eq!(registers[..last.registers.len()], last.registers[..]);
+fn reading_and_silent(seed: u64, count: usize) -> impl Iterator<Item = Made> {
+    let graphs =
+        many_reading_graphs(seed, count).into_iter().chain(many_silent_graphs(seed + 1, count));
+    graphs.map(Made::of)
 }
 
 #[test]
-fn first_cycles_agree() {
+fn first_cycles_agree_from_every_starter() {
     let mut random = Random::new(21);
-    for graph in many_graphs(22, 1_500) {
-        for _ in 0..2 {
-            let words = words::registers(&mut random, 18);
-            check_graph(&graph, &words, 12, &[0, 1, 2, 3, 4, 5, 6, 9, 12]);
+    for made in reading_and_silent(22, 300) {
+        for state in 0..made.starters.len() {
+            let registers = words::registers(&mut random, 18);
+            let words = words::registers(&mut random, 12);
+            for length in [0, 1, 5, 12] {
+                let begin = Begin { state, registers: &registers, words: &words[..length] };
+                made.check(&begin, &[0, 1, 2, 3, 5, 6, 12, 13]);
+            }
         }
     }
 }
@@ -107,30 +187,56 @@ fn first_cycles_agree() {
 #[test]
 fn long_runs_agree() {
     let mut random = Random::new(23);
-    for graph in many_graphs(24, 250) {
-        let words = words::registers(&mut random, 16);
-        check_graph(&graph, &words, 200, &[50, 100, 199, 200]);
+    for made in reading_and_silent(24, 120) {
+        let registers = words::registers(&mut random, 16);
+        let words = words::registers(&mut random, 200);
+        let state = random.below(made.starters.len());
+        let begin = Begin { state, registers: &registers, words: &words };
+        made.check(&begin, &[50, 100, 199, 200, 201, u32::MAX as usize]);
     }
 }
 
-/// Where the graph halts, the largest budget gives the halting cycle.
+/// Where the graph halts, the largest budget gives the halting cycle; one word less gives dry.
 #[test]
-fn the_largest_budget_agrees() {
+fn halting_runs_agree() {
     let mut random = Random::new(25);
-    let mut halting = 0;
-    for graph in many_graphs(26, 600) {
-        let words = words::registers(&mut random, 16);
-        let grouping = group(&graph);
-        let moments = arrivals(&graph, &grouping, &words[..graph.registers], 300);
-        if moments[moments.len() - 1].block.is_none() {
-            halting += 1;
-            check_graph(
-                &graph,
-                &words,
-                300,
-                &[moments.len() - 1, moments.len(), u32::MAX as usize],
-            );
+    let mut halting = [0, 0];
+    for made in reading_and_silent(26, 400) {
+        let registers = words::registers(&mut random, 16);
+        let words = words::registers(&mut random, 300);
+        let moments = made.arrivals(&Begin { state: 0, registers: &registers, words: &words });
+        let last = moments.len() - 1;
+        if moments[last].block.is_some() {
+            continue;
+        }
+        halting[usize::from(made.graph.reads_words())] += 1;
+        for length in [last - 1, last, last + 1] {
+            let begin = Begin { state: 0, registers: &registers, words: &words[..length] };
+            made.check(&begin, &[last - 1, last, last + 1, u32::MAX as usize]);
         }
     }
-    assert!(halting > 100);
+    assert!(halting.iter().all(|&graphs| graphs > 50), "{halting:?}");
+}
+
+/// A run without words is the run on enough words, whatever they are, where none is read.
+#[test]
+fn runs_without_words_are_runs_on_enough_of_any() {
+    let mut random = Random::new(27);
+    for graph in many_silent_graphs(28, 400) {
+        let blocks = graph.blocks.len();
+        let made = Made::of(graph);
+        let registers = words::registers(&mut random, 16);
+        let any = words::registers(&mut random, 60);
+        for list in [vec![0; 60], any] {
+            let (start, budget) = (random.below(blocks) as u32, random.between(0, 60) as u32);
+            let (mut x, mut y) = (registers.clone(), registers.clone());
+            let alone = run_graph(&made.table, &mut x, start, budget);
+            let starters: Vec<u32> = (0..blocks as u32).collect();
+            let on_words =
+                run_graph_with_words(&made.table, &mut y, start, budget, &list, &starters);
+            let outcome = u32::from(alone.halted);
+            assert_eq!(ran(outcome, alone.count, alone.next), on_words);
+            assert_eq!((alone.number, x), (0, y));
+        }
+    }
 }

@@ -1,9 +1,24 @@
 //! The case stream: its form, its size, and what its cases hit.
 
-use reference::answer::{answer, digest};
-use reference::case::read_cases;
+use reference::answer::{answer, digest, Answer};
+use reference::case::{read_cases, Case};
 use reference::generate::cases;
-use reference::stats::Stats;
+use reference::grouping::group;
+use reference::operations::WordsRunAnswer;
+use reference::parse::parse;
+use reference::stats::{Counted, Stats};
+use std::collections::BTreeSet;
+use std::sync::OnceLock;
+
+/// The cases that are stored, with their answers; several tests look at them.
+fn stored() -> &'static [(Case, Answer)] {
+    static STORED: OnceLock<Vec<(Case, Answer)>> = OnceLock::new();
+    let with_answer = |case: Case| {
+        let answer = answer(&case);
+        (case, answer)
+    };
+    STORED.get_or_init(|| cases(1, 4_500).into_iter().map(with_answer).collect())
+}
 
 #[test]
 fn streams_read_back() {
@@ -24,29 +39,84 @@ fn the_same_seed_makes_the_same_cases() {
 #[test]
 fn every_refusal_is_hit() {
     let stats = Stats::of(&cases(1, 4_500));
-    let expected: [(&str, &[u32]); 5] = [
-        ("1 read", &[0, 1, 2, 3, 4, 5, 7]),
-        ("2 write", &[0, 6, 7, 8]),
-        ("3 synthesise", &[0, 6, 7]),
-        ("4 run graph", &[0, 6, 7, 9]),
-        ("5 run machine", &[0, 7, 9, 10]),
+    let expected: [(Counted, &[u32]); 7] = [
+        (Counted::Read, &[0, 1, 2, 3, 4, 5, 7]),
+        (Counted::Write, &[0, 6, 7, 8]),
+        (Counted::Synthesise, &[0, 6, 7]),
+        (Counted::RunGraph, &[0, 6, 7, 9, 12]),
+        (Counted::RunMachine, &[0, 7, 9, 10, 12]),
+        (Counted::RunGraphWithWords, &[0, 6, 7, 9, 11]),
+        (Counted::RunMachineWithWords, &[0, 7, 9, 10]),
     ];
-    for (name, numbers) in expected {
-        for number in 0..12 {
-            let hits = stats.get(name, number);
-            assert_eq!(hits > 4, numbers.contains(&number), "{name} {number}: {hits}");
+    for (counted, numbers) in expected {
+        for number in 0..16 {
+            let hits = stats.get(counted, number);
+            assert_eq!(hits > 4, numbers.contains(&number), "{counted:?} {number}: {hits}");
         }
     }
-    assert!(stats.get("9 run of a patched machine", 0) > 100);
-    assert!(stats.get("9 run of a patched machine", 10) > 100);
-    assert!(stats.get("8 write of a patched graph", 0) > 30);
-    assert!(stats.get("8 write of a patched graph", 6) > 100);
+    let many = [
+        (Counted::RunGraph, 0, 1_000),
+        (Counted::RunMachine, 0, 1_000),
+        (Counted::RunOfPatched, 0, 100),
+        (Counted::RunOfPatched, 10, 100),
+        (Counted::RunOfPatched, 12, 50),
+        (Counted::WordsRunOfPatched, 0, 100),
+        (Counted::WriteOfPatched, 0, 30),
+        (Counted::WriteOfPatched, 6, 100),
+    ];
+    for (counted, number, least) in many {
+        assert!(stats.get(counted, number) > least, "{counted:?} {number}");
+    }
+    for counted in [Counted::GraphOutcome, Counted::MachineOutcome] {
+        for outcome in 0..3 {
+            assert!(stats.get(counted, outcome) > 400, "{counted:?} {outcome}");
+        }
+    }
+}
+
+/// Runs with words go dry after none, one and many blocks or cycles.
+#[test]
+fn runs_go_dry_at_many_counts() {
+    let (mut graph, mut machine) = (BTreeSet::new(), BTreeSet::new());
+    for (_, answer) in stored() {
+        let dry = |ran: WordsRunAnswer| (ran.outcome == 2).then_some(ran.count);
+        graph.extend(dry(answer.run_graph_with_words.answer));
+        machine.extend(dry(answer.run_machine_with_words.answer));
+    }
+    for counts in [graph, machine] {
+        assert!((0..8).all(|count| counts.contains(&count)), "{counts:?}");
+        assert!(counts.len() > 40 && counts.contains(&64), "{counts:?}");
+    }
+}
+
+/// Where both runs of a case begin at one starter on the machine's starters and both go dry, they
+/// do so with equal registers, as tables without patches must.
+#[test]
+fn many_cases_go_dry_together() {
+    let mut together = 0;
+    for (case, answer) in stored() {
+        let Ok(graph) = parse(&case.text) else {
+            continue;
+        };
+        let starters = group(&graph).starters;
+        let list: BTreeSet<usize> = case.starters.iter().map(|&block| block as usize).collect();
+        let paired = starters.get(case.start_state as usize) == Some(&(case.start_block as usize));
+        let patched = !case.graph_patches.is_empty() || !case.machine_patches.is_empty();
+        let (graph, machine) = (answer.run_graph_with_words, answer.run_machine_with_words);
+        let dry = graph.answer.outcome == 2 && machine.answer.outcome == 2;
+        if paired && dry && !patched && list == starters.iter().copied().collect() {
+            assert_eq!(graph.registers, machine.registers);
+            assert_eq!(graph.answer.next as usize, starters[machine.answer.next as usize]);
+            together += 1;
+        }
+    }
+    assert!(together > 100, "{together}");
 }
 
 #[test]
 fn stored_cases_stay_small() {
     let mut stream = Vec::new();
-    cases(1, 4_500).iter().for_each(|case| case.append_to(&mut stream));
+    stored().iter().for_each(|(case, _)| case.append_to(&mut stream));
     assert!(stream.len() < 3_500_000, "{}", stream.len());
 }
 
@@ -58,9 +128,9 @@ fn digests() {
 }
 
 #[test]
-fn answer_lines_have_twenty_fields() {
+fn answer_lines_have_thirty_fields() {
     for case in cases(8, 40) {
-        assert_eq!(answer(&case).line().split(',').count(), 20);
+        assert_eq!(answer(&case).line().split(',').count(), 30);
     }
 }
 
@@ -68,14 +138,13 @@ fn answer_lines_have_twenty_fields() {
 #[test]
 fn all_names_are_used() {
     let names = [
-        "set,", "copy,", "add,", "sub,", "and,", "or,", "xor,", "shl,", "shr,", "sar,", "sx,",
-        "ite,eq,", "ite,ne,", "ite,lt,", "ite,ge,", "ite,ltu,", "ite,geu,", "goto,", "halt\n",
-        ",-2147483648\n", ",2147483647\n", "graph,64,16\n", "block,63\n", "graph,1,1\n",
+        "in,", "set,", "copy,", "add,", "sub,", "and,", "or,", "xor,", "shl,", "shr,", "sar,",
+        "sx,", "ite,eq,", "ite,ne,", "ite,lt,", "ite,ge,", "ite,ltu,", "ite,geu,", "goto,",
+        "halt\n", ",-2147483648\n", ",2147483647\n", "graph,64,16\n", "block,63\n", "graph,1,1\n",
     ];
-    let made = cases(1, 4_500);
-    let read = made.iter().filter(|case| answer(case).read.number == 0);
+    let read = stored().iter().filter(|(_, answer)| answer.read.number == 0);
     let texts: Vec<String> =
-        read.map(|case| String::from_utf8_lossy(&case.text).into_owned()).collect();
+        read.map(|(case, _)| String::from_utf8_lossy(&case.text).into_owned()).collect();
     for name in names {
         assert!(texts.iter().filter(|text| text.contains(name)).count() > 2, "{name}");
     }
@@ -84,8 +153,13 @@ fn all_names_are_used() {
 /// Budgets are such that every answer comes soon.
 #[test]
 fn runs_are_short() {
-    for case in cases(1, 4_500) {
-        let answer = answer(&case);
-        assert!(answer.run_graph.count <= 20_000 && answer.run_machine.count <= 20_000);
+    for (_, answer) in stored() {
+        let counts = [
+            answer.run_graph.answer.count,
+            answer.run_machine.answer.count,
+            answer.run_graph_with_words.answer.count,
+            answer.run_machine_with_words.answer.count,
+        ];
+        assert!(counts.iter().all(|&count| count <= 20_000), "{counts:?}");
     }
 }

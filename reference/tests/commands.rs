@@ -53,12 +53,13 @@ fn passes(arguments: &[&str]) -> String {
     text
 }
 
-/// The proved library agrees, and every number is hit.
+/// The proved library agrees, and every number and outcome is hit.
 #[test]
 fn compare() {
     let text = passes(&["compare", "3", "2000"]);
     assert!(text.ends_with("seed 3: 2000 cases, 0 differ\n"), "{text}");
     assert!(text.contains("run machine,10,"), "{text}");
+    assert!(text.contains("outcome of run graph with words,2,"), "{text}");
 }
 
 /// The proved library's starters are the least fit set, and every count is above 0.

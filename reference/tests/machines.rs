@@ -6,7 +6,7 @@ use common::*;
 use reference::generate::examples::P7;
 use reference::generate::machine_damage::{Damage, Table, KEPT, REFUSED};
 use reference::machine_table::{self, MACHINE_WORDS, RECORDS_AT, RECORD_WORDS, WIRES_AT};
-use reference::operations::run_machine;
+use reference::operations::{run_machine, run_machine_with_words};
 use reference::random::Random;
 use reference::synthesis::synthesise;
 
@@ -95,7 +95,7 @@ fn sharing() {
 
 #[test]
 fn codes_and_references() {
-    for code in [0, 20, 255, u32::MAX] {
+    for code in [0, 21, 255, 276, u32::MAX] {
         is_refused(&[(wire(5), code)]);
     }
     // Wire 13 of the table is wire 11 of state 1: references up to 26.
@@ -116,6 +116,31 @@ fn codes_and_references() {
             assert_eq!(run_changed(&[(STATE_1 + slot, reference)]).0, 0);
         }
     }
+}
+
+/// Code 20 in a wire of a state below N is 12 without words, and its other words are not read.
+#[test]
+fn code_20() {
+    let wild = [(wire(5), 20), (wire(5) + 1, u32::MAX), (wire(5) + 2, 99), (wire(5) + 3, 15)];
+    for patches in [&wild[..1], &wild] {
+        assert_eq!(run_changed(patches).0, 12);
+    }
+    is_unread(&[(wire(20), 20), (wire(3_071), 20)]);
+    is_unread(&[(STATE_2 + 1, 20), (wire(3) + 3, 20)]);
+    let mut table = machine_table_of(P7);
+    wild.iter().for_each(|&(at, word)| table[at] = word);
+    // With one state the wire belongs to none that can be run.
+    table[0] = 1;
+    assert_eq!(run_machine(&table, &mut registers(&[12, 18]), 0, 9), halted(1));
+    table[0] = 2;
+    // Wire 5 says whether state 1 goes on to block 5, so a nonzero word halts it.
+    let run = |words: &[u32]| {
+        let mut registers = registers(&[12, 18]);
+        (run_machine_with_words(&table, &mut registers, 0, 9, words), registers)
+    };
+    assert_eq!(run(&[0, 1]), (ran(HALTED, 2, 255), registers(&[12, 18])));
+    assert_eq!(run(&[0, 0, 7]), (ran(HALTED, 3, 255), registers(&[12, 6])));
+    assert_eq!(run(&[0, 0]), (ran(DRY, 2, 1), registers(&[12, 6])));
 }
 
 #[test]

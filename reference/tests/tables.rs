@@ -64,6 +64,8 @@ fn block_word_allowed(graph: &Graph, block: usize, place: usize, value: u32) -> 
         let one_operand = |code| matches!(code, 2 | 11);
         let at = &words[1 + 4 * index..][..4];
         return match slot {
+            0 if value == 20 => at[2] == 0 && at[3] == 0,
+            2 | 3 if at[0] == 20 => value == 0,
             0 if at[0] == 1 => value == 1 || (at[2] < r && (2..=11).contains(&value)),
             0 if at[3] != 0 => (3..=10).contains(&value),
             0 => (1..=11).contains(&value),
@@ -93,11 +95,12 @@ fn kind_allowed(ending: &[u32], value: u32) -> bool {
 
 #[test]
 fn every_word_of_a_graph_table_is_checked() {
-    for graph in many_graphs(32, 6) {
+    let reading = many_reading_graphs(35, 3);
+    for graph in many_silent_graphs(32, 4).into_iter().chain(reading) {
         let table = graph_table::encode(&graph);
         for at in 2..GRAPH_WORDS {
             let (block, place) = ((at - 2) / BLOCK_WORDS, (at - 2) % BLOCK_WORDS);
-            for value in (0..=20).chain([63, 64, 255, 256, 2_147_483_648, u32::MAX]) {
+            for value in (0..=22).chain([63, 64, 255, 256, 2_147_483_648, u32::MAX]) {
                 if table[at] == value {
                     continue;
                 }

@@ -19,7 +19,8 @@ fn forms() {
         "halt,", "halt,0", "goto", "goto,", "goto,256", "goto,00", "block", "block,00",
         "block,256", "graph,1", "graph,0,1", "graph,65,1", "graph,1,0", "graph,1,17", "graph,01,1",
         "ite,eq,0,0,0", "ite,eq,0,0,0,0,0", "ite,le,0,0,0,0", "ite,add,0,0,0,0", "ite,eq,0,0,0,",
-        "ite,eq,0,0,256,0", "é,0", "set,0,\u{661}", ",", "1",
+        "in", "in,", "in,0,", "in,0,0", "in,00", "in,256", "in,-1", "in,-0", "in, 0", "In,0",
+        "inn,0", "ite,eq,0,0,256,0", "é,0", "set,0,\u{661}", ",", "1",
     ];
     for line in bad {
         assert_eq!(with_line(line), (2, 3), "{line}");
@@ -27,7 +28,7 @@ fn forms() {
     let good = [
         "set,0,0", "set,1,2147483647", "set,0,-2147483648", "set,0,-1", "copy,1,0", "sx,0,1",
         "add,0,1,1", "sub,0,1,1", "and,0,1,1", "or,0,1,1", "xor,0,1,1", "shl,0,1,1", "shr,0,1,1",
-        "sar,0,1,1",
+        "sar,0,1,1", "in,0", "in,1",
     ];
     for line in good {
         assert_eq!(with_line(line), (0, 0), "{line}");
@@ -47,11 +48,15 @@ fn forms_not_due() {
     assert_eq!(refusal("graph,2,1\nblock,1\nhalt\nblock,0\nhalt\n"), (3, 2));
     assert_eq!(refusal("graph,1,1\nhalt\n"), (3, 2));
     assert_eq!(refusal("graph,1,1\ncopy,9,9\n"), (3, 2));
+    assert_eq!(refusal("graph,1,1\nin,9\n"), (3, 2));
 }
 
 #[test]
 fn registers_and_targets() {
-    for line in ["set,2,0", "copy,0,2", "copy,2,0", "sx,0,255", "add,0,0,2", "add,0,2,0"] {
+    for line in [
+        "in,2", "in,16", "in,255", "set,2,0", "copy,0,2", "copy,2,0", "sx,0,255", "add,0,0,2",
+        "add,0,2,0",
+    ] {
         assert_eq!(with_line(line), (4, 3), "{line}");
     }
     assert_eq!(with_line("goto,1"), (5, 3));
@@ -85,6 +90,8 @@ fn nine_instructions() {
     assert_eq!(refusal(&text("sx,0,0")), (3, 11));
     assert_eq!(refusal(&text("sx,9,0")), (3, 11));
     assert_eq!(refusal(&text("sx,9")), (2, 11));
+    assert_eq!(refusal(&text("in,0")), (3, 11));
+    assert_eq!(refusal(&text("in")), (2, 11));
 }
 
 #[test]

@@ -4,7 +4,7 @@ use super::lent::{Differing, Lent};
 use super::library::{Fields, Library, Operation};
 use reference::answer::{fresh_bytes, fresh_words, patch};
 use reference::case::Case;
-use reference::operations::{self, RunAnswer};
+use reference::operations::{self, RunAnswer, WordsRunAnswer};
 
 /// What an operation answered, and the first place of its buffers that differs. The buffers have
 /// the same words before it in both programs, so one difference does not bring about others.
@@ -91,8 +91,53 @@ fn run_machine(library: &impl Library, machine: &[u32], case: &Case) -> Compared
     }
 }
 
-/// The five operations on a case, each on the buffers that this program made so far.
-pub fn check(case: &Case, library: &impl Library) -> [Compared; 5] {
+fn words_fields(answer: WordsRunAnswer) -> Fields {
+    [answer.number, answer.outcome, answer.count, answer.next]
+}
+
+fn run_graph_with_words(library: &impl Library, graph: &[u32], case: &Case) -> Compared {
+    let (start, budget) = (case.start_block, case.block_budget);
+    let (words, starters) = (&case.words[..], &case.starters[..]);
+    let mut registers = case.registers.clone();
+    let (mut lent_graph, mut lent_registers) = (Lent::new(graph), Lent::new(&registers));
+    let (mut lent_words, mut lent_starters) = (Lent::new(words), Lent::new(starters));
+    let found = library.run_graph_with_words(
+        &mut lent_graph, &mut lent_registers, start, budget, &mut lent_words, &mut lent_starters,
+    );
+    let answer =
+        operations::run_graph_with_words(graph, &mut registers, start, budget, words, starters);
+    Compared {
+        operation: Operation::RunGraphWithWords,
+        expected: words_fields(answer),
+        found,
+        differing: (lent_graph.differing("graph table", graph))
+            .or_else(|| lent_registers.differing("registers", &registers))
+            .or_else(|| lent_words.differing("words", words))
+            .or_else(|| lent_starters.differing("starters", starters)),
+    }
+}
+
+fn run_machine_with_words(library: &impl Library, machine: &[u32], case: &Case) -> Compared {
+    let (start, budget, words) = (case.start_state, case.cycle_budget, &case.words[..]);
+    let mut registers = case.registers.clone();
+    let (mut lent_machine, mut lent_registers) = (Lent::new(machine), Lent::new(&registers));
+    let mut lent_words = Lent::new(words);
+    let found = library.run_machine_with_words(
+        &mut lent_machine, &mut lent_registers, start, budget, &mut lent_words,
+    );
+    let answer = operations::run_machine_with_words(machine, &mut registers, start, budget, words);
+    Compared {
+        operation: Operation::RunMachineWithWords,
+        expected: words_fields(answer),
+        found,
+        differing: (lent_machine.differing("machine table", machine))
+            .or_else(|| lent_registers.differing("registers", &registers))
+            .or_else(|| lent_words.differing("words", words)),
+    }
+}
+
+/// The seven operations on a case, each on the buffers that this program made so far.
+pub fn check(case: &Case, library: &impl Library) -> [Compared; 7] {
     let mut graph = fresh_words(case.graph_length);
     let read = read(library, &case.text, &mut graph);
     patch(&mut graph, &case.graph_patches);
@@ -100,7 +145,13 @@ pub fn check(case: &Case, library: &impl Library) -> [Compared; 5] {
     let mut machine = fresh_words(case.machine_length);
     let synthesise = synthesise(library, &graph, &mut machine);
     patch(&mut machine, &case.machine_patches);
-    let run_graph = run_graph(library, &graph, case);
-    let run_machine = run_machine(library, &machine, case);
-    [read, write, synthesise, run_graph, run_machine]
+    [
+        read,
+        write,
+        synthesise,
+        run_graph(library, &graph, case),
+        run_machine(library, &machine, case),
+        run_graph_with_words(library, &graph, case),
+        run_machine_with_words(library, &machine, case),
+    ]
 }

@@ -1,7 +1,7 @@
 //! The operations of a library that is compared with this program.
 
 use super::lent::Lent;
-use gutkavu::operations::{self, RunFields};
+use gutkavu::operations::{self, RunFields, RunWithWordsFields};
 
 #[derive(Clone, Copy, Debug, PartialEq, Eq, PartialOrd, Ord)]
 pub enum Operation {
@@ -10,15 +10,19 @@ pub enum Operation {
     Synthesise,
     RunGraph,
     RunMachine,
+    RunGraphWithWords,
+    RunMachineWithWords,
 }
 
 impl Operation {
-    pub const ALL: [Operation; 5] = [
+    pub const ALL: [Operation; 7] = [
         Operation::Read,
         Operation::Write,
         Operation::Synthesise,
         Operation::RunGraph,
         Operation::RunMachine,
+        Operation::RunGraphWithWords,
+        Operation::RunMachineWithWords,
     ];
 
     pub fn name(self) -> &'static str {
@@ -28,6 +32,8 @@ impl Operation {
             Operation::Synthesise => "synthesise",
             Operation::RunGraph => "run graph",
             Operation::RunMachine => "run machine",
+            Operation::RunGraphWithWords => "run graph with words",
+            Operation::RunMachineWithWords => "run machine with words",
         }
     }
 
@@ -38,17 +44,30 @@ impl Operation {
             Operation::Write => &["number", "length"],
             Operation::Synthesise => &["number"],
             Operation::RunGraph | Operation::RunMachine => &["number", "halted", "count", "next"],
+            Operation::RunGraphWithWords | Operation::RunMachineWithWords => {
+                &["number", "outcome", "count", "next"]
+            }
         }
     }
 
-    /// The numbers that paper 01 names for it, 0 being success.
+    /// The numbers that the papers name for it, 0 being success.
     pub fn numbers(self) -> &'static [u32] {
         match self {
             Operation::Read => &[0, 1, 2, 3, 4, 5, 7],
             Operation::Write => &[0, 6, 7, 8],
             Operation::Synthesise => &[0, 6, 7],
-            Operation::RunGraph => &[0, 6, 7, 9],
-            Operation::RunMachine => &[0, 7, 9, 10],
+            Operation::RunGraph => &[0, 6, 7, 9, 12],
+            Operation::RunMachine => &[0, 7, 9, 10, 12],
+            Operation::RunGraphWithWords => &[0, 6, 7, 9, 11],
+            Operation::RunMachineWithWords => &[0, 7, 9, 10],
+        }
+    }
+
+    /// The outcomes that it tells apart: spent, halted, dry.
+    pub fn outcomes(self) -> &'static [u32] {
+        match self {
+            Operation::RunGraphWithWords | Operation::RunMachineWithWords => &[0, 1, 2],
+            _ => &[],
         }
     }
 }
@@ -75,6 +94,23 @@ pub trait Library: Sync {
         start: u32,
         budget: u32,
     ) -> Fields;
+    fn run_graph_with_words(
+        &self,
+        graph: &mut Lent<u32>,
+        registers: &mut Lent<u32>,
+        start: u32,
+        budget: u32,
+        words: &mut Lent<u32>,
+        starters: &mut Lent<u32>,
+    ) -> Fields;
+    fn run_machine_with_words(
+        &self,
+        machine: &mut Lent<u32>,
+        registers: &mut Lent<u32>,
+        start: u32,
+        budget: u32,
+        words: &mut Lent<u32>,
+    ) -> Fields;
 }
 
 /// The proved library.
@@ -82,6 +118,10 @@ pub struct Proved;
 
 fn run_fields(fields: RunFields) -> Fields {
     [fields.number, fields.halted, fields.count, fields.next]
+}
+
+fn words_fields(fields: RunWithWordsFields) -> Fields {
+    [fields.number, fields.outcome, fields.count, fields.next]
 }
 
 impl Library for Proved {
@@ -117,5 +157,31 @@ impl Library for Proved {
         budget: u32,
     ) -> Fields {
         run_fields(operations::run_machine(machine.body(), registers.body_mut(), start, budget))
+    }
+
+    fn run_graph_with_words(
+        &self,
+        graph: &mut Lent<u32>,
+        registers: &mut Lent<u32>,
+        start: u32,
+        budget: u32,
+        words: &mut Lent<u32>,
+        starters: &mut Lent<u32>,
+    ) -> Fields {
+        let (table, copy) = (graph.body(), registers.body_mut());
+        let (words, starters) = (words.body(), starters.body());
+        words_fields(operations::run_graph_with_words(table, copy, start, budget, words, starters))
+    }
+
+    fn run_machine_with_words(
+        &self,
+        machine: &mut Lent<u32>,
+        registers: &mut Lent<u32>,
+        start: u32,
+        budget: u32,
+        words: &mut Lent<u32>,
+    ) -> Fields {
+        let (table, copy) = (machine.body(), registers.body_mut());
+        words_fields(operations::run_machine_with_words(table, copy, start, budget, words.body()))
     }
 }

@@ -36,7 +36,8 @@ fn in_full(case: &Case) -> String {
         "  text of {} bytes: \"{}\"\n  graph buffer: {} words; patches: [{}]\n  \
          output buffer: {} bytes\n  machine buffer: {} words; patches: [{}]\n  \
          register buffer: {} words: {:?}\n  \
-         start block {}, block budget {}, start state {}, cycle budget {}\n",
+         start block {}, block budget {}, start state {}, cycle budget {}\n  \
+         {} words: {:?}\n  {} starters: {:?}\n",
         case.text.len(),
         case.text.escape_ascii(),
         case.graph_length,
@@ -50,6 +51,10 @@ fn in_full(case: &Case) -> String {
         case.block_budget,
         case.start_state,
         case.cycle_budget,
+        case.words.len(),
+        case.words,
+        case.starters.len(),
+        case.starters,
     )
 }
 

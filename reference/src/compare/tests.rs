@@ -3,7 +3,7 @@
 use super::check::check;
 use super::lent::{Differing, Element, Lent};
 use super::library::{Fields, Library, Operation};
-use super::{compare, outcome, tally_all};
+use super::{compare, named, outcome, tally_all};
 use crate::tally::MOST_REPORTS;
 use reference::case::Case;
 use reference::generate::examples::P7;
@@ -16,31 +16,54 @@ enum Change {
     Nothing,
     /// A field of its answer.
     Field(usize),
-    /// An element of its first or second buffer, counted from the buffer's start.
+    /// An element of one of its buffers, counted from that buffer's start.
     Place(usize, isize),
-    /// The element just after the first or second buffer.
+    /// The element just after one of its buffers.
     End(usize),
+}
+
+/// A lent buffer, of words or of bytes.
+trait Buffer {
+    fn change_at(&mut self, index: isize);
+    fn change_end(&mut self);
+}
+
+impl<T: Element> Buffer for Lent<T> {
+    fn change_at(&mut self, index: isize) {
+        self.change(index);
+    }
+
+    fn change_end(&mut self) {
+        self.change(self.length() as isize);
+    }
+}
+
+/// How many buffers an operation is lent.
+fn buffers(operation: Operation) -> usize {
+    match operation {
+        Operation::RunGraphWithWords => 4,
+        Operation::RunMachineWithWords => 3,
+        _ => 2,
+    }
 }
 
 /// This program as a library, with a change in one operation.
 struct Changed(Operation, Change);
 
 impl Changed {
-    fn apply<A: Element, B: Element>(
+    fn apply(
         &self,
         operation: Operation,
         mut fields: Fields,
-        first: &mut Lent<A>,
-        second: &mut Lent<B>,
+        lent: &mut [&mut dyn Buffer],
     ) -> Fields {
+        assert_eq!(lent.len(), buffers(operation));
         match self.1 {
             _ if operation != self.0 => (),
             Change::Nothing => (),
             Change::Field(index) => fields[index] ^= 1,
-            Change::Place(0, index) => first.change(index),
-            Change::Place(_, index) => second.change(index),
-            Change::End(0) => first.change(first.length() as isize),
-            Change::End(_) => second.change(second.length() as isize),
+            Change::Place(buffer, index) => lent[buffer].change_at(index),
+            Change::End(buffer) => lent[buffer].change_end(),
         }
         fields
     }
@@ -50,20 +73,24 @@ fn run_fields(answer: operations::RunAnswer) -> Fields {
     [answer.number, u32::from(answer.halted), answer.count, answer.next]
 }
 
+fn words_fields(answer: operations::WordsRunAnswer) -> Fields {
+    [answer.number, answer.outcome, answer.count, answer.next]
+}
+
 impl Library for Changed {
     fn read(&self, text: &mut Lent<u8>, graph: &mut Lent<u32>) -> Fields {
         let answer = operations::read(text.body(), graph.body_mut());
-        self.apply(Operation::Read, [answer.number, answer.line, 0, 0], text, graph)
+        self.apply(Operation::Read, [answer.number, answer.line, 0, 0], &mut [text, graph])
     }
 
     fn write(&self, graph: &mut Lent<u32>, output: &mut Lent<u8>) -> Fields {
         let answer = operations::write(graph.body(), output.body_mut());
-        self.apply(Operation::Write, [answer.number, answer.length, 0, 0], graph, output)
+        self.apply(Operation::Write, [answer.number, answer.length, 0, 0], &mut [graph, output])
     }
 
     fn synthesise(&self, graph: &mut Lent<u32>, machine: &mut Lent<u32>) -> Fields {
         let number = operations::synthesise(graph.body(), machine.body_mut());
-        self.apply(Operation::Synthesise, [number, 0, 0, 0], graph, machine)
+        self.apply(Operation::Synthesise, [number, 0, 0, 0], &mut [graph, machine])
     }
 
     fn run_graph(
@@ -74,7 +101,7 @@ impl Library for Changed {
         budget: u32,
     ) -> Fields {
         let answer = operations::run_graph(graph.body(), registers.body_mut(), start, budget);
-        self.apply(Operation::RunGraph, run_fields(answer), graph, registers)
+        self.apply(Operation::RunGraph, run_fields(answer), &mut [graph, registers])
     }
 
     fn run_machine(
@@ -85,12 +112,45 @@ impl Library for Changed {
         budget: u32,
     ) -> Fields {
         let answer = operations::run_machine(machine.body(), registers.body_mut(), start, budget);
-        self.apply(Operation::RunMachine, run_fields(answer), machine, registers)
+        self.apply(Operation::RunMachine, run_fields(answer), &mut [machine, registers])
+    }
+
+    fn run_graph_with_words(
+        &self,
+        graph: &mut Lent<u32>,
+        registers: &mut Lent<u32>,
+        start: u32,
+        budget: u32,
+        words: &mut Lent<u32>,
+        starters: &mut Lent<u32>,
+    ) -> Fields {
+        let (table, copy) = (graph.body(), registers.body_mut());
+        let lists = (words.body(), starters.body());
+        let answer = operations::run_graph_with_words(table, copy, start, budget, lists.0, lists.1);
+        let lent: &mut [&mut dyn Buffer] = &mut [graph, registers, words, starters];
+        self.apply(Operation::RunGraphWithWords, words_fields(answer), lent)
+    }
+
+    fn run_machine_with_words(
+        &self,
+        machine: &mut Lent<u32>,
+        registers: &mut Lent<u32>,
+        start: u32,
+        budget: u32,
+        words: &mut Lent<u32>,
+    ) -> Fields {
+        let (table, copy) = (machine.body(), registers.body_mut());
+        let answer = operations::run_machine_with_words(table, copy, start, budget, words.body());
+        let lent: &mut [&mut dyn Buffer] = &mut [machine, registers, words];
+        self.apply(Operation::RunMachineWithWords, words_fields(answer), lent)
     }
 }
 
+/// P7 with lists that have a place 15.
 fn p7() -> Case {
-    Case::plain(P7.as_bytes())
+    let mut case = Case::plain(P7.as_bytes());
+    case.starters = [0, 1].repeat(10);
+    case
 }
 
 /// The operations that differ on a case.
@@ -121,11 +181,11 @@ fn every_changed_field_is_a_difference() {
     }
 }
 
-/// First, some and last places of both buffers, and the guards' nearest and farthest places.
+/// First, some and last places of every buffer, and the guards' nearest and farthest places.
 #[test]
 fn every_changed_place_is_a_difference() {
     for operation in Operation::ALL {
-        for buffer in [0, 1] {
+        for buffer in 0..buffers(operation) {
             for index in [-64, -1, 0, 5, 15] {
                 let found = place(operation, Change::Place(buffer, index)).expect("a difference");
                 assert_eq!(found.index, index, "{operation:?}, buffer {buffer}");
@@ -161,6 +221,14 @@ fn places_are_printed() {
         "registers of length 16, index 16 in the guard after it: \
          3235774464 expected, 3235774465 found"
     );
+    assert_eq!(
+        printed(Operation::RunMachineWithWords, Change::Place(2, 3)),
+        "words of length 20, index 3: 4 expected, 3235774464 found"
+    );
+    assert_eq!(
+        printed(Operation::RunGraphWithWords, Change::Place(3, 19)),
+        "starters of length 20, index 19: 1 expected, 3235774464 found"
+    );
 }
 
 /// A difference fails the command, with the case in full.
@@ -184,25 +252,26 @@ fn differences_are_reported() {
         format!("  register buffer: {} words: {:?}\n", case.registers.len(), case.registers),
         format!("  start block {}, block budget {}, ", case.start_block, case.block_budget),
         format!("start state {}, cycle budget {}\n", case.start_state, case.cycle_budget),
+        format!("  {} words: {:?}\n", case.words.len(), case.words),
+        format!("  {} starters: {:?}\n", case.starters.len(), case.starters),
     ];
     for part in parts {
         assert!(text.contains(&part), "{part}");
     }
 }
 
-/// A number that no case hits fails a long run, and not a short one.
+/// A number or an outcome that no case hits fails a long run, and not a short one.
 #[test]
 fn numbers_that_are_not_hit_are_reported() {
     let same = Changed(Operation::Read, Change::Nothing);
     let mut tally = tally_all(&Cases::of(1), 2_000, &same);
     assert!(outcome(1, 2_000, &tally).is_ok());
-    for operation in Operation::ALL {
-        for &number in operation.numbers() {
-            let cases = tally.counts.remove(&(operation, number)).expect("a hit");
-            let text = outcome(1, 2_000, &tally).expect_err("a number is missing");
-            assert!(text.contains(&format!("no case hit {},{number}\n", operation.name())));
-            assert!(outcome(1, 1_999, &tally).is_ok());
-            tally.counts.insert((operation, number), cases);
-        }
+    assert_eq!(named().count(), 39);
+    for hit in named() {
+        let cases = tally.counts.remove(&hit).expect("a hit");
+        let text = outcome(1, 2_000, &tally).expect_err("one is missing");
+        assert!(text.contains(&format!("no case hit {}\n", hit.name())));
+        assert!(outcome(1, 1_999, &tally).is_ok());
+        tally.counts.insert(hit, cases);
     }
 }

@@ -19,6 +19,7 @@ pub fn instruction(words: &[u32]) -> String {
     let sign = match words[0] {
         1 => return format!("r{d} := {}", a as i32),
         2 => return format!("r{d} := r{a}"),
+        20 => return format!("r{d} := in"),
         11 => return format!("r{d} := sx r{a}"),
         3 => "+",
         4 => "-",

@@ -1,7 +1,7 @@
 //! Pictures of the example graphs: what is in them, and that Graphviz takes them where it is installed.
 
 use super::tables::Tables;
-use super::{draw, tables};
+use super::{draw, forms, tables};
 use reference::generate::graphs;
 use reference::print::print;
 use reference::random::Random;
@@ -76,6 +76,11 @@ fn the_picture_of_gcd() {
     ] {
         assert!(picture.contains(part), "{part} is missing");
     }
+}
+
+#[test]
+fn an_input_is_drawn() {
+    assert_eq!(forms::instruction(&[20, 3, 0, 0]), "r3 := in");
 }
 
 #[test]

@@ -32,7 +32,7 @@ pub fn one_comparison(name: &str) -> String {
 }
 
 /// A case whose first registers hold the given words.
-fn with_words(text: &str, words: &[u32], budget: u32) -> Case {
+fn on_registers(text: &str, words: &[u32], budget: u32) -> Case {
     let mut case = Case::plain(text.as_bytes());
     case.registers[..words.len()].copy_from_slice(words);
     (case.block_budget, case.cycle_budget) = (budget, budget);
@@ -57,18 +57,18 @@ fn refused_texts() -> Vec<Case> {
 pub fn cases() -> Vec<Case> {
     let mut cases = refused_texts();
     for word in [32_767, 32_768] {
-        cases.push(with_words(&one_instruction("sx,1,0"), &[word], 5));
+        cases.push(on_registers(&one_instruction("sx,1,0"), &[word], 5));
     }
     for name in ["lt", "ltu"] {
-        cases.push(with_words(&one_comparison(name), &[4_294_967_096, 0], 5));
+        cases.push(on_registers(&one_comparison(name), &[4_294_967_096, 0], 5));
     }
-    cases.push(with_words(&one_instruction("sub,0,0,1"), &[0, 1], 5));
+    cases.push(on_registers(&one_instruction("sub,0,0,1"), &[0, 1], 5));
     for budget in [0, 1, 3, 4, 8, 9, u32::MAX] {
-        cases.push(with_words(P7, &[12, 18], budget));
+        cases.push(on_registers(P7, &[12, 18], budget));
     }
-    cases.push(with_words(P7, &[0, 5], 1_000));
+    cases.push(on_registers(P7, &[0, 5], 1_000));
     for text in [P9, P10, P11, P12, SEVEN] {
-        cases.push(with_words(text, &[3, 5], 12));
+        cases.push(on_registers(text, &[3, 5], 12));
     }
     cases
 }

@@ -1,20 +1,25 @@
 //! Cases that do not depend on the seed: examples, each named fault, sweeps.
 
 use super::examples::{self, P7};
+use super::word_cases;
 use crate::case::Case;
 use crate::graph::{Block, Comparison, Ending, Graph, Instruction, MAX_BLOCKS, MAX_REGISTERS};
+use crate::grouping::group;
 use crate::machine_table::{RECORDS_AT, RECORD_WORDS, WIRES_AT};
+use crate::parse::parse;
 use crate::print::print;
 
 /// Lines without a form, with a form not due, and with a number too large.
-const LINES: [&str; 48] = [
+const LINES: [&str; 64] = [
     "", "set,0,-0", "set,0,-", "set,0,", "set,0,00", "set,0,-01", "set,0,+1", "set,0,2147483648",
     "set,0,-2147483649", "set,0,2147483647", "set,0,-2147483648", "set,00,1", "set,256,1",
     "set,,1", "set, 0,1", "set,0,1 ", "set,0,1\r", "copy,0", "copy,0,0,0", "add,0,0", "eq,0,0,0",
     "mul,0,0,0", "Set,0,1", "halt,", "goto,", "goto,256", "block,256", "block,00", "graph,65,1",
     "graph,64,1", "ite,eq,0,0,0", "ite,le,0,0,0,0", "ite,eq,0,0,256,0", "block,0", "block,1",
-    "block,255", "goto,0", "ite,eq,0,0,0,0", "set,2,0", "copy,0,2", "copy,2,0", "add,0,0,2",
-    "add,0,2,0", "goto,1", "ite,eq,0,0,1,0", "ite,eq,0,0,0,1", "ite,eq,2,0,1,0", "ite,eq,0,2,0,1",
+    "block,255", "goto,0", "ite,eq,0,0,0,0", "set,2,0", "copy,0,2", "copy,2,0", "add,0,0,2", "in",
+    "in,", "in,0,", "in,0,0", "in,00", "in,256", "in,-1", "in,x", "in, 0", "In,0", "inn,0", "in,2",
+    "in,16", "in,255", "in,0", "in,1", "add,0,2,0", "goto,1", "ite,eq,0,0,1,0", "ite,eq,0,0,0,1",
+    "ite,eq,2,0,1,0", "ite,eq,0,2,0,1",
 ];
 
 const TEXTS: [&str; 22] = [
@@ -100,6 +105,12 @@ fn machine_sweep() -> Vec<Case> {
     [0, 1, 2, 66].into_iter().chain(records).chain(wires).map(change).collect()
 }
 
+/// The starters of the machine that a text makes, or block 0 alone.
+pub fn own_starters(text: &[u8]) -> Vec<u32> {
+    let starters = parse(text).map_or(vec![0], |graph| group(&graph).starters);
+    starters.iter().map(|&block| block as u32).collect()
+}
+
 pub fn cases() -> Vec<Case> {
     let largest = largest_graphs().map(|graph| Case::plain(print(&graph).as_bytes()));
     let mut cases = examples::cases();
@@ -107,5 +118,9 @@ pub fn cases() -> Vec<Case> {
     cases.extend(largest);
     cases.extend(graph_sweep());
     cases.extend(machine_sweep());
+    for case in &mut cases {
+        case.starters = own_starters(&case.text);
+    }
+    cases.extend(word_cases::cases());
     cases
 }

@@ -65,7 +65,8 @@ fn instruction_code(random: &mut Random, table: &Table) -> Vec<Patch> {
     let Some(at) = table.instruction(random) else {
         return Vec::new();
     };
-    let choices = [0, 12, 13, 17, 18, 19, 255, random.between(1, 11) as u32, huge(random)];
+    let (known, between) = (random.between(1, 11) as u32, random.between(12, 19) as u32);
+    let choices = [0, between, between, 20, 20, 21, 255, known, huge(random)];
     vec![(at as u32, random.pick(&choices))]
 }
 
@@ -78,13 +79,31 @@ fn instruction_register(random: &mut Random, table: &Table) -> Vec<Patch> {
     vec![((at + random.between(1, 3)) as u32, random.pick(&choices))]
 }
 
-/// Operand b of set, copy and sx, or a word of an absent instruction.
+/// An instruction made `in`, mostly with its last two words as they should be.
+fn input(random: &mut Random, table: &Table) -> Vec<Patch> {
+    let Some(at) = table.instruction(random) else {
+        return Vec::new();
+    };
+    let at = at as u32;
+    let mut patches = vec![(at, 20), (at + 2, 0), (at + 3, 0)];
+    if random.percent(40) {
+        patches[random.between(1, 2)].1 = random.pick(&[1, table.registers() - 1, 255, HUGE[3]]);
+    }
+    patches
+}
+
+/// Operand b of set, copy and sx, a or b of `in`, or a word of an absent instruction.
 fn unused_instruction_word(random: &mut Random, table: &Table) -> Vec<Patch> {
     let block = table.block(random);
     let count = table.words[block] as usize;
-    let one_operand = (0..count).map(|i| block + 1 + 4 * i);
-    let mut places: Vec<usize> =
-        one_operand.filter(|&at| [1, 2, 11].contains(&table.words[at])).map(|at| at + 3).collect();
+    let mut places = Vec::new();
+    for at in (0..count).map(|i| block + 1 + 4 * i) {
+        match table.words[at] {
+            1 | 2 | 11 => places.push(at + 3),
+            20 => places.extend([at + 2, at + 3]),
+            _ => (),
+        }
+    }
     places.extend(block + 1 + 4 * count..block + ENDING_OFFSET);
     match places.is_empty() {
         true => Vec::new(),
@@ -156,8 +175,8 @@ fn any_word(random: &mut Random, table: &Table) -> Vec<Patch> {
     vec![(at as u32, value)]
 }
 
-const DAMAGE: [Damage; 14] = [
-    block_count, register_count, instruction_count, instruction_code, instruction_register,
+const DAMAGE: [Damage; 15] = [
+    input, block_count, register_count, instruction_count, instruction_code, instruction_register,
     instruction_register, unused_instruction_word, ending_kind, ending_word, ending_word,
     absent_block, past_the_table, another_graph, any_word,
 ];

@@ -2,7 +2,10 @@
 
 use super::shapes::{self, Shape};
 use super::words;
-use crate::graph::{Binary, Block, Comparison, Ending, Graph, Instruction, MAX_BLOCKS};
+use crate::graph::{
+    Binary, Block, Comparison, Ending, Graph, Instruction, MAX_BLOCKS, MAX_INSTRUCTIONS,
+};
+use crate::grouping::Tour;
 use crate::random::Random;
 
 /// How much a graph may hold.
@@ -128,6 +131,7 @@ fn pack(random: &mut Random, graph: &mut Graph) {
     }
 }
 
+/// A graph of a size that reads no words.
 pub fn graph_of(random: &mut Random, size: Size) -> Graph {
     let made = shape(random, size.blocks.clamp(1, MAX_BLOCKS));
     let mut graph = fill(random, &made, size);
@@ -139,9 +143,48 @@ pub fn graph_of(random: &mut Random, size: Size) -> Graph {
     graph
 }
 
+/// Puts one `in` into a block, in place of an instruction where the block is full.
+fn put_input(random: &mut Random, block: &mut Block, registers: usize) {
+    // Mostly not a register that holds one of the constants of a tamed graph.
+    let most = if registers > 2 && random.percent(80) { registers - 2 } else { registers };
+    let input = Instruction::In { d: random.below(most) };
+    let count = block.instructions.len();
+    if count < MAX_INSTRUCTIONS && random.percent(60) {
+        block.instructions.insert(random.below(count + 1), input);
+    } else if count > 0 {
+        block.instructions[random.below(count)] = input;
+    } else {
+        block.instructions.push(input);
+    }
+}
+
+/// Makes a graph read words: anywhere, or in unreachable blocks alone.
+pub fn with_inputs(random: &mut Random, mut graph: Graph) -> Graph {
+    let reachable = Tour::of(&graph).reachable();
+    let all: Vec<usize> = (0..graph.blocks.len()).collect();
+    let lost: Vec<usize> = all.iter().copied().filter(|n| !reachable.contains(n)).collect();
+    let places = if !lost.is_empty() && random.percent(25) { lost } else { all };
+    let sure = random.pick(&places);
+    for n in places {
+        if n == sure || random.percent(40) {
+            put_input(random, &mut graph.blocks[n], graph.registers);
+        }
+    }
+    graph
+}
+
+/// About a third of the graphs read words.
+fn with_inputs_or_not(random: &mut Random, graph: Graph) -> Graph {
+    match random.percent(35) {
+        true => with_inputs(random, graph),
+        false => graph,
+    }
+}
+
 pub fn graph(random: &mut Random) -> Graph {
     let size = size(random);
-    graph_of(random, size)
+    let graph = graph_of(random, size);
+    with_inputs_or_not(random, graph)
 }
 
 /// A graph whose text is short.
@@ -151,5 +194,6 @@ pub fn small_graph(random: &mut Random) -> Graph {
         registers: random.pick(&[1, 2, 3, 4, 5, 15, 16]),
         instructions: 3,
     };
-    graph_of(random, size)
+    let graph = graph_of(random, size);
+    with_inputs_or_not(random, graph)
 }

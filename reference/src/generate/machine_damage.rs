@@ -67,6 +67,7 @@ fn wire_at(wire: usize) -> usize {
 /// How many words after its code a code uses, literal included.
 fn operands(code: u32) -> usize {
     match code {
+        20 => 0,
         1 | 2 | 11 => 1,
         19 => 3,
         _ => 2,
@@ -147,7 +148,7 @@ fn sliding(random: &mut Random, table: &Table) -> Vec<Patch> {
 
 fn unknown_code(random: &mut Random, table: &Table) -> Vec<Patch> {
     let (_, _, at) = table.wire(random);
-    vec![(at as u32, random.pick(&[0, 20, 21, 255, 257, 2_147_483_649, MAX]))]
+    vec![(at as u32, random.pick(&[0, 21, 21, 22, 255, 276, 2_147_483_668, MAX]))]
 }
 
 /// An operand that is no register, this wire itself, or a later one.
@@ -181,7 +182,7 @@ fn fewer_registers(random: &mut Random, table: &Table) -> Vec<Patch> {
 /// Another known code reads the words as they stand.
 fn another_code(random: &mut Random, table: &Table) -> Vec<Patch> {
     let (_, _, at) = table.wire(random);
-    vec![patch(at, random.between(1, 19))]
+    vec![patch(at, random.between(1, 20))]
 }
 
 /// Kinds that a run always refuses.
@@ -232,6 +233,16 @@ fn unused_operands(random: &mut Random, table: &Table) -> Vec<Patch> {
         let (_, _, at) = table.wire(random);
         let used = operands(table.words[at]);
         patches.extend((used + 1..4).map(|slot| patch(at + slot, random.word() as usize)));
+    }
+    patches
+}
+
+/// A wire that gives the sampled word; its other words are not read, whatever they hold.
+fn input_wire(random: &mut Random, table: &Table) -> Vec<Patch> {
+    let (_, _, at) = table.wire(random);
+    let mut patches = vec![patch(at, 20)];
+    if random.percent(60) {
+        patches.extend((1..4).map(|slot| patch(at + slot, random.word() as usize)));
     }
     patches
 }
@@ -321,8 +332,8 @@ fn added_state(random: &mut Random, table: &Table) -> Vec<Patch> {
 fn free_wires(random: &mut Random, at: usize, count: usize, registers: usize) -> Vec<Patch> {
     let mut patches = Vec::new();
     for wire in 0..count {
-        let any = random.between(1, 19);
-        let code = random.pick(&[1, 1, any, any, 18, 19]);
+        let any = random.between(1, 20);
+        let code = random.pick(&[1, 1, any, any, any, 18, 19]);
         patches.push(patch(at + 4 * wire, code));
         for slot in 1..=operands(code as u32) {
             let reference = random.below(registers + wire);
@@ -357,11 +368,12 @@ fn past_the_table(random: &mut Random, _: &Table) -> Vec<Patch> {
 }
 
 /// Kinds that a run never refuses.
-pub const KEPT: [Damage; 21] = [
-    starters_and_blocks, records_from_n, next_from_r, wires_of_no_state, unused_operands,
-    another_literal, another_literal, another_next, another_operand, another_n, more_registers,
-    moved_to_the_end, moved_to_the_end, empty_inside, empty_inside, added_state, added_state,
-    rewritten_state, rewritten_state, rewritten_state, past_the_table,
+pub const KEPT: [Damage; 24] = [
+    input_wire, input_wire, input_wire, starters_and_blocks, records_from_n, next_from_r,
+    wires_of_no_state, unused_operands, another_literal, another_literal, another_next,
+    another_operand, another_n, more_registers, moved_to_the_end, moved_to_the_end, empty_inside,
+    empty_inside, added_state, added_state, rewritten_state, rewritten_state, rewritten_state,
+    past_the_table,
 ];
 
 /// Patches for a table that synthesis made.

@@ -1,12 +1,15 @@
-//! Cases from a seed: which damage, which buffers, which starts and budgets.
+//! Cases from a seed: which texts, which damage, which buffers.
 
 pub mod examples;
 pub mod fixed;
 pub mod graph_damage;
 pub mod graphs;
+mod lists;
 pub mod machine_damage;
+mod runs;
 pub mod shapes;
 pub mod texts;
+pub mod word_cases;
 pub mod words;
 
 use crate::answer::buffers_of;
@@ -15,11 +18,6 @@ use crate::graph_table::{self, GRAPH_WORDS};
 use crate::machine_table::{self, MACHINE_WORDS};
 use crate::print::print;
 use crate::random::Random;
-use crate::run;
-
-/// Most blocks of a graph run, and most wires worked out in a machine run.
-const MOST_BLOCKS: u32 = 20_000;
-const MOST_WIRES: u32 = 100_000;
 
 /// What a case is mainly about.
 #[derive(Clone, Copy, PartialEq, Eq)]
@@ -116,76 +114,6 @@ fn damage(random: &mut Random, aim: Aim, case: &mut Case) {
     }
 }
 
-/// A start: mostly the entry, else any below the limit or just past it.
-fn start(random: &mut Random, aim: Aim, limit: usize) -> u32 {
-    let limit = limit as u32;
-    let chance = if aim == Aim::Starts { 75 } else { 25 };
-    if !random.percent(chance) {
-        return 0;
-    }
-    let inside = random.below(limit as usize) as u32;
-    match random.percent(if aim == Aim::Starts { 40 } else { 8 }) {
-        true => random.pick(&[limit, limit, limit + 1, 64, 255, 256, 2_147_483_648, u32::MAX]),
-        false => random.pick(&[inside, inside, limit - 1, 0]),
-    }
-}
-
-/// A budget, given the count at which the run halts when it does so soon.
-fn budget(random: &mut Random, halts_at: Option<u32>, most: u32) -> u32 {
-    let small = random.between(2, 60) as u32;
-    match halts_at {
-        // A huge budget only here: a program that does not halt would not end.
-        Some(_) if random.percent(12) => random.pick(&[u32::MAX, u32::MAX, u32::MAX - 1]),
-        Some(count) => random.pick(&[count, count, count - 1, count + 1, small, 0, 1, 1_000]),
-        None => match random.below(20) {
-            0 => most.min(3_000),
-            1 => most.min(255),
-            2 => most.min(256),
-            3 | 4 => 0,
-            5 | 6 => 1,
-            _ => most.min(small),
-        },
-    }
-}
-
-/// When the run halts within so many units.
-fn halting(outcome: run::Outcome) -> Option<u32> {
-    outcome.halted.then_some(outcome.count)
-}
-
-fn graph_run(random: &mut Random, aim: Aim, case: &mut Case, table: &[u32]) {
-    case.block_budget = random.pick(&[0, 1, 7, 50]);
-    let graph = table.get(..GRAPH_WORDS).and_then(graph_table::decode);
-    let Some(graph) = graph else {
-        case.start_block = start(random, aim, 2);
-        return;
-    };
-    case.start_block = start(random, aim, graph.blocks.len());
-    if (case.start_block as usize) < graph.blocks.len() && case.registers.len() >= 16 {
-        let from = case.start_block as usize;
-        let most = if random.percent(3) { MOST_BLOCKS } else { 2_000 };
-        let outcome = run::run_graph(&graph, &mut case.registers.clone(), from, most);
-        case.block_budget = budget(random, halting(outcome), most);
-    }
-}
-
-fn machine_run(random: &mut Random, aim: Aim, case: &mut Case, table: &[u32]) {
-    case.cycle_budget = random.pick(&[0, 1, 7, 50]);
-    let machine = table.get(..MACHINE_WORDS).and_then(machine_table::decode);
-    let Some(machine) = machine else {
-        case.start_state = start(random, aim, 2);
-        return;
-    };
-    case.start_state = start(random, aim, machine.states.len());
-    if (case.start_state as usize) < machine.states.len() && case.registers.len() >= 16 {
-        let from = case.start_state as usize;
-        let widest = machine.states.iter().map(|state| state.wires.len()).max().unwrap_or(0);
-        let most = (MOST_WIRES / (widest as u32 + 1)).clamp(50, 3_000);
-        let outcome = run::run_machine(&machine, &mut case.registers.clone(), from, most);
-        case.cycle_budget = budget(random, halting(outcome), most);
-    }
-}
-
 /// One case that depends on the seed and its index alone.
 pub fn case(seed: u64, index: u64) -> Case {
     let random = &mut Random::at(seed, index);
@@ -193,9 +121,7 @@ pub fn case(seed: u64, index: u64) -> Case {
     let mut case = Case::plain(&text(random, aim));
     buffers(random, aim, &mut case);
     damage(random, aim, &mut case);
-    let (graph, machine) = buffers_of(&case);
-    graph_run(random, aim, &mut case, &graph);
-    machine_run(random, aim, &mut case, &machine);
+    runs::choose(random, aim == Aim::Starts, &mut case);
     case
 }
 
@@ -216,7 +142,7 @@ impl Cases {
 
     pub fn get(&self, index: usize) -> Case {
         match self.fixed.get(index / 4) {
-            Some(fixed) if index % 4 == 0 => fixed.clone(),
+            Some(fixed) if index.is_multiple_of(4) => fixed.clone(),
             _ => case(self.seed, index as u64),
         }
     }

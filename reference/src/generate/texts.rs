@@ -170,7 +170,8 @@ fn ninth(random: &mut Random, graph: &Graph, lines: &mut Lines) {
     let has = graph.blocks[block].instructions.len();
     let wanted = random.pick(&[8, 9, 9, 9, 10]);
     for _ in has..wanted {
-        let line = random.pick(&["set,0,7", "copy,0,0", "sx,0,0", "xor,0,0,0", "sar,0,0,0"]);
+        let line =
+            random.pick(&["set,0,7", "in,0", "copy,0,0", "sx,0,0", "xor,0,0,0", "sar,0,0,0"]);
         lines.insert(at + 1, fields(line));
     }
     if wanted > 8 && random.percent(40) {
@@ -222,6 +223,13 @@ fn target_at_limit(random: &mut Random, graph: &Graph, lines: &mut Lines) {
     let blocks = graph.blocks.len();
     let value = random.pick(&[blocks, blocks, blocks - 1, blocks + 1, 64, 255]);
     replace(random, lines, &[Role::Target], value.to_string());
+}
+
+/// An `in` of a register just below R, at it or past it.
+fn input_at_limit(random: &mut Random, graph: &Graph, lines: &mut Lines) {
+    let r = graph.registers;
+    let d = random.pick(&[r - 1, r, r, r + 1, 16, 255]).to_string();
+    put_instruction(random, graph, lines, vec!["in".into(), d]);
 }
 
 /// A bad register and a bad target in one line: the register goes first.
@@ -278,6 +286,7 @@ fn wrong_form(random: &mut Random, graph: &Graph, lines: &mut Lines) {
         "sx,0,0,0", "add,0,0", "set,0,0,0", "sub,0,0,0,0", "block", "graph,1", "graph,1,1,1",
         "goto", "goto,0,0", "halt,0", "ite,eq,0,0,0", "ite,eq,0,0,0,0,0", "ite,add,0,0,0,0",
         "ite,12,0,0,0,0", "ite,EQ,0,0,0,0", "ite,,0,0,0,0", "set, 0,0", "3,0,0,0", ",", ",,,",
+        "in", "in,", "in,256", "in,00", "in,0,0", "in,-1", "in,x", "in, 0", "inn,0", "In,0", "i,0",
         "addx,0,0,0", "ad,0,0,0", "gotox,0", "sett,0,0", "ite,lt,0,0,0,x", "setx", "block,-1",
     ];
     let form = fields(random.pick(&forms));
@@ -288,7 +297,8 @@ fn wrong_form(random: &mut Random, graph: &Graph, lines: &mut Lines) {
 fn not_due(random: &mut Random, graph: &Graph, lines: &mut Lines) {
     let forms = [
         "graph,1,1", "block,0", "block,255", "halt", "goto,0", "goto,255", "set,0,0", "set,255,0",
-        "copy,0,0", "ite,ne,0,0,0,0", "ite,ne,255,0,255,0", "graph,64,16", "sx,16,0",
+        "copy,0,0", "ite,ne,0,0,0,0", "ite,ne,255,0,255,0", "graph,64,16", "sx,16,0", "in,0",
+        "in,255",
     ];
     let at = random.below(lines.len() + 1);
     lines.insert(at, fields(random.pick(&forms)));
@@ -303,12 +313,12 @@ fn unknown_comparison(random: &mut Random, _: &Graph, lines: &mut Lines) {
     replace(random, lines, &[Role::Comparison], name);
 }
 
-const LINE_DAMAGE: [LineDamage; 31] = [
+const LINE_DAMAGE: [LineDamage; 32] = [
     leading_zero, bad_literal, good_literal, big_number, odd_number, empty_field, extra_field,
     missing_field, odd_byte, carriage_returns, swapped, deleted, doubled, ninth, wrong_block,
     stops_early, extra_lines, register_at_limit, target_at_limit, both_at_limit, graph_limits,
     empty_line, wrong_form, not_due, unknown_comparison, register_at_limit, target_at_limit,
-    target_at_limit, target_at_limit, not_due, stops_early,
+    target_at_limit, target_at_limit, not_due, stops_early, input_at_limit,
 ];
 
 /// Damage done to the bytes, where lines no longer matter.

@@ -6,7 +6,10 @@ use reference::generate::graphs;
 use reference::graph::Graph;
 use reference::graph_table::GRAPH_WORDS;
 use reference::machine_table::MACHINE_WORDS;
-use reference::operations::{read, run_graph, run_machine, synthesise, ReadAnswer, RunAnswer};
+use reference::operations::{
+    read, run_graph, run_graph_with_words, run_machine, run_machine_with_words, synthesise,
+    ReadAnswer, RunAnswer, WordsRunAnswer,
+};
 use reference::parse::parse;
 use reference::random::Random;
 
@@ -61,6 +64,34 @@ pub fn on_machine(text: &str, words: &[u32], budget: u32) -> (RunAnswer, Vec<u32
     (answer, registers)
 }
 
+/// A run with words, on registers of 0 and with the machine's starters.
+pub fn graph_on_words(text: &str, start: u32, budget: u32, words: &[u32]) -> Ran {
+    let (table, starters) = (graph_table_of(text), starters_of(text));
+    let mut registers = registers(&[]);
+    let answer = run_graph_with_words(&table, &mut registers, start, budget, words, &starters);
+    (answer, registers)
+}
+
+pub fn machine_on_words(text: &str, start: u32, budget: u32, words: &[u32]) -> Ran {
+    let (table, mut registers) = (machine_table_of(text), registers(&[]));
+    (run_machine_with_words(&table, &mut registers, start, budget, words), registers)
+}
+
+/// What a run with words answered, and its registers after.
+pub type Ran = (WordsRunAnswer, Vec<u32>);
+
+pub const SPENT: u32 = 0;
+pub const HALTED: u32 = 1;
+pub const DRY: u32 = 2;
+
+pub fn ran(outcome: u32, count: u32, next: u32) -> WordsRunAnswer {
+    WordsRunAnswer { number: 0, outcome, count, next }
+}
+
+pub fn refused_words(number: u32) -> WordsRunAnswer {
+    WordsRunAnswer { number, outcome: 0, count: 0, next: 0 }
+}
+
 pub fn halted(count: u32) -> RunAnswer {
     RunAnswer { number: 0, halted: true, count, next: 255 }
 }
@@ -77,4 +108,25 @@ pub fn refused(number: u32) -> RunAnswer {
 pub fn many_graphs(seed: u64, count: usize) -> Vec<Graph> {
     let mut random = Random::new(seed);
     (0..count).map(|_| graphs::graph(&mut random)).collect()
+}
+
+/// Random valid graphs that all read words.
+pub fn many_reading_graphs(seed: u64, count: usize) -> Vec<Graph> {
+    let mut random = Random::new(seed);
+    let mut make = |_| {
+        let size = graphs::size(&mut random);
+        let graph = graphs::graph_of(&mut random, size);
+        graphs::with_inputs(&mut random, graph)
+    };
+    (0..count).map(&mut make).collect()
+}
+
+/// Random valid graphs that read none.
+pub fn many_silent_graphs(seed: u64, count: usize) -> Vec<Graph> {
+    let mut random = Random::new(seed);
+    let mut make = |_| {
+        let size = graphs::size(&mut random);
+        graphs::graph_of(&mut random, size)
+    };
+    (0..count).map(&mut make).collect()
 }

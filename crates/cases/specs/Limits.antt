@@ -10,3 +10,5 @@ pub record Within (c : Case) : Type 0 where
   pub machine : c .machine ≤ 13700
   pub machinePatches : c .«machine_patches» .count ≤ 64
   pub registers : c .registers .count ≤ 20
+  pub words : c .words .count ≤ 64
+  pub starters : c .starters .count ≤ 70

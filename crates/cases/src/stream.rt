@@ -27,7 +27,8 @@ pub struct Taken {
     pub next: Cursor,
 }
 
-// The text's bytes, sizes of buffers, pairs of index and word, register words, and the place behind the case.
+// The text's bytes, sizes of buffers, pairs of index and word, register words, the words and starters of runs with words, and the place
+// behind the case.
 pub struct Case {
     pub text: Region,
     pub graph: u32,
@@ -40,6 +41,8 @@ pub struct Case {
     pub block_budget: u32,
     pub start_state: u32,
     pub cycle_budget: u32,
+    pub words: Region,
+    pub starters: Region,
     pub next: Cursor,
 }
 
@@ -56,8 +59,12 @@ impl Case {
     pub const REGISTERS: u32 = 20;
 
     pub const PATCHES: u32 = 64;
+
+    pub const WORDS: u32 = 64;
+
+    pub const STARTERS: u32 = 70;
     // The bytes of a case, at most.
-    pub const BYTES: usize = 21148;
+    pub const BYTES: usize = 21692;
 }
 
 fn wide(b: u8) -> u32
@@ -171,11 +178,15 @@ pub fn case_at(s: &[u8], at: usize) -> Case
     let block_budget = word(s, start_block.next);
     let start_state = word(s, block_budget.next);
     let cycle_budget = word(s, start_state.next);
+    let words = take(s, cycle_budget.next, Case::WORDS, 4);
+    let starters = take(s, words.next, Case::STARTERS, 4);
     let text_region = text.region;
     let graph_region = graph_patches.region;
     let machine_region = machine_patches.region;
     let register_region = registers.region;
-    let next = cycle_budget.next;
+    let word_region = words.region;
+    let starter_region = starters.region;
+    let next = starters.next;
     Case {
         text: text_region,
         graph: graph.value,
@@ -188,6 +199,8 @@ pub fn case_at(s: &[u8], at: usize) -> Case
         block_budget: block_budget.value,
         start_state: start_state.value,
         cycle_budget: cycle_budget.value,
+        words: word_region,
+        starters: starter_region,
         next,
     }
 }

@@ -1,6 +1,6 @@
 // The numbers that an answer stands for: the refusal's number, 0 for success, and its other values.
 ghost use mathlib.Core.Path.{_≡_};
-ghost use Rattle.runs.specs.Runs.{numberOf as runNumber, haltedOf, countOf, nextOf};
+ghost use Rattle.runs.specs.Runs.{numberOf as runNumber, outcomeOf, countOf, nextOf};
 use cfg_text::ReadAnswer;
 use cfg_write::WriteAnswer;
 use runs::RunAnswer;
@@ -61,17 +61,19 @@ pub fn run_number(answer: RunAnswer) -> u32
         RunAnswer::Refused(number) => number,
         RunAnswer::Halted(_) => 0,
         RunAnswer::Spent(_, _) => 0,
+        RunAnswer::Dry(_, _) => 0,
     }
 }
 
-// 1 where the run halted, else 0.
-pub fn run_halted(answer: RunAnswer) -> u32
-    ensures { λ r. ⌜ r ≡ haltedOf answer ⌝ }
+// 0 spent, 1 halted, 2 dry. A run without words is never dry.
+pub fn run_outcome(answer: RunAnswer) -> u32
+    ensures { λ r. ⌜ r ≡ outcomeOf answer ⌝ }
 {
     match answer {
         RunAnswer::Refused(_) => 0,
         RunAnswer::Halted(_) => 1,
         RunAnswer::Spent(_, _) => 0,
+        RunAnswer::Dry(_, _) => 2,
     }
 }
 
@@ -82,6 +84,7 @@ pub fn run_count(answer: RunAnswer) -> u32
         RunAnswer::Refused(_) => 0,
         RunAnswer::Halted(count) => count,
         RunAnswer::Spent(count, _) => count,
+        RunAnswer::Dry(count, _) => count,
     }
 }
 
@@ -93,5 +96,6 @@ pub fn run_next(answer: RunAnswer) -> u32
         RunAnswer::Refused(_) => 0,
         RunAnswer::Halted(_) => 255,
         RunAnswer::Spent(_, next) => next,
+        RunAnswer::Dry(_, next) => next,
     }
 }

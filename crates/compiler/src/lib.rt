@@ -1,4 +1,4 @@
-// The five operations, on buffers that the caller lends. Each contract says the whole of what an operation does, on all inputs: its
+// The seven operations, on buffers that the caller lends. Each contract says the whole of what an operation does, on all inputs: its
 // answer, and what every buffer holds at the end. A refused operation leaves its buffers as they were.
 pub mod fields; // fields.rt: the numbers and values of an answer
 
@@ -15,8 +15,8 @@ ghost use Rattle.cfg_write.specs.RoundTrip.{WrittenAgain, ReadAgain};
 ghost use Rattle.synthesis.specs.Synthesis.{synthesisAnswer, synthesisWords};
 ghost use Rattle.synthesis.specs.declared.SynthesisAnswer.«the-variants».{Made};
 ghost use Rattle.agreement.specs.Agreement.{Agreement};
-ghost use Rattle.cfg.specs.Run.{runAnswer as graphAnswer, runRegisters as graphRegisters};
-ghost use Rattle.fsmd.specs.Run.{runAnswer as machineAnswer, runRegisters as machineRegisters};
+ghost use Rattle.cfg.specs.Run.{runAnswer as graphAnswer, runRegisters as graphRegisters, wordsAnswer as graphWordsAnswer, wordsRegisters as graphWordsRegisters};
+ghost use Rattle.fsmd.specs.Run.{runAnswer as machineAnswer, runRegisters as machineRegisters, wordsAnswer as machineWordsAnswer, wordsRegisters as machineWordsRegisters};
 use cfg_text::ReadAnswer;
 use cfg_write::WriteAnswer;
 use runs::RunAnswer;
@@ -40,7 +40,7 @@ pub fn write_text(table: &[u32], out: &mut [u8]) -> WriteAnswer
     cfg_write::write_text(table, out)
 }
 
-// "Synthesise graph table into machine table". Where it succeeds, graph and machine agree on whole runs: demand 3.
+// "Synthesise graph table into machine table". Where it succeeds, graph and machine agree on whole runs, on equal words: demand 3.
 pub fn synthesise(graph: &[u32], machine: &mut [u32]) -> SynthesisAnswer
     ensures { λ r. ⌜ r ≡ synthesisAnswer (now (graph .entry)) (now (machine .entry)) ⌝ }
     ensures { λ _. ⌜ now (machine .exit) ≡ synthesisWords (now (graph .entry)) (now (machine .entry)) ⌝ }
@@ -63,4 +63,33 @@ pub fn run_machine(machine: &[u32], registers: &mut [u32], start: u32, budget: u
     ensures { λ _. ⌜ now (registers .exit) ≡ machineRegisters (now (machine .entry)) (now (registers .entry)) start budget ⌝ }
 {
     fsmd::run::run_machine(machine, registers, start, budget)
+}
+
+// "Run graph" with words: the start is arrival 0, each coming to a starter the next one, and arrival k uses word k.
+pub fn run_graph_with_words(
+    graph: &[u32],
+    registers: &mut [u32],
+    start: u32,
+    budget: u32,
+    words: &[u32],
+    starters: &[u32],
+) -> RunAnswer
+    ensures { λ r. ⌜ r ≡ graphWordsAnswer (now (graph .entry)) (now (registers .entry)) start budget (now (words .entry)) (now (starters .entry)) ⌝ }
+    ensures { λ _. ⌜ now (registers .exit) ≡ graphWordsRegisters (now (graph .entry)) (now (registers .entry)) start budget (now (words .entry)) (now (starters .entry)) ⌝ }
+{
+    cfg::run::run_graph_with_words(graph, registers, start, budget, words, starters)
+}
+
+// "Run machine" with words: cycle k, from 0, uses word k.
+pub fn run_machine_with_words(
+    machine: &[u32],
+    registers: &mut [u32],
+    start: u32,
+    budget: u32,
+    words: &[u32],
+) -> RunAnswer
+    ensures { λ r. ⌜ r ≡ machineWordsAnswer (now (machine .entry)) (now (registers .entry)) start budget (now (words .entry)) ⌝ }
+    ensures { λ _. ⌜ now (registers .exit) ≡ machineWordsRegisters (now (machine .entry)) (now (registers .entry)) start budget (now (words .entry)) ⌝ }
+{
+    fsmd::run::run_machine_with_words(machine, registers, start, budget, words)
 }

@@ -2,11 +2,11 @@
 use Prim.Native.Nat.{ℕ}
 use mathlib.Core.Path.{_≡_}
 use Rattle.runs.specs.declared.RunAnswer.{RunAnswer}
-use Rattle.runs.specs.Runs.{numberOf, haltedOf, countOf, nextOf}
+use Rattle.runs.specs.Runs.{numberOf, outcomeOf, countOf, nextOf}
 
--- of a run: the number returned, and the three fields set
-pub record RunFields (answer : RunAnswer) (number halted count next : ℕ) : Type 0 where
+-- of a run: the number returned, and the three fields set; a run without words is spent or halted, and its outcome is the field `halted`
+pub record RunFields (answer : RunAnswer) (number outcome count next : ℕ) : Type 0 where
   pub returned : number ≡ numberOf answer
-  pub hasHalted : halted ≡ haltedOf answer
+  pub ended : outcome ≡ outcomeOf answer
   pub counted : count ≡ countOf answer
   pub following : next ≡ nextOf answer

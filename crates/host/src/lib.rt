@@ -1,4 +1,4 @@
-// The five operations as C functions: include/gutkavu.h declares them. Each returns the refusal's number, 0 for success, and sets every
+// The seven operations as C functions: include/gutkavu.h declares them. Each returns the refusal's number, 0 for success, and sets every
 // other field on every call.
 use compiler::fields;
 use runs::RunAnswer;
@@ -7,8 +7,8 @@ ghost use Rattle.cfg_text.specs.Read.{readAnswer, readWords, numberOf as readNu
 ghost use Rattle.cfg_write.specs.Write.{writeAnswer, writeBytes, numberOf as writeNumber, lengthOf};
 ghost use Rattle.synthesis.specs.Synthesis.{synthesisAnswer, synthesisWords};
 ghost use Rattle.compiler.specs.Answers.{synthesisNumber};
-ghost use Rattle.cfg.specs.Run.{runAnswer as graphAnswer, runRegisters as graphRegisters};
-ghost use Rattle.fsmd.specs.Run.{runAnswer as machineAnswer, runRegisters as machineRegisters};
+ghost use Rattle.cfg.specs.Run.{runAnswer as graphAnswer, runRegisters as graphRegisters, wordsAnswer as graphWordsAnswer, wordsRegisters as graphWordsRegisters};
+ghost use Rattle.fsmd.specs.Run.{runAnswer as machineAnswer, runRegisters as machineRegisters, wordsAnswer as machineWordsAnswer, wordsRegisters as machineWordsRegisters};
 ghost use Rattle.host.specs.Fields.{RunFields};
 
 #[no_mangle]
@@ -43,10 +43,10 @@ pub extern "C" fn gutkavu_synthesise(graph: &[u32], machine: &mut [u32]) -> u32
 }
 
 // The fields of a run's answer.
-fn set_run(answer: RunAnswer, halted: &mut u32, count: &mut u32, next: &mut u32) -> u32
-    ensures { λ r. ⌜ RunFields answer r (now (halted .exit)) (now (count .exit)) (now (next .exit)) ⌝ }
+fn set_run(answer: RunAnswer, outcome: &mut u32, count: &mut u32, next: &mut u32) -> u32
+    ensures { λ r. ⌜ RunFields answer r (now (outcome .exit)) (now (count .exit)) (now (next .exit)) ⌝ }
 {
-    *halted = fields::run_halted(answer);
+    *outcome = fields::run_outcome(answer);
     *count = fields::run_count(answer);
     *next = fields::run_next(answer);
     fields::run_number(answer)
@@ -84,4 +84,41 @@ pub extern "C" fn gutkavu_run_machine(
 {
     let answer = compiler::run_machine(machine, registers, start, budget);
     set_run(answer, halted, count, next)
+}
+
+#[no_mangle]
+pub extern "C" fn gutkavu_run_graph_with_words(
+    graph: &[u32],
+    registers: &mut [u32],
+    start: u32,
+    budget: u32,
+    words: &[u32],
+    starters: &[u32],
+    outcome: &mut u32,
+    count: &mut u32,
+    next: &mut u32,
+) -> u32
+    ensures { λ r. ⌜ RunFields (graphWordsAnswer (now (graph .entry)) (now (registers .entry)) start budget (now (words .entry)) (now (starters .entry))) r (now (outcome .exit)) (now (count .exit)) (now (next .exit)) ⌝ }
+    ensures { λ _. ⌜ now (registers .exit) ≡ graphWordsRegisters (now (graph .entry)) (now (registers .entry)) start budget (now (words .entry)) (now (starters .entry)) ⌝ }
+{
+    let answer = compiler::run_graph_with_words(graph, registers, start, budget, words, starters);
+    set_run(answer, outcome, count, next)
+}
+
+#[no_mangle]
+pub extern "C" fn gutkavu_run_machine_with_words(
+    machine: &[u32],
+    registers: &mut [u32],
+    start: u32,
+    budget: u32,
+    words: &[u32],
+    outcome: &mut u32,
+    count: &mut u32,
+    next: &mut u32,
+) -> u32
+    ensures { λ r. ⌜ RunFields (machineWordsAnswer (now (machine .entry)) (now (registers .entry)) start budget (now (words .entry))) r (now (outcome .exit)) (now (count .exit)) (now (next .exit)) ⌝ }
+    ensures { λ _. ⌜ now (registers .exit) ≡ machineWordsRegisters (now (machine .entry)) (now (registers .entry)) start budget (now (words .entry)) ⌝ }
+{
+    let answer = compiler::run_machine_with_words(machine, registers, start, budget, words);
+    set_run(answer, outcome, count, next)
 }

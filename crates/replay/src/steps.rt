@@ -49,39 +49,116 @@ fn synthesise(graph: &[u32], machine: &mut [u32], line: &mut [u32]) {
 
 // The fields of a run from a place of the line on.
 fn put_run(answer: RunAnswer, registers: &[u32], line: &mut [u32], at: usize)
-    requires { ⌜ at ≤ 13 ⌝ }
+    requires { ⌜ at ≤ 23 ⌝ }
 {
     store(line, at, fields::run_number(answer));
-    store(line, at + 1, fields::run_halted(answer));
+    store(line, at + 1, fields::run_outcome(answer));
     store(line, at + 2, fields::run_count(answer));
     store(line, at + 3, fields::run_next(answer));
     store(line, at + 4, digest::of_words(registers));
 }
 
 fn run_graph(graph: &[u32], registers: &mut [u32], s: &[u8], c: Case, line: &mut [u32]) {
-    let words = c.registers;
-    buffers::load(registers, s, words.at);
+    let buffer = c.registers;
+    buffers::load(registers, s, buffer.at);
     let answer = compiler::run_graph(graph, registers, c.start_block, c.block_budget);
     put_run(answer, registers, line, 8);
 }
 
 fn run_machine(machine: &[u32], registers: &mut [u32], s: &[u8], c: Case, line: &mut [u32]) {
-    let words = c.registers;
-    buffers::load(registers, s, words.at);
+    let buffer = c.registers;
+    buffers::load(registers, s, buffer.at);
     let answer = compiler::run_machine(machine, registers, c.start_state, c.cycle_budget);
     put_run(answer, registers, line, 13);
 }
 
-// Both runs, each on its own copy of the register words.
+// Both runs without words, each on its own copy of the register words.
 fn run_both(s: &[u8], c: Case, graph: &[u32], machine: &[u32], line: &mut [u32])
     requires { ⌜ Within c ⌝ }
 {
-    let words = c.registers;
-    let n = words.count as usize;
+    let buffer = c.registers;
+    let n = buffer.count as usize;
     let mut first = [0u32; 20];
     let mut second = [0u32; 20];
     run_graph(graph, &mut first[..n], s, c, line);
     run_machine(machine, &mut second[..n], s, c, line);
+}
+
+fn run_graph_with_words(
+    graph: &[u32],
+    registers: &mut [u32],
+    s: &[u8],
+    c: Case,
+    words: &[u32],
+    starters: &[u32],
+    line: &mut [u32],
+) {
+    let buffer = c.registers;
+    buffers::load(registers, s, buffer.at);
+    let answer = compiler::run_graph_with_words(
+        graph,
+        registers,
+        c.start_block,
+        c.block_budget,
+        words,
+        starters,
+    );
+    put_run(answer, registers, line, 18);
+}
+
+fn run_machine_with_words(
+    machine: &[u32],
+    registers: &mut [u32],
+    s: &[u8],
+    c: Case,
+    words: &[u32],
+    line: &mut [u32],
+) {
+    let buffer = c.registers;
+    buffers::load(registers, s, buffer.at);
+    let answer = compiler::run_machine_with_words(
+        machine,
+        registers,
+        c.start_state,
+        c.cycle_budget,
+        words,
+    );
+    put_run(answer, registers, line, 23);
+}
+
+// Both runs on these words, each on its own copy of the register words.
+fn run_on(
+    s: &[u8],
+    c: Case,
+    graph: &[u32],
+    machine: &[u32],
+    words: &[u32],
+    starters: &[u32],
+    line: &mut [u32],
+)
+    requires { ⌜ Within c ⌝ }
+{
+    let buffer = c.registers;
+    let n = buffer.count as usize;
+    let mut first = [0u32; 20];
+    let mut second = [0u32; 20];
+    run_graph_with_words(graph, &mut first[..n], s, c, words, starters, line);
+    run_machine_with_words(machine, &mut second[..n], s, c, words, line);
+}
+
+// Both runs with the case's words and starters.
+fn run_both_with_words(s: &[u8], c: Case, graph: &[u32], machine: &[u32], line: &mut [u32])
+    requires { ⌜ Within c ⌝ }
+{
+    let words = c.words;
+    let starters = c.starters;
+    let n = words.count as usize;
+    let m = starters.count as usize;
+    let mut first = [0u32; 64];
+    let mut second = [0u32; 70];
+    buffers::load(&mut first[..n], s, words.at);
+    buffers::load(&mut second[..m], s, starters.at);
+    run_on(s, c, graph, machine, &first[..n], &second[..m], line);
 }
 
 // The listing's bytes are the first of the output, as many as the answer says.
@@ -93,8 +170,8 @@ fn list(text: &[u8], line: &mut [u32]) {
     };
     let n = length as usize;
     if n <= out.len() {
-        store(line, 18, length);
-        store(line, 19, digest::of_bytes(&out[..n]));
+        store(line, 28, length);
+        store(line, 29, digest::of_bytes(&out[..n]));
     }
 }
 
@@ -119,6 +196,7 @@ fn answer_on(s: &[u8], c: Case, graph: &mut [u32], machine: &mut [u32], line: &m
 {
     make_tables(s, c, graph, machine, line);
     run_both(s, c, graph, machine, line);
+    run_both_with_words(s, c, graph, machine, line);
     list(text_of(s, c), line);
 }
 

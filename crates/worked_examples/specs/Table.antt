@@ -1,4 +1,4 @@
--- The worked examples P1 to P13 as one table of computed tests, and one theorem that all hold. Assumes nothing.
+-- The worked examples P1 to P13, and answers of R-1, as one table of computed tests, and one theorem that all hold. Assumes nothing.
 use Prim.Native.Nat.{ℕ, zero, suc, _+_}
 use Prim.Native.String.{String}
 use mathlib.Core.Bool.{Bool, true, false, not, _&&_}
@@ -7,16 +7,17 @@ use lib.ListN.{length, getD, replicate}
 use lib.Dec.{T, eqb}
 use Rattle.word.specs.Word.{evalOf}
 use Rattle.runs.specs.Lists.{same, every}
-use Rattle.runs.specs.Runs.{listed, unread, numberOf, outcomeOf, countOf, nextOf}
+use Rattle.runs.specs.Runs.{numberOf, outcomeOf, countOf, nextOf}
+use Rattle.runs.specs.Operations.{answered, registersLeft}
 use Rattle.runs.specs.declared.RunAnswer.{RunAnswer}
 use Rattle.cfg.specs.Layout.{graphWords}
-use Rattle.cfg.specs.Graph.{CFG}
-use Rattle.cfg.specs.Table.{tableOf as graphTable, admitted as graphAdmitted}
-use Rattle.cfg.specs.Run.{runAnswer as runGraph, runRegisters as graphRegisters, wordsAnswer, wordsRegisters}
+use Rattle.cfg.specs.Graph.{CFG, runBlock}
+use Rattle.cfg.specs.Table.{tableOf as graphTable, graphOf, admitted as graphAdmitted}
+use Rattle.cfg.specs.Run.{refusal as graphRefusal, runAnswer as runGraph, runRegisters as graphRegisters, wordsRefusal as graphWordsRefusal, wordsAnswer as runGraphOn, wordsRegisters as graphRegistersOn}
 use Rattle.cfg_text.specs.Read.{readAnswer, readWords, numberOf as readNumber, lineOf as readLine}
-use Rattle.fsmd.specs.Machine.{State}
-use Rattle.fsmd.specs.Table.{tableOf as machineTable, admitted as machineAdmitted}
-use Rattle.fsmd.specs.Run.{runAnswer as runMachine, runRegisters as machineRegisters}
+use Rattle.fsmd.specs.Machine.{State, clock}
+use Rattle.fsmd.specs.Table.{tableOf as machineTable, machineOf, admitted as machineAdmitted}
+use Rattle.fsmd.specs.Run.{refusal as machineRefusal, runAnswer as runMachine, runRegisters as machineRegisters, wordsRefusal as machineWordsRefusal, wordsAnswer as runMachineOn, wordsRegisters as machineRegistersOn}
 use Rattle.grouping.specs.Grouping.{groups}
 use Rattle.synthesis.specs.Synthesis.{machine}
 use Rattle.worked_examples.specs.Graphs.{P7, P9, P10, P11, P12, Figure5, Rates}
@@ -47,7 +48,7 @@ abbrev wireCounts : CFG → List ℕ
 wireCounts g = map (λ (q : State). length (q .wires)) (machine g .states)
 
 unfoldable pub rows : List Row
-unfolding evalOf groups machine runGraph graphRegisters wordsAnswer wordsRegisters runMachine machineRegisters graphTable machineTable graphAdmitted machineAdmitted readAnswer readWords P7 P9 P10 P11 P12 Figure5 Rates gotoTwo gotoOne eight nine p7Text
+unfolding evalOf groups machine answered registersLeft graphRefusal graphWordsRefusal graphOf runBlock machineRefusal machineWordsRefusal machineOf clock graphTable machineTable graphAdmitted machineAdmitted readAnswer readWords P7 P9 P10 P11 P12 Figure5 Rates gotoTwo gotoOne eight nine p7Text
 rows =
     row "P1 the empty text: 3, line 1" (same (reading []) (3 ∷ 1 ∷ []))
     ∷ row "P2 graph,65,1: 2, line 1" (same (reading (lines ("graph,65,1" ∷ []))) (2 ∷ 1 ∷ []))
@@ -68,16 +69,16 @@ rows =
     ∷ row "P7 its tables are admitted" (graphAdmitted (graphTable P7) && machineAdmitted (machineTable (machine P7)))
     ∷ row "P8 blocks" (same (fields (runGraph (graphTable P7) (regs 12 18) 0 1000)) (0 ∷ 1 ∷ 9 ∷ 255 ∷ []))
     ∷ row "P8 registers of the graph" (same (graphRegisters (graphTable P7) (regs 12 18) 0 1000) (regs 6 6))
-    ∷ row "P8 cycles" (same (fields (runMachine unread (machineTable (machine P7)) (regs 12 18) 0 1000)) (0 ∷ 1 ∷ 4 ∷ 255 ∷ []))
-    ∷ row "P8 registers of the machine" (same (machineRegisters unread (machineTable (machine P7)) (regs 12 18) 0 1000) (regs 6 6))
+    ∷ row "P8 cycles" (same (fields (runMachine (machineTable (machine P7)) (regs 12 18) 0 1000)) (0 ∷ 1 ∷ 4 ∷ 255 ∷ []))
+    ∷ row "P8 registers of the machine" (same (machineRegisters (machineTable (machine P7)) (regs 12 18) 0 1000) (regs 6 6))
     ∷ row "P9 starters" (same (groups P9 .starters) (0 ∷ 1 ∷ 3 ∷ 4 ∷ []))
     ∷ row "P10 starters" (same (groups P10 .starters) (0 ∷ 1 ∷ 2 ∷ []))
     ∷ row "P11 one state" (same (groups P11 .starters) (0 ∷ []))
-    ∷ row "P11 not halted after 100 cycles" (same (fields (runMachine unread (machineTable (machine P11)) (regs 1 2) 0 100)) (0 ∷ 0 ∷ 100 ∷ 0 ∷ []))
+    ∷ row "P11 not halted after 100 cycles" (same (fields (runMachine (machineTable (machine P11)) (regs 1 2) 0 100)) (0 ∷ 0 ∷ 100 ∷ 0 ∷ []))
     ∷ row "P12 one state" (same (groups P12 .starters) (0 ∷ []))
     ∷ row "P12 block 2 has none" (same (groups P12 .states) (0 ∷ 0 ∷ 255 ∷ []))
     ∷ row "P13 budget 0, the graph" (same (fields (runGraph (graphTable P7) (regs 12 18) 3 0)) (0 ∷ 0 ∷ 0 ∷ 3 ∷ []))
-    ∷ row "P13 budget 0, the machine" (same (fields (runMachine unread (machineTable (machine P7)) (regs 12 18) 1 0)) (0 ∷ 0 ∷ 0 ∷ 1 ∷ []))
+    ∷ row "P13 budget 0, the machine" (same (fields (runMachine (machineTable (machine P7)) (regs 12 18) 1 0)) (0 ∷ 0 ∷ 0 ∷ 1 ∷ []))
     -- run only
     ∷ row "eight instructions" (same (reading eight) (0 ∷ 0 ∷ []))
     ∷ row "a ninth instruction: 3" (same (reading nine) (3 ∷ 11 ∷ []))
@@ -90,17 +91,31 @@ rows =
     -- figure 5 of the published procedure
     ∷ row "figure 5 starters" (same (groups Figure5 .starters) (0 ∷ 3 ∷ 1 ∷ 5 ∷ []))
     ∷ row "figure 5 states" (same (groups Figure5 .states) (0 ∷ 2 ∷ 2 ∷ 1 ∷ 1 ∷ 3 ∷ 3 ∷ []))
-    -- R-1
-    ∷ row "in: the graph is spent before it is dry" (same (fields (wordsAnswer (graphTable Rates) (regs 0 0) 0 4 (5 ∷ 7 ∷ []) (0 ∷ []))) (0 ∷ 0 ∷ 4 ∷ 0 ∷ []))
-    ∷ row "in: the graph is dry" (same (fields (wordsAnswer (graphTable Rates) (regs 0 0) 0 9 (5 ∷ 7 ∷ []) (0 ∷ []))) (0 ∷ 2 ∷ 4 ∷ 0 ∷ []))
-    ∷ row "in: registers of the graph" (same (wordsRegisters (graphTable Rates) (regs 0 0) 0 9 (5 ∷ 7 ∷ []) (0 ∷ [])) (regs 7 14))
-    ∷ row "in: every block an arrival" (same (wordsRegisters (graphTable Rates) (regs 0 0) 0 2 (5 ∷ 7 ∷ []) (1 ∷ 0 ∷ [])) (regs 5 12))
-    ∷ row "in: the machine is spent before it is dry" (same (fields (runMachine (listed (5 ∷ 7 ∷ [])) (machineTable (machine Rates)) (regs 0 0) 0 2)) (0 ∷ 0 ∷ 2 ∷ 0 ∷ []))
-    ∷ row "in: the machine is dry" (same (fields (runMachine (listed (5 ∷ 7 ∷ [])) (machineTable (machine Rates)) (regs 0 0) 0 3)) (0 ∷ 2 ∷ 2 ∷ 0 ∷ []))
-    ∷ row "in: registers of the machine" (same (machineRegisters (listed (5 ∷ 7 ∷ [])) (machineTable (machine Rates)) (regs 0 0) 0 3) (regs 7 14))
-    ∷ row "no words: dry at once" (same (fields (wordsAnswer (graphTable Rates) (regs 0 0) 0 1 [] (0 ∷ []))) (0 ∷ 2 ∷ 0 ∷ 0 ∷ []))
-    ∷ row "no words, no budget: spent" (same (fields (wordsAnswer (graphTable Rates) (regs 0 0) 0 0 [] (0 ∷ []))) (0 ∷ 0 ∷ 0 ∷ 0 ∷ []))
-    ∷ row "a list without the start: 11" (same (fields (wordsAnswer (graphTable Rates) (regs 0 0) 1 1 [] (0 ∷ []))) (11 ∷ 0 ∷ 0 ∷ 0 ∷ []))
+    -- R-1: the text
+    ∷ row "in,0 is read" (same (reading (lines ("graph,1,1" ∷ "block,0" ∷ "in,0" ∷ "halt" ∷ []))) (0 ∷ 0 ∷ []))
+    ∷ row "in,1 with R = 1: 4" (same (reading (lines ("graph,1,1" ∷ "block,0" ∷ "in,1" ∷ "halt" ∷ []))) (4 ∷ 3 ∷ []))
+    ∷ row "in,0,0: 2" (same (reading (lines ("graph,1,1" ∷ "block,0" ∷ "in,0,0" ∷ "halt" ∷ []))) (2 ∷ 3 ∷ []))
+    -- R-1: runs with words
+    ∷ row "in: the graph is spent before it is dry" (same (fields (runGraphOn (graphTable Rates) (regs 0 0) 0 4 (5 ∷ 7 ∷ []) (0 ∷ []))) (0 ∷ 0 ∷ 4 ∷ 0 ∷ []))
+    ∷ row "in: the graph is dry" (same (fields (runGraphOn (graphTable Rates) (regs 0 0) 0 9 (5 ∷ 7 ∷ []) (0 ∷ []))) (0 ∷ 2 ∷ 4 ∷ 0 ∷ []))
+    ∷ row "in: registers of the graph" (same (graphRegistersOn (graphTable Rates) (regs 0 0) 0 9 (5 ∷ 7 ∷ []) (0 ∷ [])) (regs 7 14))
+    ∷ row "in: every block an arrival" (same (graphRegistersOn (graphTable Rates) (regs 0 0) 0 2 (5 ∷ 7 ∷ []) (1 ∷ 0 ∷ [])) (regs 5 12))
+    ∷ row "in: the machine is spent before it is dry" (same (fields (runMachineOn (machineTable (machine Rates)) (regs 0 0) 0 2 (5 ∷ 7 ∷ []))) (0 ∷ 0 ∷ 2 ∷ 0 ∷ []))
+    ∷ row "in: the machine is dry" (same (fields (runMachineOn (machineTable (machine Rates)) (regs 0 0) 0 3 (5 ∷ 7 ∷ []))) (0 ∷ 2 ∷ 2 ∷ 0 ∷ []))
+    ∷ row "in: registers of the machine" (same (machineRegistersOn (machineTable (machine Rates)) (regs 0 0) 0 3 (5 ∷ 7 ∷ [])) (regs 7 14))
+    ∷ row "no words: dry at once" (same (fields (runGraphOn (graphTable Rates) (regs 0 0) 0 1 [] (0 ∷ []))) (0 ∷ 2 ∷ 0 ∷ 0 ∷ []))
+    ∷ row "no words, no budget: spent" (same (fields (runGraphOn (graphTable Rates) (regs 0 0) 0 0 [] (0 ∷ []))) (0 ∷ 0 ∷ 0 ∷ 0 ∷ []))
+    ∷ row "dry at a word that nothing reads" (same (fields (runMachineOn (machineTable (machine P7)) (regs 12 18) 0 9 (1 ∷ 1 ∷ []))) (0 ∷ 2 ∷ 2 ∷ 1 ∷ []))
+    ∷ row "halted on the last unit" (same (fields (runMachineOn (machineTable (machine P7)) (regs 12 18) 0 4 (1 ∷ 1 ∷ 1 ∷ 1 ∷ []))) (0 ∷ 1 ∷ 4 ∷ 255 ∷ []))
+    ∷ row "a starter that leads to itself is an arrival each time" (same (fields (runGraphOn (graphTable P11) (regs 0 0) 0 9 (1 ∷ 1 ∷ 1 ∷ []) (0 ∷ []))) (0 ∷ 2 ∷ 3 ∷ 0 ∷ []))
+    -- R-1: refusals
+    ∷ row "a list without the start: 11" (same (fields (runGraphOn (graphTable Rates) (regs 0 0) 1 1 [] (0 ∷ []))) (11 ∷ 0 ∷ 0 ∷ 0 ∷ []))
+    ∷ row "a list without block 0: 11" (same (fields (runGraphOn (graphTable Rates) (regs 0 0) 1 1 [] (1 ∷ []))) (11 ∷ 0 ∷ 0 ∷ 0 ∷ []))
+    ∷ row "a list with a block that is none: 11" (same (fields (runGraphOn (graphTable Rates) (regs 0 0) 0 1 [] (0 ∷ 2 ∷ []))) (11 ∷ 0 ∷ 0 ∷ 0 ∷ []))
+    ∷ row "the empty list: 11" (same (fields (runGraphOn (graphTable Rates) (regs 0 0) 0 1 [] [])) (11 ∷ 0 ∷ 0 ∷ 0 ∷ []))
+    ∷ row "9 before 11" (same (fields (runGraphOn (graphTable Rates) (regs 0 0) 2 1 [] [])) (9 ∷ 0 ∷ 0 ∷ 0 ∷ []))
+    ∷ row "a graph that reads words, run without: 12" (same (fields (runGraph (graphTable Rates) (regs 0 0) 2 1)) (12 ∷ 0 ∷ 0 ∷ 0 ∷ []))
+    ∷ row "a machine that reads words, run without: 12" (same (fields (runMachine (machineTable (machine Rates)) (regs 0 0) 1 1)) (12 ∷ 0 ∷ 0 ∷ 0 ∷ []))
     ∷ []
 
 pub all-hold : T (every (λ (r : Row). r .holds) rows)

@@ -1,12 +1,13 @@
 -- What the parts of the admission test look for: cited by inner functions alone. Assumes nothing.
 use Prim.Native.Nat.{ℕ}
-use mathlib.Core.Bool.{Bool, _&&_}
+use mathlib.Core.Bool.{Bool, not, _&&_, _||_}
 use mathlib.Core.List.{List}
 use lib.ListN.{take, drop}
 use lib.Dec.{eqb}
 use Rattle.runs.specs.Lists.{same, every}
 use Rattle.cfg.specs.Layout.{endingWords, blockWords, blockOffset}
-use Rattle.cfg.specs.Graph.{validEnding, validBlock}
+use Rattle.cfg.specs.declared.Instruction.{Instruction}
+use Rattle.cfg.specs.Graph.{codeOf, validEnding, validBlock}
 use Rattle.cfg.specs.Table.{endingWordsOf, blockWordsOf, endingAt, blockAt}
 
 -- the n words from o on are 0
@@ -22,3 +23,11 @@ endingFits b r t o = validEnding b r (endingAt t o) && same (endingWordsOf (endi
 unfoldable pub blockFits : ℕ → ℕ → List ℕ → ℕ → Bool
 unfolding validBlock blockAt blockWordsOf
 blockFits b r t n = validBlock b r (blockAt t n) && same (blockWordsOf (blockAt t n)) (take blockWords (drop (blockOffset n) t))
+
+-- code 20 passes only where words are given
+abbrev pub passes : Bool → Instruction → Bool
+passes words i = words || not (eqb (i .code) 20)
+
+-- and so do the instructions of block n
+abbrev pub blockPasses : Bool → ℕ → ℕ → List ℕ → ℕ → Bool
+blockPasses words b r t n = blockFits b r t n && every (passes words) (codeOf (blockAt t n))

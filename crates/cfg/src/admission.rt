@@ -13,9 +13,9 @@ ghost use Rattle.word.specs.Word.{choose, arity, codeOf};
 ghost use Rattle.runs.specs.Lists.{upFrom, every};
 ghost use Rattle.cfg.specs.declared.Ending.the-variants.{Ite};
 ghost use Rattle.cfg.specs.Layout.{maxBlocks, maxInstructions, endingWords, blockWords, graphWords};
-ghost use Rattle.cfg.specs.Graph.{instructionCode, validInstruction, validEnding};
-ghost use Rattle.cfg.specs.Table.{comparisonAt, instructionAt, admitted};
-ghost use Rattle.cfg.specs.Fits.{zeros, endingFits, blockFits};
+ghost use Rattle.cfg.specs.Graph.{wordless, validInstruction, validEnding};
+ghost use Rattle.cfg.specs.Table.{comparisonAt, instructionAt, graphOf, admitted};
+ghost use Rattle.cfg.specs.Fits.{zeros, endingFits, passes, blockPasses};
 
 // The words from `from` up to `to` are 0.
 fn all_zero(table: &[u32], from: usize, to: usize) -> bool
@@ -45,56 +45,56 @@ fn second_valid(i: Instruction, registers: u32) -> bool
     }
 }
 
-// The codes that stand in instructions.
-fn known(code: u32) -> bool
-    ensures { λ r. ⌜ r ≡ instructionCode code ⌝ }
+// Code 20, for the codes above 11: nothing is read, and words must be given.
+fn sample_valid(i: Instruction, registers: u32, words: bool) -> bool
+    requires { ⌜ 11 < i .code ⌝ }
+    ensures { λ r. ⌜ r ≡ (validInstruction registers i && passes words i) ⌝ }
 {
-    if code < 1 {
-        return code == Instruction::IN;
-    }
-    if 11 < code {
-        return code == Instruction::IN;
-    }
-    true
-}
-
-// The first operand: a literal or a register where the code reads one, else 0.
-fn first_valid(i: Instruction, registers: u32) -> bool
-    ensures { λ r. ⌜ r ≡ choose (eqb (arity (i .code)) 0) (eqb (i .a) 0) (eqb (i .code) 1 || ltb (i .a) registers) ⌝ }
-{
-    if word::arity(i.code) == 0 {
-        return i.a == 0;
-    }
-    if i.code == 1 {
-        return true;
-    }
-    i.a < registers
-}
-
-fn instruction_valid(i: Instruction, registers: u32) -> bool
-    ensures { λ r. ⌜ r ≡ validInstruction registers i ⌝ }
-{
-    if !known(i.code) {
+    if i.code != Instruction::IN {
         return false;
     }
     if registers <= i.d {
         return false;
     }
-    if !first_valid(i, registers) {
+    if i.a != 0 {
+        return false;
+    }
+    if i.b != 0 {
+        return false;
+    }
+    words
+}
+
+fn instruction_valid(i: Instruction, registers: u32, words: bool) -> bool
+    ensures { λ r. ⌜ r ≡ (validInstruction registers i && passes words i) ⌝ }
+{
+    if i.code < 1 {
+        return false;
+    }
+    if 11 < i.code {
+        return sample_valid(i, registers, words);
+    }
+    if registers <= i.d {
+        return false;
+    }
+    if i.code == 1 {
+        return second_valid(i, registers);
+    }
+    if registers <= i.a {
         return false;
     }
     second_valid(i, registers)
 }
 
 // The first `count` instructions of the block whose words begin at `start`.
-fn code_valid(table: &[u32], start: usize, count: usize, registers: u32) -> bool
+fn code_valid(table: &[u32], start: usize, count: usize, registers: u32, words: bool) -> bool
     requires { ⌜ (count ≤ maxInstructions) × (start + blockWords ≤ length (now table)) ⌝ }
-    ensures { λ r. ⌜ r ≡ every (validInstruction registers) (map (instructionAt (now (table .entry)) start) (upFrom 0 count)) ⌝ }
+    ensures { λ r. ⌜ r ≡ every (λ i. validInstruction registers i && passes words i) (map (instructionAt (now (table .entry)) start) (upFrom 0 count)) ⌝ }
 {
     let mut i = 0;
     while i < count {
         let next = decode::instruction_at(table, start, i);
-        if !instruction_valid(next, registers) {
+        if !instruction_valid(next, registers, words) {
             return false;
         }
         i += 1;
@@ -180,16 +180,16 @@ fn ending_fits(table: &[u32], at: usize, head: Graph) -> bool
     }
 }
 
-fn block_fits(table: &[u32], n: usize, head: Graph) -> bool
+fn block_fits(table: &[u32], n: usize, head: Graph, words: bool) -> bool
     requires { ⌜ (n < maxBlocks) × (graphWords ≤ length (now table)) ⌝ }
-    ensures { λ r. ⌜ r ≡ blockFits (head .blocks) (head .registers) (now (table .entry)) n ⌝ }
+    ensures { λ r. ⌜ r ≡ blockPasses words (head .blocks) (head .registers) (now (table .entry)) n ⌝ }
 {
     let start = Graph::HEAD + Block::WORDS * n;
     let used = table[start] as usize;
     if Block::INSTRUCTIONS < used {
         return false;
     }
-    if !code_valid(table, start, used, head.registers) {
+    if !code_valid(table, start, used, head.registers, words) {
         return false;
     }
     if !all_zero(
@@ -205,14 +205,14 @@ fn block_fits(table: &[u32], n: usize, head: Graph) -> bool
     table[start + Block::LAST] == 0
 }
 
-fn blocks_fit(table: &[u32], head: Graph) -> bool
+fn blocks_fit(table: &[u32], head: Graph, words: bool) -> bool
     requires { ⌜ (head .blocks ≤ maxBlocks) × (graphWords ≤ length (now table)) ⌝ }
-    ensures { λ r. ⌜ r ≡ every (blockFits (head .blocks) (head .registers) (now (table .entry))) (upFrom 0 (head .blocks)) ⌝ }
+    ensures { λ r. ⌜ r ≡ every (blockPasses words (head .blocks) (head .registers) (now (table .entry))) (upFrom 0 (head .blocks)) ⌝ }
 {
     let blocks = head.blocks as usize;
     let mut n = 0;
     while n < blocks {
-        if !block_fits(table, n, head) {
+        if !block_fits(table, n, head, words) {
             return false;
         }
         n += 1;
@@ -220,10 +220,10 @@ fn blocks_fit(table: &[u32], head: Graph) -> bool
     true
 }
 
-// The table's words are those of a valid graph.
-pub fn is_admitted(table: &[u32]) -> bool
+// The table's words are those of a valid graph, and code 20 is among them only where words are given: one pass looks at both.
+pub fn passes_with(table: &[u32], words: bool) -> bool
     requires { ⌜ graphWords ≤ length (now table) ⌝ }
-    ensures { λ r. ⌜ r ≡ admitted (now (table .entry)) ⌝ }
+    ensures { λ r. ⌜ r ≡ (admitted (now (table .entry)) && (words || wordless (graphOf (now (table .entry))))) ⌝ }
 {
     let head = decode::head_of(table);
     let blocks = head.blocks as usize;
@@ -240,8 +240,16 @@ pub fn is_admitted(table: &[u32]) -> bool
     if Graph::REGISTERS < registers {
         return false;
     }
-    if !blocks_fit(table, head) {
+    if !blocks_fit(table, head, words) {
         return false;
     }
     all_zero(table, Graph::HEAD + Block::WORDS * blocks, Graph::WORDS)
+}
+
+// The table's words are those of a valid graph.
+pub fn is_admitted(table: &[u32]) -> bool
+    requires { ⌜ graphWords ≤ length (now table) ⌝ }
+    ensures { λ r. ⌜ r ≡ admitted (now (table .entry)) ⌝ }
+{
+    passes_with(table, true)
 }

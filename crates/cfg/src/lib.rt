@@ -5,7 +5,7 @@ ghost use Rattle.cfg.specs.Graph.{noInstruction, emptyBlock};
 
 pub mod decode; // decode.rt: a table's words as blocks
 pub mod admission; // admission.rt: which tables are admitted
-pub mod sampling; // sampling.rt: what a run's words ask of a table and of starters
+pub mod starters; // starters.rt: the starters of a run with words
 pub mod run; // run.rt: a graph's run with a budget
 
 // The head of a graph table: how many blocks and registers the graph has.

@@ -5,18 +5,19 @@ use crate::Graph;
 use crate::Instruction;
 use crate::admission;
 use crate::decode;
-use crate::sampling;
+use crate::starters;
 use runs::RunAnswer;
 use word::Registers;
 ghost use mathlib.Core.Bool.{true};
+ghost use mathlib.Core.List.{_++_};
 ghost use mathlib.Core.Path.{_≡_};
 ghost use Prim.Native.Nat.{_≤_, _<_};
 ghost use lib.Dec.{eqb};
-ghost use lib.ListN.{length, getD};
+ghost use lib.ListN.{length, getD, take, drop};
 ghost use Rattle.word.specs.Word.{choose, evalOf};
 ghost use Rattle.runs.specs.Runs.{startAt, upTo, answer, registersAfter};
 ghost use Rattle.cfg.specs.Graph.{codeOf, executeAll, leave};
-ghost use Rattle.cfg.specs.Layout.{maxBlocks, graphWords};
+ghost use Rattle.cfg.specs.Layout.{maxBlocks, maxRegisters, graphWords};
 ghost use Rattle.cfg.specs.Table.{blockAt, graphOf, admitted};
 ghost use Rattle.cfg.specs.Steps.{EndingWithin, BlockWithin, placeOf, markedRunner};
 ghost use Rattle.cfg.specs.Run.{runAnswer, runRegisters, wordsAnswer, wordsRegisters};
@@ -123,10 +124,10 @@ fn run_blocks(
                 registers: current,
             };
         };
-        at = t;
         if marks[t as usize] == 1 {
             arrivals += 1;
         }
+        at = t;
     }
     Ran {
         answer: RunAnswer::Spent(count, at),
@@ -134,10 +135,31 @@ fn run_blocks(
     }
 }
 
+// A run on the registers of a buffer; its words from 16 up stay.
+fn run_from(
+    table: &[u32],
+    registers: &mut [u32],
+    start: u32,
+    budget: u32,
+    words: &[u32],
+    limit: u32,
+    marks: &[u32],
+) -> RunAnswer
+    requires { ⌜ (admitted (now table) ≡ true) × (start < getD (now table) 0 0) × (length (now marks) ≡ maxBlocks) ⌝ }
+    requires { ⌜ maxRegisters ≤ length (now registers) ⌝ }
+    ensures { λ r. ⌜ r ≡ answer (markedRunner (graphOf (now (table .entry))) (now (marks .entry))) (upTo limit (now (words .entry))) budget (startAt start (take maxRegisters (now (registers .entry)))) ⌝ }
+    ensures { λ _. ⌜ now (registers .exit) ≡ registersAfter (markedRunner (graphOf (now (table .entry))) (now (marks .entry))) (upTo limit (now (words .entry))) budget (startAt start (take maxRegisters (now (registers .entry)))) ++ drop maxRegisters (now (registers .entry)) ⌝ }
+{
+    let file = runs::load(registers);
+    let ran = run_blocks(table, start, budget, file, words, limit, marks);
+    runs::store(registers, ran.registers);
+    ran.answer
+}
+
 // "Run graph": from a start block, with a budget of blocks. Every arrival has a word, which nothing reads.
 pub fn run_graph(table: &[u32], registers: &mut [u32], start: u32, budget: u32) -> RunAnswer
     ensures { λ r. ⌜ r ≡ runAnswer (now (table .entry)) (now (registers .entry)) start budget ⌝ }
-    ensures { λ r. ⌜ now (registers .exit) ≡ runRegisters (now (table .entry)) (now (registers .entry)) start budget ⌝ }
+    ensures { λ _. ⌜ now (registers .exit) ≡ runRegisters (now (table .entry)) (now (registers .entry)) start budget ⌝ }
 {
     if table.len() < Graph::WORDS {
         return RunAnswer::Refused(7);
@@ -145,20 +167,18 @@ pub fn run_graph(table: &[u32], registers: &mut [u32], start: u32, budget: u32) 
     if registers.len() < Graph::REGISTERS {
         return RunAnswer::Refused(7);
     }
-    if !admission::is_admitted(table) {
+    if !admission::passes_with(table, false) {
+        // Which of the two is looked at again, so that a table that passes is read once.
+        if admission::is_admitted(table) {
+            return RunAnswer::Refused(12);
+        }
         return RunAnswer::Refused(6);
-    }
-    if !sampling::is_wordless(table) {
-        return RunAnswer::Refused(12);
     }
     if table[0] <= start {
         return RunAnswer::Refused(9);
     }
     let marks = [0u32; Graph::BLOCKS];
-    let file = runs::load(registers);
-    let ran = run_blocks(table, start, budget, file, &[], budget, &marks);
-    runs::store(registers, ran.registers);
-    ran.answer
+    run_from(table, registers, start, budget, &[], budget, &marks)
 }
 
 // "Run graph" with words: each coming to a starter is an arrival.
@@ -171,7 +191,7 @@ pub fn run_graph_with_words(
     starters: &[u32],
 ) -> RunAnswer
     ensures { λ r. ⌜ r ≡ wordsAnswer (now (table .entry)) (now (registers .entry)) start budget (now (words .entry)) (now (starters .entry)) ⌝ }
-    ensures { λ r. ⌜ now (registers .exit) ≡ wordsRegisters (now (table .entry)) (now (registers .entry)) start budget (now (words .entry)) (now (starters .entry)) ⌝ }
+    ensures { λ _. ⌜ now (registers .exit) ≡ wordsRegisters (now (table .entry)) (now (registers .entry)) start budget (now (words .entry)) (now (starters .entry)) ⌝ }
 {
     if table.len() < Graph::WORDS {
         return RunAnswer::Refused(7);
@@ -182,16 +202,14 @@ pub fn run_graph_with_words(
     if !admission::is_admitted(table) {
         return RunAnswer::Refused(6);
     }
-    if table[0] <= start {
+    let blocks = table[0];
+    if blocks <= start {
         return RunAnswer::Refused(9);
     }
     let mut marks = [0u32; Graph::BLOCKS];
-    if !sampling::marked(&mut marks, starters, table[0], start) {
+    if !starters::marked(&mut marks, starters, blocks, start) {
         return RunAnswer::Refused(11);
     }
     let limit = runs::lasting(words, budget);
-    let file = runs::load(registers);
-    let ran = run_blocks(table, start, budget, file, words, limit, &marks);
-    runs::store(registers, ran.registers);
-    ran.answer
+    run_from(table, registers, start, budget, words, limit, &marks)
 }

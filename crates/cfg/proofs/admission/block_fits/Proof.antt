@@ -6,7 +6,7 @@ use lib.ListN.{getD}
 use borrow.Author.Tests.{not-true, not-false}
 use borrow.Author.Needs.{needs}
 use Rattle.cfg.specs.Layout.{maxInstructions, instructionWords, codeOffset, endingOffset, blockOffset}
-use Rattle.cfg.proofs.Words.{block-many, block-few}
+use Rattle.cfg.proofs.Passing.{many-passing, few-passing}
 use Rattle.cfg.proofs.admission.block_fits.Statement.{statement}
 use Rattle.cfg.proofs.admission.block_fits.Tie as tie
 
@@ -16,7 +16,7 @@ cast-used c = omega (arith, c .shared-slice-known2 .given (blockOffset (c .befor
 returns : tie.Need-returns
 returns c =
     let k = c .before .before .before in
-    sym (block-many (k .args .head .blocks) (k .args .head .registers) (k .args .table .now) (k .args .n) (c .if1 .taken))
+    sym (many-passing (k .args .words) (k .args .head .blocks) (k .args .head .registers) (k .args .table .now) (k .args .n) (c .if1 .taken))
 
 returns-2 : tie.Need-returns-2
 returns-2 c =
@@ -27,7 +27,7 @@ returns-2 c =
     let m = getD t o 0 in
     let h = c .before .before .if1 .left in
     let p = k .pre in
-    let few = block-few (k .args .head .blocks) (k .args .head .registers) t n (omega arith) h in
+    let few = few-passing (k .args .words) (k .args .head .blocks) (k .args .head .registers) t n (omega arith) h in
     sym (few ∙ rw (← c .before .code-valid .ensures, not-true (c .before .code-valid .result) (c .if2 .taken)))
 
 returns-3 : tie.Need-returns-3
@@ -39,7 +39,7 @@ returns-3 c =
     let m = getD t o 0 in
     let h = c .before .before .before .before .if1 .left in
     let p = k .pre in
-    let few = block-few (k .args .head .blocks) (k .args .head .registers) t n (omega arith) h in
+    let few = few-passing (k .args .words) (k .args .head .blocks) (k .args .head .registers) t n (omega arith) h in
     let e : (o + endingOffset) - (o + codeOffset + instructionWords * m) ≡ instructionWords * (maxInstructions - m) = omega arith in
     let z = rw e at (c .before .all-zero .ensures) in
     sym (few ∙ rw (← c .before .before .before .code-valid .ensures, ← z, not-false (c .before .before .before .code-valid .result) (c .before .before .if2 .left), not-true (c .before .all-zero .result) (c .if3 .taken)))
@@ -53,7 +53,7 @@ returns-4 c =
     let m = getD t o 0 in
     let h = c .before .before .before .before .before .before .if1 .left in
     let p = k .pre in
-    let few = block-few (k .args .head .blocks) (k .args .head .registers) t n (omega arith) h in
+    let few = few-passing (k .args .words) (k .args .head .blocks) (k .args .head .registers) t n (omega arith) h in
     let e : (o + endingOffset) - (o + codeOffset + instructionWords * m) ≡ instructionWords * (maxInstructions - m) = omega arith in
     let z = rw e at (c .before .before .before .all-zero .ensures) in
     sym (few ∙ rw (← c .before .before .before .before .before .code-valid .ensures, ← z, ← c .before .ending-fits .ensures, not-false (c .before .before .before .before .before .code-valid .result) (c .before .before .before .before .if2 .left), not-false (c .before .before .before .all-zero .result) (c .before .before .if3 .left), not-true (c .before .ending-fits .result) (c .if4 .taken)))
@@ -67,7 +67,7 @@ returns-5 c =
     let m = getD t o 0 in
     let h = c .before .before .before .before .before .before .before .if1 .left in
     let p = k .pre in
-    let few = block-few (k .args .head .blocks) (k .args .head .registers) t n (omega arith) h in
+    let few = few-passing (k .args .words) (k .args .head .blocks) (k .args .head .registers) t n (omega arith) h in
     let e : (o + endingOffset) - (o + codeOffset + instructionWords * m) ≡ instructionWords * (maxInstructions - m) = omega arith in
     let z = rw e at (c .before .before .before .before .all-zero .ensures) in
     sym (few ∙ rw (← c .before .before .before .before .before .before .code-valid .ensures, ← z, ← c .before .before .ending-fits .ensures, not-false (c .before .before .before .before .before .before .code-valid .result) (c .before .before .before .before .before .if2 .left), not-false (c .before .before .before .before .all-zero .result) (c .before .before .before .if3 .left), not-false (c .before .before .ending-fits .result) (c .before .if4 .left)))

@@ -6,15 +6,15 @@ use borrow.Author.Tests.{not-true, not-false}
 use borrow.Author.Needs.{needs}
 use Rattle.runs.proofs.ListLaws.{upFrom-cons, upFrom-done}
 use Rattle.runs.specs.Lists.{upFrom, every}
-use Rattle.cfg.specs.Fits.{blockFits}
+use Rattle.cfg.specs.Fits.{blockPasses}
 use Rattle.cfg.proofs.admission.blocks_fit.Statement.{statement}
 use Rattle.cfg.proofs.admission.blocks_fit.Tie as tie
 
 abbrev Inv-loop : tie.InvT-loop
-Inv-loop table head blocks n₀ n = (n ≤ head .blocks) × (every (blockFits (head .blocks) (head .registers) table) (upFrom 0 (head .blocks)) ≡ every (blockFits (head .blocks) (head .registers) table) (upFrom n (head .blocks - n)))
+Inv-loop table head words blocks n₀ n = (n ≤ head .blocks) × (every (blockPasses words (head .blocks) (head .registers) table) (upFrom 0 (head .blocks)) ≡ every (blockPasses words (head .blocks) (head .registers) table) (upFrom n (head .blocks - n)))
 
 abbrev μ-loop : tie.MeasureT-loop
-μ-loop table head blocks n₀ n = head .blocks - n
+μ-loop table head words blocks n₀ n = head .blocks - n
 
 loop-holds : tie.Need-loop-holds Inv-loop μ-loop
 loop-holds c = (omega arith, let e : c .before .before .args .head .blocks - 0 ≡ c .before .before .args .head .blocks = omega arith in rw e)

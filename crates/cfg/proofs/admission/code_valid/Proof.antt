@@ -8,15 +8,15 @@ use borrow.Author.Needs.{needs}
 use Rattle.runs.proofs.ListLaws.{upFrom-cons, upFrom-done}
 use Rattle.runs.specs.Lists.{upFrom, every}
 use Rattle.cfg.specs.Table.{instructionAt}
-use Rattle.cfg.specs.Graph.{validInstruction}
+use Rattle.cfg.proofs.Codes.{Good}
 use Rattle.cfg.proofs.admission.code_valid.Statement.{statement}
 use Rattle.cfg.proofs.admission.code_valid.Tie as tie
 
 abbrev Inv-loop : tie.InvT-loop
-Inv-loop table start count registers i₀ i = (i ≤ count) × (every (validInstruction registers) (map (instructionAt table start) (upFrom 0 count)) ≡ every (validInstruction registers) (map (instructionAt table start) (upFrom i (count - i))))
+Inv-loop table start count registers words i₀ i = (i ≤ count) × (every (λ x. Good registers x words) (map (instructionAt table start) (upFrom 0 count)) ≡ every (λ x. Good registers x words) (map (instructionAt table start) (upFrom i (count - i))))
 
 abbrev μ-loop : tie.MeasureT-loop
-μ-loop table start count registers i₀ i = count - i
+μ-loop table start count registers words i₀ i = count - i
 
 loop-holds : tie.Need-loop-holds Inv-loop μ-loop
 loop-holds c = (omega arith, let e : c .before .args .count - 0 ≡ c .before .args .count = omega arith in rw e)

@@ -1,46 +1,23 @@
--- What the words of a run ask: tables without code 20, and marks at starters. Assumes nothing.
+-- Marks at the starters of a run with words, and refusal 11. Assumes nothing.
 use Prim.Native.Nat.{ℕ, suc, _+_, _≤_, _<_}
 use native.Mathlib.Numerals.{add-one}
 use native.Mathlib.Omega.{arith}
-use mathlib.Core.Bool.{Bool, true, false, not, _&&_, _||_}
-use mathlib.Core.List.{List, [], map}
+use mathlib.Core.Bool.{Bool, true, false, _&&_, _||_}
+use mathlib.Core.List.{List, []}
 use mathlib.Core.Path.{_≡_, refl, sym, ap, _∙_, fun-ext}
 use lib.Dec.{eqb, ltb}
 use lib.ListN.{length, getD, drop, set, replicate, length-replicate, getD-replicate, drop-of-length-le, List·getD-eq-default}
 use lib.Seq.{drop-cons, getD-set-same, getD-set-other}
 use borrow.Author.Tests.{eqb-true, eqb-false, lt-ltb, ltb-true, ltb-false}
 use Rattle.word.specs.Word.{choose}
-use Rattle.runs.specs.Lists.{upFrom, mem, every}
+use Rattle.runs.specs.Lists.{mem, every}
 use Rattle.runs.specs.Runs.{startAt, Supply, Runner, answer, registersAfter}
 use Rattle.runs.proofs.SupplyLaws.{Alike, answer-alike, registers-alike}
-use Rattle.runs.proofs.ListLaws.{every-at, every-all, every-map, take-map-upFrom}
-use Rattle.cfg.specs.declared.Block.{Block}
-use Rattle.cfg.specs.declared.Instruction.{Instruction}
-use Rattle.cfg.specs.Layout.{maxBlocks, maxInstructions, blockOffset}
-use Rattle.cfg.specs.Graph.{CFG, codeOf, blockOf, runBlock, graphRunner, wordless}
+use Rattle.runs.proofs.ListLaws.{every-at, every-all}
+use Rattle.cfg.specs.Layout.{maxBlocks}
+use Rattle.cfg.specs.Graph.{CFG, blockOf, runBlock, graphRunner}
 use Rattle.cfg.specs.Run.{startersFit}
 use Rattle.cfg.specs.Steps.{markedRunner, Marks}
-use Rattle.cfg.specs.Table.{instructionAt, blockAt, graphOf}
-use Rattle.cfg.proofs.Blocks.{count-at}
-use Rattle.cfg.proofs.Words.{instructions-are, blocks-are}
-
--- ---- tables without code 20
-
-abbrev pub wordlessCode : List Instruction → Bool
-wordlessCode l = every (λ i. not (eqb (i .code) 20)) l
-
--- block by block
-pub wordless-is : (t : List ℕ) → wordless (graphOf t) ≡ every (λ n. wordlessCode (codeOf (blockAt t n))) (upFrom 0 (getD t 0 0))
-unfolding wordless
-wordless-is t =
-    ap (λ (l : List Block). every (λ b. wordlessCode (codeOf b)) l) (blocks-are t)
-    ∙ every-map (blockAt t) (λ b. wordlessCode (codeOf b)) (upFrom 0 (getD t 0 0))
-
--- a block's instructions where they stand
-pub code-is : (t : List ℕ) (n : ℕ) → getD t (blockOffset n) 0 ≤ maxInstructions
-    → codeOf (blockAt t n) ≡ map (instructionAt t (blockOffset n)) (upFrom 0 (getD t (blockOffset n) 0))
-code-is t n h =
-    rw (count-at t n, instructions-are t n) (take-map-upFrom (instructionAt t (blockOffset n)) 0 maxInstructions (getD t (blockOffset n) 0) h)
 
 -- ---- marks
 

@@ -1,4 +1,4 @@
--- `cfg::sampling::all_below` meets its contract. Assumes nothing.
+-- `cfg::starters::all_below` meets its contract. Assumes nothing.
 use Prim.Native.Nat.{_-_, _≤_}
 use native.Mathlib.Omega.{arith}
 use mathlib.Core.Path.{_≡_, refl, sym, _∙_}
@@ -9,8 +9,8 @@ use borrow.Author.Needs.{needs}
 use borrow.Author.Tests.{lt-ltb, le-ltb}
 use Rattle.runs.specs.Lists.{every}
 use Rattle.runs.proofs.Every.{every-fails, every-passes, every-done}
-use Rattle.cfg.proofs.sampling.all_below.Statement.{statement}
-use Rattle.cfg.proofs.sampling.all_below.Tie as tie
+use Rattle.cfg.proofs.starters.all_below.Statement.{statement}
+use Rattle.cfg.proofs.starters.all_below.Tie as tie
 
 abbrev Inv-loop : tie.InvT-loop
 Inv-loop starters blocks i₀ i = (i ≤ length starters) × (every (λ s. ltb s blocks) starters ≡ every (λ s. ltb s blocks) (drop i starters))

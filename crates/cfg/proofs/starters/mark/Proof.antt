@@ -1,4 +1,4 @@
--- `cfg::sampling::mark` meets its contract. Assumes nothing.
+-- `cfg::starters::mark` meets its contract. Assumes nothing.
 use Prim.Native.Nat.{ℕ, _-_, _≤_, _<_}
 use native.Mathlib.Omega.{arith}
 use mathlib.Core.Path.{_≡_, refl, sym, _∙_}
@@ -11,9 +11,9 @@ use Rattle.word.specs.Word.{choose}
 use Rattle.runs.specs.Lists.{mem}
 use Rattle.runs.proofs.ListLaws.{every-at}
 use Rattle.cfg.specs.Layout.{maxBlocks}
-use Rattle.cfg.proofs.Inputs.{mark-turn, mark-done}
-use Rattle.cfg.proofs.sampling.mark.Statement.{statement}
-use Rattle.cfg.proofs.sampling.mark.Tie as tie
+use Rattle.cfg.proofs.Marking.{mark-turn, mark-done}
+use Rattle.cfg.proofs.starters.mark.Statement.{statement}
+use Rattle.cfg.proofs.starters.mark.Tie as tie
 
 abbrev Inv-loop : tie.InvT-loop
 Inv-loop marks₀ starters i₀ marks i =

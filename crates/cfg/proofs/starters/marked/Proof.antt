@@ -1,4 +1,4 @@
--- `cfg::sampling::marked` meets its contract. Assumes nothing.
+-- `cfg::starters::marked` meets its contract. Assumes nothing.
 use Prim.Native.Nat.{ℕ}
 use native.Mathlib.Omega.{arith}
 use mathlib.Core.Path.{_≡_, refl, sym, ap, _∙_}
@@ -8,9 +8,9 @@ use borrow.Author.Needs.{needs}
 use borrow.Author.Tests.{not-true, not-false, eq-eqb, ne-eqb}
 use Rattle.runs.proofs.RunLaws.{false-true}
 use Rattle.cfg.specs.Layout.{maxBlocks}
-use Rattle.cfg.proofs.Inputs.{below-more, fit-above, fit-below, marked-is}
-use Rattle.cfg.proofs.sampling.marked.Statement.{statement}
-use Rattle.cfg.proofs.sampling.marked.Tie as tie
+use Rattle.cfg.proofs.Marking.{below-more, fit-above, fit-below, marked-is}
+use Rattle.cfg.proofs.starters.marked.Statement.{statement}
+use Rattle.cfg.proofs.starters.marked.Tie as tie
 
 returns : tie.Need-returns
 returns c =

@@ -41,8 +41,8 @@ returns c =
     let ws = upTo (k .args .limit) (k .args .words .now) in
     let c₀ = startAt (k .args .start) (k .args .file .words) in
     let s = standsAt (l .arrivals) (l .at) (l .current .words) in
-    let d = dry-ends ws s (l .at) refl (le-ltb (l .arrivals) (k .args .limit) (c .if1 .taken)) in (
-      sym (reached-dry r ws (k .args .budget) c₀ (l .count) s (l .inv .2) d (l .at) refl (c .before .loop-test .taken)),
+    let d = dry-ends ws s (l .at) refl (le-ltb (l .arrivals) (k .args .limit) (omega (arith, c .if1 .taken))) in (
+      sym (reached-dry r ws (k .args .budget) c₀ (l .count) s (l .inv .2) d (l .at) refl (omega (arith, c .before .loop-test .taken))),
       sym (registers-ended r ws (k .args .budget) c₀ (l .count) s (l .inv .2) d),
     )
 
@@ -92,7 +92,7 @@ returns-2 c =
     let p = rw (blk .ensures) at (nx .ensures) in
     let c₀ = startAt (k .args .start) (k .args .file .words) in
     let q : halted ≡ leave (blockAt t (l .at) .ending) (ex .result .words) = sym (ap placeOf (c .enum-told .given .1)) ∙ p in
-    let r = turn t marks ws (k .args .budget) c₀ (l .count) (l .arrivals) (l .at) (l .current .words) (ex .result .words) halted (l .inv .0) (c .before .before .before .before .before .before .before .loop-test .taken) (lt-ltb (l .arrivals) (k .args .limit) (c .before .before .before .before .before .before .if1 .left)) (l .inv .2) e q in
+    let r = turn t marks ws (k .args .budget) c₀ (l .count) (l .arrivals) (l .at) (l .current .words) (ex .result .words) halted (l .inv .0) (omega (arith, c .before .before .before .before .before .before .before .loop-test .taken)) (lt-ltb (l .arrivals) (k .args .limit) (omega (arith, c .before .before .before .before .before .before .if1 .left))) (l .inv .2) e q in
     let end : Configuration = record { place = halted; registers = ex .result .words; arrivals = l .arrivals } in (
       sym (reached-halted (markedRunner (graphOf t) marks) ws (k .args .budget) c₀ (l .count + 1) end r refl refl),
       sym (registers-ended (markedRunner (graphOf t) marks) ws (k .args .budget) c₀ (l .count + 1) end r refl),
@@ -131,7 +131,7 @@ loop-again c =
     let p = rw (blk .ensures) at (nx .ensures) in
     let x = c .before .before .before .t .given .0 .0 in
     let q : standing x ≡ leave (blockAt t (l .at) .ending) (ex .result .words) = sym (ap placeOf (c .before .before .before .t .given .1)) ∙ p in
-    let r = turn-to t marks ws (k .args .budget) (startAt (k .args .start) (k .args .file .words)) (l .count) (l .arrivals) (l .at) (l .current .words) (ex .result .words) x true (l .inv .0) (c .before .before .before .before .before .before .before .before .before .before .loop-test .taken) (lt-ltb (l .arrivals) (k .args .limit) (c .before .before .before .before .before .before .before .before .before .if1 .left)) (l .inv .2) e q (eq-eqb (getD marks x 0) 1 (c .if2 .taken)) in
+    let r = turn-to t marks ws (k .args .budget) (startAt (k .args .start) (k .args .file .words)) (l .count) (l .arrivals) (l .at) (l .current .words) (ex .result .words) x true (l .inv .0) (omega (arith, c .before .before .before .before .before .before .before .before .before .before .loop-test .taken)) (lt-ltb (l .arrivals) (k .args .limit) (omega (arith, c .before .before .before .before .before .before .before .before .before .if1 .left))) (l .inv .2) e q (eq-eqb (getD marks x 0) 1 (c .if2 .taken)) in
     (next-below t (admitted-facts t (k .pre .0)) (l .at) (l .inv .0) (ex .result .words) x (sym q), omega (arith, l .inv .1), r)
 
 loop-less-2 : tie.Need-loop-less-2 Inv-loop μ-loop
@@ -152,7 +152,7 @@ loop-again-2 c =
     let p = rw (blk .ensures) at (nx .ensures) in
     let x = c .before .before .before .t .given .0 .0 in
     let q : standing x ≡ leave (blockAt t (l .at) .ending) (ex .result .words) = sym (ap placeOf (c .before .before .before .t .given .1)) ∙ p in
-    let r = turn-to t marks ws (k .args .budget) (startAt (k .args .start) (k .args .file .words)) (l .count) (l .arrivals) (l .at) (l .current .words) (ex .result .words) x false (l .inv .0) (c .before .before .before .before .before .before .before .before .before .before .loop-test .taken) (lt-ltb (l .arrivals) (k .args .limit) (c .before .before .before .before .before .before .before .before .before .if1 .left)) (l .inv .2) e q (ne-eqb (getD marks x 0) 1 (c .if2 .left)) in
+    let r = turn-to t marks ws (k .args .budget) (startAt (k .args .start) (k .args .file .words)) (l .count) (l .arrivals) (l .at) (l .current .words) (ex .result .words) x false (l .inv .0) (omega (arith, c .before .before .before .before .before .before .before .before .before .before .loop-test .taken)) (lt-ltb (l .arrivals) (k .args .limit) (omega (arith, c .before .before .before .before .before .before .before .before .before .if1 .left))) (l .inv .2) e q (ne-eqb (getD marks x 0) 1 (c .if2 .left)) in
     (next-below t (admitted-facts t (k .pre .0)) (l .at) (l .inv .0) (ex .result .words) x (sym q), omega (arith, l .inv .1), r)
 
 -- spent
@@ -164,8 +164,8 @@ returns-3 c =
     let ws = upTo (k .args .limit) (k .args .words .now) in
     let c₀ = startAt (k .args .start) (k .args .file .words) in
     let s = standsAt (l .arrivals) (l .at) (l .current .words) in (
-      sym (reached-spent r ws (k .args .budget) c₀ (l .count) s (l .inv .2) (l .at) refl (c .loop-test .left)),
-      sym (registers-spent r ws (k .args .budget) c₀ (l .count) s (l .inv .2) (c .loop-test .left)),
+      sym (reached-spent r ws (k .args .budget) c₀ (l .count) s (l .inv .2) (l .at) refl (omega (arith, c .loop-test .left))),
+      sym (registers-spent r ws (k .args .budget) c₀ (l .count) s (l .inv .2) (omega (arith, c .loop-test .left))),
     )
 
 pub run-blocks-spec : {M : Type 1} → statement M

@@ -1,4 +1,5 @@
 -- `cfg::run::run_graph` meets its contract. Assumes nothing.
+use native.Mathlib.Omega.{arith}
 use mathlib.Core.List.{[]}
 use mathlib.Core.Path.{refl, sym, _∙_}
 use lib.ListN.{take, replicate}
@@ -75,14 +76,14 @@ returns-5 c =
     let pass = sym (c .before .before .before .passes-with .ensures) ∙ not-false (c .before .before .before .passes-with .result) (c .before .before .if3 .left) in
     let ok = and-left (admitted t) (wordless (graphOf t)) pass in
     let w = and-right (admitted t) (wordless (graphOf t)) pass in
-    let h = no-start t rs (k .start) (c .before .before .before .before .before .if1 .left) (c .before .before .before .before .if2 .left) ok w (c .if5 .taken) in
+    let h = no-start t rs (k .start) (c .before .before .before .before .before .if1 .left) (c .before .before .before .before .if2 .left) ok w (omega (arith, c .if5 .taken)) in
     (sym (refused g ws rs (k .start) (k .budget) n 8 h), sym (refused-left g ws rs (k .start) (k .budget) n 8 h))
 
 run-from-requires : tie.Need-run-from-requires
 run-from-requires c κs =
     let t = now (c .before .before .before .before .before .before .before .before .before .before .before .args .table) in
     let pass = sym (c .before .before .before .before .before .before .passes-with .ensures) ∙ not-false (c .before .before .before .before .before .before .passes-with .result) (c .before .before .before .before .before .if3 .left) in
-    ((and-left (admitted t) (wordless (graphOf t)) pass, c .before .before .before .if5 .left, refl), c .before .before .before .before .before .before .before .if2 .left)
+    ((and-left (admitted t) (wordless (graphOf t)) pass, omega (arith, c .before .before .before .if5 .left), refl), c .before .before .before .before .before .before .before .if2 .left)
 
 returns-6 : tie.Need-returns-6
 returns-6 c =
@@ -95,7 +96,7 @@ returns-6 c =
     let pass = sym (c .before .before .before .before .before .before .before .before .before .passes-with .ensures) ∙ not-false (c .before .before .before .before .before .before .before .before .before .passes-with .result) (c .before .before .before .before .before .before .before .before .if3 .left) in
     let ok = and-left (admitted t) (wordless (graphOf t)) pass in
     let w = and-right (admitted t) (wordless (graphOf t)) pass in
-    let h = none-refused t rs (k .start) (c .before .before .before .before .before .before .before .before .before .before .before .if1 .left) (c .before .before .before .before .before .before .before .before .before .before .if2 .left) ok w (c .before .before .before .before .before .before .if5 .left) in
+    let h = none-refused t rs (k .start) (c .before .before .before .before .before .before .before .before .before .before .before .if1 .left) (c .before .before .before .before .before .before .before .before .before .before .if2 .left) ok w (omega (arith, c .before .before .before .before .before .before .if5 .left)) in
     let e = c .before .before .run-from .ensures in
     let m = unread-alike (k .budget) in
     let answers = marked-answer [] (replicate maxBlocks 0) unmarked-marks (graphOf t) (upTo (k .budget) []) ws (k .budget) m (k .start) (take maxRegisters rs) in

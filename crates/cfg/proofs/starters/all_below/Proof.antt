@@ -26,14 +26,14 @@ returns c =
     let k = c .before .before .before .before .args in
     let l = c .before .before .before .loop in
     let starters = now (k .starters) in
-    sym (l .inv .1 ∙ every-fails (λ s. ltb s (k .blocks)) starters (l .i) 0 (c .before .before .loop-test .taken) (le-ltb (getD starters (l .i) 0) (k .blocks) (c .if1 .taken)))
+    sym (l .inv .1 ∙ every-fails (λ s. ltb s (k .blocks)) starters (l .i) 0 (c .before .before .loop-test .taken) (le-ltb (getD starters (l .i) 0) (k .blocks) (omega (arith, c .if1 .taken))))
 
 loop-again : tie.Need-loop-again Inv-loop μ-loop
 loop-again c =
     let k = c .before .before .before .before .args in
     let l = c .before .before .before .loop in
     let starters = now (k .starters) in
-    (omega (arith, c .before .before .loop-test .taken), l .inv .1 ∙ every-passes (λ s. ltb s (k .blocks)) starters (l .i) 0 (c .before .before .loop-test .taken) (lt-ltb (getD starters (l .i) 0) (k .blocks) (c .if1 .left)))
+    (omega (arith, c .before .before .loop-test .taken), l .inv .1 ∙ every-passes (λ s. ltb s (k .blocks)) starters (l .i) 0 (c .before .before .loop-test .taken) (lt-ltb (getD starters (l .i) 0) (k .blocks) (omega (arith, c .if1 .left))))
 
 returns-2 : tie.Need-returns-2 Inv-loop μ-loop
 returns-2 c =

@@ -1,18 +1,13 @@
--- Cycles of a table's machine as steps of a run, what the operations give, and the refusals. Assumes nothing.
-use Prim.Native.Nat.{ℕ, suc, _+_, _<_, _≤_}
+-- Cycles of a table's machine as steps of a run, and the refusals. Assumes nothing.
+use Prim.Native.Nat.{ℕ, _+_, _<_, _≤_}
 use native.Mathlib.Numerals.{add-one}
 use mathlib.Core.Bool.{true, false}
-use mathlib.Core.List.{List, _++_}
+use mathlib.Core.List.{List}
 use mathlib.Core.Path.{_≡_, refl, sym, ap, _∙_, subst}
-use lib.ListN.{length, getD, take, drop}
+use lib.ListN.{length, getD}
 use borrow.Author.Tests.{lt-ltb, le-ltb}
-use Rattle.runs.proofs.OperationLaws.{refused, refused-left, accepted, accepted-left}
 use Rattle.runs.proofs.RunLaws.{goes-standing, step-going, Reached, reached-step}
-use Rattle.runs.proofs.SupplyLaws.{Alike, answer-alike, registers-alike}
-use Rattle.runs.specs.Operations.{answered, registersLeft}
-use Rattle.runs.specs.Runs.{halted, Configuration, standsAt, startAt, Supply, Moved, Runner, moved, answer, registersAfter}
-use Rattle.runs.specs.declared.RunAnswer.{RunAnswer}
-use Rattle.runs.specs.declared.RunAnswer.the-variants.{Refused}
+use Rattle.runs.specs.Runs.{halted, Configuration, standsAt, Supply, Moved, moved}
 use Rattle.fsmd.specs.Clock.{after}
 use Rattle.fsmd.specs.Layout.{maxRegisters, machineWords}
 use Rattle.fsmd.specs.Machine.{clock, machineRunner, wordless}
@@ -43,29 +38,6 @@ module _ (t : List ℕ) (r : Next) (count : ℕ) where
 
   pub after-halted : getD t 0 0 ≤ r .state → after t r .place ≡ halted
   after-halted h = rw (le-ltb (r .state) (getD t 0 0) h)
-
--- ---- what an operation gives: its answer, and the buffer left
-
-module _ (r : Runner) (ws : Supply) (buffer : List ℕ) (start budget : ℕ) (n : ℕ) where
-  pub refuses : (m : ℕ) → n ≡ suc m → (Refused (suc m) ≡ answered n r ws buffer start budget) × (buffer ≡ registersLeft n r ws buffer start budget)
-  refuses m e = (sym (refused r ws buffer start budget n m e), sym (refused-left r ws buffer start budget n m e))
-
-  -- from a run on other words that are alike as far as the budget goes
-  pub accepts : (a : Supply) → Alike budget a ws → n ≡ 0 → (given left : List ℕ) (x : RunAnswer) → given ≡ take maxRegisters buffer
-      → x ≡ answer r a budget (startAt start given)
-      → left ≡ registersAfter r a budget (startAt start given)
-      → (x ≡ answered n r ws buffer start budget) × (left ++ drop maxRegisters buffer ≡ registersLeft n r ws buffer start budget)
-  accepts a h e given left x g p q = (
-    p
-        ∙ ap (λ (l : List ℕ). answer r a budget (startAt start l)) g
-        ∙ answer-alike r a ws budget h start (take maxRegisters buffer)
-        ∙ sym (accepted r ws buffer start budget n e),
-    ap (λ (l : List ℕ). l ++ drop maxRegisters buffer)
-        (q
-        ∙ ap (λ (l : List ℕ). registersAfter r a budget (startAt start l)) g
-        ∙ registers-alike r a ws budget h start (take maxRegisters buffer))
-        ∙ sym (accepted-left r ws buffer start budget n e),
-  )
 
 -- ---- refusals
 

@@ -1,10 +1,11 @@
 // A run with a budget: refusals first, then cycles until the machine halts, its words or its budget are used up.
 ghost use mathlib.Core.Path.{_≡_};
 ghost use mathlib.Core.Bool.{true};
+ghost use mathlib.Core.List.{_++_};
 ghost use Prim.Native.Nat.{_<_, _≤_};
-ghost use lib.ListN.{length, getD};
+ghost use lib.ListN.{length, getD, take, drop};
 ghost use Rattle.runs.specs.Runs.{startAt, upTo, answer, registersAfter};
-ghost use Rattle.fsmd.specs.Layout.{machineWords};
+ghost use Rattle.fsmd.specs.Layout.{machineWords, maxRegisters};
 ghost use Rattle.fsmd.specs.Machine.{machineRunner};
 ghost use Rattle.fsmd.specs.Table.{machineOf, admitted as admittedOf};
 ghost use Rattle.fsmd.specs.Run.{runAnswer, runRegisters, wordsAnswer, wordsRegisters};
@@ -22,7 +23,8 @@ pub struct Ran {
     pub answer: RunAnswer,
 }
 
-// The cycles of an admitted machine from a state that it has, on the words of a list for the first `limit` arrivals. Each cycle is an arrival.
+// The cycles of an admitted machine from a state that it has, on the words of a list for the first `limit` arrivals. Each cycle is an
+// arrival, and the limit is within the budget, so that the loop tests one bound.
 pub fn run(
     table: &[u32],
     registers: Registers,
@@ -34,6 +36,7 @@ pub fn run(
     requires { ⌜ machineWords ≤ length (now table) ⌝ }
     requires { ⌜ admittedOf (now table) ≡ true ⌝ }
     requires { ⌜ start < getD (now table) 0 0 ⌝ }
+    requires { ⌜ limit ≤ budget ⌝ }
     ensures { λ r. ⌜ r .answer ≡ answer (machineRunner (machineOf (now (table .entry)))) (upTo limit (now (words .entry))) budget (startAt start (registers .words)) ⌝ }
     ensures { λ r. ⌜ r .registers .words ≡ registersAfter (machineRunner (machineOf (now (table .entry)))) (upTo limit (now (words .entry))) budget (startAt start (registers .words)) ⌝ }
 {
@@ -42,20 +45,9 @@ pub fn run(
     let mut file = registers;
     let mut state = start;
     let mut count: u32 = 0;
-    while count < budget {
-        if limit <= count {
-            return Ran {
-                registers: file,
-                answer: RunAnswer::Dry(count, state),
-            };
-        }
-        let next = cycle(
-            table,
-            wide(state),
-            file,
-            runs::sampled(words, count),
-            &mut room,
-        );
+    while count < limit {
+        let sampled = runs::sampled(words, count);
+        let next = cycle(table, wide(state), file, sampled, &mut room);
         file = next.registers;
         state = next.state;
         count += 1;
@@ -66,10 +58,39 @@ pub fn run(
             };
         }
     }
+    // No word is left, or no budget: where both are used up the answer is spent.
+    let answer = if count < budget {
+        RunAnswer::Dry(count, state)
+    } else {
+        RunAnswer::Spent(count, state)
+    };
     Ran {
         registers: file,
-        answer: RunAnswer::Spent(count, state),
+        answer: answer,
     }
+}
+
+// A run on the registers of a buffer; its words from 16 up stay.
+fn run_from(
+    table: &[u32],
+    registers: &mut [u32],
+    start: u32,
+    budget: u32,
+    words: &[u32],
+    limit: u32,
+) -> RunAnswer
+    requires { ⌜ machineWords ≤ length (now table) ⌝ }
+    requires { ⌜ admittedOf (now table) ≡ true ⌝ }
+    requires { ⌜ start < getD (now table) 0 0 ⌝ }
+    requires { ⌜ limit ≤ budget ⌝ }
+    requires { ⌜ maxRegisters ≤ length (now registers) ⌝ }
+    ensures { λ r. ⌜ r ≡ answer (machineRunner (machineOf (now (table .entry)))) (upTo limit (now (words .entry))) budget (startAt start (take maxRegisters (now (registers .entry)))) ⌝ }
+    ensures { λ _. ⌜ now (registers .exit) ≡ registersAfter (machineRunner (machineOf (now (table .entry)))) (upTo limit (now (words .entry))) budget (startAt start (take maxRegisters (now (registers .entry)))) ++ drop maxRegisters (now (registers .entry)) ⌝ }
+{
+    let file = runs::load(registers);
+    let ran = run(table, file, start, budget, words, limit);
+    runs::store(registers, ran.registers);
+    ran.answer
 }
 
 // "Run machine": the answer, and the registers left in the first sixteen words of the buffer. Every arrival has a word, which nothing reads.
@@ -93,9 +114,7 @@ pub fn run_machine(table: &[u32], registers: &mut [u32], start: u32, budget: u32
     if table[0] <= start {
         return RunAnswer::Refused(9);
     }
-    let ran = run(table, runs::load(registers), start, budget, &[], budget);
-    runs::store(registers, ran.registers);
-    ran.answer
+    run_from(table, registers, start, budget, &[], budget)
 }
 
 // "Run machine" with words.
@@ -123,7 +142,5 @@ pub fn run_machine_with_words(
         return RunAnswer::Refused(9);
     }
     let limit = runs::lasting(words, budget);
-    let ran = run(table, runs::load(registers), start, budget, words, limit);
-    runs::store(registers, ran.registers);
-    ran.answer
+    run_from(table, registers, start, budget, words, limit)
 }

@@ -8,8 +8,8 @@ use lib.Dec.{ltb}
 use lib.ListN.{length}
 use borrow.Author.Tests.{lt-ltb, ltb-true, ltb-false}
 use Rattle.word.specs.Word.{choose}
-use Rattle.runs.specs.Runs.{Place, standing, halted, Configuration, startAt, Supply, upTo, listed, unread, Runner, onward, arrivalsAt, moved, outcome, outcomeOf, goes, step, times, stepsRun, answer, registersAfter}
-use Rattle.runs.proofs.RunLaws.{false-true, going-stands, going-lasts, goes-standing, step-going, step-ended, times-zero, times-suc, stepsRun-zero, stepsRun-going, stepsRun-ended, stepsRun-le, left-ended, answer-is, registers-of, place-of}
+use Rattle.runs.specs.Runs.{Place, standing, halted, Configuration, startAt, Supply, upTo, listed, unread, Runner, onward, arrivalsAt, outcomeOf, goes, step, times, stepsRun, answer, registersAfter}
+use Rattle.runs.proofs.RunLaws.{false-true, going-stands, going-lasts, goes-standing, step-going, step-ended, times-zero, times-suc, stepsRun-zero, stepsRun-going, stepsRun-ended, left-ended, answer-is, registers-of}
 
 -- a move makes one arrival at most
 arrivals-next : (arrives : ℕ → Bool) (p : Place) (k : ℕ) → arrivalsAt arrives p k ≤ suc k
@@ -84,6 +84,14 @@ cut-alike ws budget = record { word = λ j l. refl; lasts = λ j l. go (ltb (len
     go : (t : Bool) → ltb (length ws) budget ≡ t → (j : ℕ) → j < budget → ltb j (choose (ltb (length ws) budget) (length ws) budget) ≡ ltb j (length ws)
     go true e j l = rw e
     go false e j l = rw (e, lt-ltb j budget l) (sym (lt-ltb j (length ws) (omega (arith, ltb-false (length ws) budget e))))
+
+-- it ends within the budget
+pub cut-within : (ws : List ℕ) (budget : ℕ) → choose (ltb (length ws) budget) (length ws) budget ≤ budget
+cut-within ws budget = go (ltb (length ws) budget) refl
+  where
+    go : (t : Bool) → ltb (length ws) budget ≡ t → choose (ltb (length ws) budget) (length ws) budget ≤ budget
+    go true e = rw e (omega (arith, ltb-true (length ws) budget e))
+    go false e = rw e (omega arith)
 
 pub unread-alike : (budget : ℕ) → Alike budget (upTo budget []) unread
 unread-alike budget = record { word = λ j l. refl; lasts = λ j l. lt-ltb j budget l }

@@ -25,33 +25,21 @@ Inv-loop table start budget words limit states room₀ file₀ state₀ count₀
     × Reached (machineRunner (machineOf table)) (upTo limit words) budget (startAt start (file₀ .words)) count (standsAt count state (file .words))
 
 abbrev μ-loop : tie.MeasureT-loop
-μ-loop table start budget words limit states room₀ file₀ state₀ count₀ room file state count = budget - count
+μ-loop table start budget words limit states room₀ file₀ state₀ count₀ room file state count = limit - count
 
 loop-holds : tie.Need-loop-holds Inv-loop μ-loop
 loop-holds c =
     let a = c .before .before .before .args in (
-      c .before .before .before .pre .1 .1,
+      c .before .before .before .pre .1 .1 .0,
       length-replicate {A = ℕ} roomWords 0,
       reached-start (machineRunner (machineOf (now (a .table)))) (upTo (a .limit) (now (a .words))) (a .budget) (startAt (a .start) (a .registers .words)),
     )
 
--- dry
-returns : tie.Need-returns Inv-loop μ-loop
-returns c =
-    let b = c .before .before in
-    let a = b .before .before .before .before .args in
-    let m = machineRunner (machineOf (now (a .table))) in
-    let ws = upTo (a .limit) (now (a .words)) in
-    let c₀ = startAt (a .start) (a .registers .words) in
-    let x = standsAt (b .loop .count) (b .loop .state) (b .loop .file .words) in
-    let e = dry-ends ws x (b .loop .state) refl (le-ltb (b .loop .count) (a .limit) (omega arith)) in
-    (sym (reached-dry m ws (a .budget) c₀ (b .loop .count) x (b .loop .inv .2) e (b .loop .state) refl (omega arith)), sym (registers-ended m ws (a .budget) c₀ (b .loop .count) x (b .loop .inv .2) e))
-
 cycle-requires : tie.Need-cycle-requires Inv-loop μ-loop
 cycle-requires c κs =
-    let b = c .before .before .before .before .before in
+    let b = c .before .before .before .before in
     let s = b .before .before .before .before in
-    let w = c .before .before .wide in
+    let w = c .before .wide in
     let m = admitted-facts (now (s .args .table)) (s .pre .1 .0) in
     let h : w .result < getD (now (s .args .table)) 0 0 = omega arith in (
       record {
@@ -65,20 +53,20 @@ cycle-requires c κs =
     )
 
 -- halted
-returns-2 : tie.Need-returns-2 Inv-loop μ-loop
-returns-2 c =
+returns : tie.Need-returns Inv-loop μ-loop
+returns c =
     let d = c .before .before .before in
-    let b = d .before .before .before .before .before .before in
+    let b = d .before .before .before .before .before in
     let a = b .before .before .before .before .args in
     let t = now (a .table) in
     let m = machineRunner (machineOf t) in
     let ws = upTo (a .limit) (now (a .words)) in
     let c₀ = startAt (a .start) (a .registers .words) in
     let r = d .cycle .result in
-    let e = d .cycle .ensures ∙ ap₂ (λ (w k : ℕ). clock (machineOf t) w (stateAt t k) (b .loop .file .words)) (d .before .before .sampled .ensures) (d .before .before .before .wide .ensures .0) in
+    let e = d .cycle .ensures ∙ ap₂ (λ (w k : ℕ). clock (machineOf t) w (stateAt t k) (b .loop .file .words)) (d .before .before .before .sampled .ensures) (d .before .before .wide .ensures .0) in
     let s = cycle-step t ws (a .budget) c₀ (b .loop .count) (b .loop .state) (b .loop .file .words) (after t r) (b .loop .inv .2) (b .loop .inv .0) (omega arith) (lt-ltb (b .loop .count) (a .limit) (omega arith)) e in
     let end = moved (λ k. true) (b .loop .count) (after t r) in
-    let h = after-halted t r (b .loop .count) (c .if2 .taken) in
+    let h = after-halted t r (b .loop .count) (c .if1 .taken) in
     (sym (reached-halted m ws (a .budget) c₀ (b .loop .count + 1) end s (halted-ends ws end h) h), sym (registers-ended m ws (a .budget) c₀ (b .loop .count + 1) end s (halted-ends ws end h)))
 
 loop-less : tie.Need-loop-less Inv-loop μ-loop
@@ -87,30 +75,42 @@ loop-less c = omega arith
 loop-again : tie.Need-loop-again Inv-loop μ-loop
 loop-again c =
     let d = c .before .before .before in
-    let b = d .before .before .before .before .before .before in
+    let b = d .before .before .before .before .before in
     let a = b .before .before .before .before .args in
     let t = now (a .table) in
     let m = machineRunner (machineOf t) in
     let ws = upTo (a .limit) (now (a .words)) in
     let c₀ = startAt (a .start) (a .registers .words) in
     let r = d .cycle .result in
-    let e = d .cycle .ensures ∙ ap₂ (λ (w k : ℕ). clock (machineOf t) w (stateAt t k) (b .loop .file .words)) (d .before .before .sampled .ensures) (d .before .before .before .wide .ensures .0) in
+    let e = d .cycle .ensures ∙ ap₂ (λ (w k : ℕ). clock (machineOf t) w (stateAt t k) (b .loop .file .words)) (d .before .before .before .sampled .ensures) (d .before .before .wide .ensures .0) in
     let s = cycle-step t ws (a .budget) c₀ (b .loop .count) (b .loop .state) (b .loop .file .words) (after t r) (b .loop .inv .2) (b .loop .inv .0) (omega arith) (lt-ltb (b .loop .count) (a .limit) (omega arith)) e in (
-      c .if2 .left,
+      c .if1 .left,
       search needs,
-      subst (λ (x : Configuration). Reached m ws (a .budget) c₀ (b .loop .count + 1) x) (after-standing t r (b .loop .count) (c .if2 .left)) s,
+      subst (λ (x : Configuration). Reached m ws (a .budget) c₀ (b .loop .count + 1) x) (after-standing t r (b .loop .count) (c .if1 .left)) s,
     )
 
--- spent
-returns-3 : tie.Need-returns-3 Inv-loop μ-loop
-returns-3 c =
-    let b = c .before in
+-- dry
+returns-2 : tie.Need-returns-2 Inv-loop μ-loop
+returns-2 c =
+    let b = c .before .before in
     let a = b .before .before .before .before .args in
     let m = machineRunner (machineOf (now (a .table))) in
     let ws = upTo (a .limit) (now (a .words)) in
     let c₀ = startAt (a .start) (a .registers .words) in
     let x = standsAt (b .loop .count) (b .loop .state) (b .loop .file .words) in
-    (sym (reached-spent m ws (a .budget) c₀ (b .loop .count) x (b .loop .inv .2) (b .loop .state) refl (c .loop-test .left)), sym (registers-spent m ws (a .budget) c₀ (b .loop .count) x (b .loop .inv .2) (c .loop-test .left)))
+    let e = dry-ends ws x (b .loop .state) refl (le-ltb (b .loop .count) (a .limit) (omega arith)) in
+    (sym (reached-dry m ws (a .budget) c₀ (b .loop .count) x (b .loop .inv .2) e (b .loop .state) refl (omega arith)), sym (registers-ended m ws (a .budget) c₀ (b .loop .count) x (b .loop .inv .2) e))
+
+-- spent
+returns-3 : tie.Need-returns-3 Inv-loop μ-loop
+returns-3 c =
+    let b = c .before .before in
+    let a = b .before .before .before .before .args in
+    let m = machineRunner (machineOf (now (a .table))) in
+    let ws = upTo (a .limit) (now (a .words)) in
+    let c₀ = startAt (a .start) (a .registers .words) in
+    let x = standsAt (b .loop .count) (b .loop .state) (b .loop .file .words) in
+    (sym (reached-spent m ws (a .budget) c₀ (b .loop .count) x (b .loop .inv .2) (b .loop .state) refl (omega arith)), sym (registers-spent m ws (a .budget) c₀ (b .loop .count) x (b .loop .inv .2) (omega arith)))
 
 pub run-spec : {M : Type 1} → statement M
 run-spec =
@@ -120,13 +120,13 @@ run-spec =
     μ-loop
     (λ c. search needs)
     loop-holds
-    returns
     (λ c κs. search needs)
     (λ c κs. search needs)
     (λ c. search needs)
     cycle-requires
     (λ c. search needs)
-    returns-2
+    returns
     loop-less
     loop-again
+    returns-2
     returns-3)

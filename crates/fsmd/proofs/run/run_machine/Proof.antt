@@ -1,15 +1,17 @@
 -- `fsmd::run::run_machine` meets its contract: refusals in their order, then the run. Assumes nothing.
+use native.Mathlib.Omega.{arith}
 use mathlib.Core.List.{[]}
 use mathlib.Core.Path.{sym, _∙_}
 use denote.Ref.{now}
 use borrow.Author.Needs.{needs}
 use borrow.Author.Tests.{not-true, not-false}
+use Rattle.runs.proofs.OperationLaws.{refuses, accepts}
 use Rattle.runs.proofs.SupplyLaws.{unread-alike}
 use Rattle.runs.specs.Runs.{unread, upTo}
 use Rattle.fsmd.specs.Machine.{machineRunner}
 use Rattle.fsmd.specs.Run.{refusal}
 use Rattle.fsmd.specs.Table.{machineOf}
-use Rattle.fsmd.proofs.Steps.{refuses, accepts, refuse-table, refuse-registers, refuse-machine, refuse-wordless, refuse-start, refuse-none}
+use Rattle.fsmd.proofs.Steps.{refuse-table, refuse-registers, refuse-machine, refuse-wordless, refuse-start, refuse-none}
 use Rattle.fsmd.proofs.run.run_machine.Statement.{statement}
 use Rattle.fsmd.proofs.run.run_machine.Tie as tie
 
@@ -61,24 +63,24 @@ returns-5 c =
     let e = refuse-start t rs (a .start) (g .before .before .if1 .left) (g .before .if2 .left) (sym (g .admitted .ensures) ∙ not-false _ (w .before .if3 .left)) (sym (w .is-wordless .ensures) ∙ not-false _ (c .before .before .if4 .left)) (c .if5 .taken) in
     refuses (machineRunner (machineOf t)) unread rs (a .start) (a .budget) (refusal t rs (a .start)) 8 e
 
-run-requires : tie.Need-run-requires
-run-requires c κs =
-    let g = c .before .before .before .before .before .before .before .before in
-    (g .before .before .if1 .left, (sym (g .admitted .ensures) ∙ not-false _ (c .before .before .before .before .before .before .before .if3 .left), c .before .before .before .if5 .left))
+run-from-requires : tie.Need-run-from-requires
+run-from-requires c κs =
+    let s = c .before .before in
+    let w = s .before .before .before in
+    let g = w .before .before in
+    (g .before .before .if1 .left, (sym (g .admitted .ensures) ∙ not-false _ (w .before .if3 .left), (s .if5 .left, (omega arith, g .before .if2 .left))))
 
 returns-6 : tie.Need-returns-6
 returns-6 c =
-    let r = c .before .before .before .before .run in
-    let l = c .before .before .before .before .before .before .load in
-    let s = c .before .before .before .before .before .before .before .before in
+    let r = c .before .before .run-from in
+    let s = c .before .before .before .before .before in
     let w = s .before .before .before in
     let g = w .before .before in
     let a = g .before .before .before .before .before .args in
     let t = now (a .table) in
     let rs = now (a .registers) in
     let e = refuse-none t rs (a .start) (g .before .before .if1 .left) (g .before .if2 .left) (sym (g .admitted .ensures) ∙ not-false _ (w .before .if3 .left)) (sym (w .is-wordless .ensures) ∙ not-false _ (s .before .before .if4 .left)) (s .if5 .left) in
-    let both = accepts (machineRunner (machineOf t)) unread rs (a .start) (a .budget) (refusal t rs (a .start)) (upTo (a .budget) []) (unread-alike (a .budget)) e (l .result .words) (r .result .registers .words) (r .result .answer) (l .ensures) (r .ensures .0) (r .ensures .1) in
-    (both .0, c .before .before .store .ensures ∙ both .1)
+    accepts (machineRunner (machineOf t)) unread rs (a .start) (a .budget) (refusal t rs (a .start)) (upTo (a .budget) []) (unread-alike (a .budget)) e (r .result) (r .last .1 .0) (r .ensures .0) (r .ensures .1)
 
 pub run-machine-spec : {M : Type 1} → statement M
 run-machine-spec =
@@ -92,9 +94,7 @@ run-machine-spec =
     returns-4
     (λ c. search needs)
     returns-5
-    (λ c κs. search needs)
     (λ c. search needs)
-    run-requires
-    (λ c κs. search needs)
+    run-from-requires
     (λ c. search needs)
     returns-6)

@@ -30,8 +30,8 @@ pub fn run(
     registers: Registers,
     start: u32,
     budget: u32,
-    words: &[u32],
     limit: u32,
+    words: &[u32],
 ) -> Ran
     requires { ⌜ machineWords ≤ length (now table) ⌝ }
     requires { ⌜ admittedOf (now table) ≡ true ⌝ }
@@ -70,14 +70,15 @@ pub fn run(
     }
 }
 
-// A run on the registers of a buffer; its words from 16 up stay.
+// A run on the registers of a buffer; its words from 16 up stay. The limit stands before the words so that it comes in a register and
+// not on the stack, where its address is that of the first wire modulo 4,096.
 fn run_from(
     table: &[u32],
     registers: &mut [u32],
     start: u32,
     budget: u32,
-    words: &[u32],
     limit: u32,
+    words: &[u32],
 ) -> RunAnswer
     requires { ⌜ machineWords ≤ length (now table) ⌝ }
     requires { ⌜ admittedOf (now table) ≡ true ⌝ }
@@ -88,7 +89,7 @@ fn run_from(
     ensures { λ _. ⌜ now (registers .exit) ≡ registersAfter (machineRunner (machineOf (now (table .entry)))) (upTo limit (now (words .entry))) budget (startAt start (take maxRegisters (now (registers .entry)))) ++ drop maxRegisters (now (registers .entry)) ⌝ }
 {
     let file = runs::load(registers);
-    let ran = run(table, file, start, budget, words, limit);
+    let ran = run(table, file, start, budget, limit, words);
     runs::store(registers, ran.registers);
     ran.answer
 }
@@ -114,7 +115,7 @@ pub fn run_machine(table: &[u32], registers: &mut [u32], start: u32, budget: u32
     if table[0] <= start {
         return RunAnswer::Refused(9);
     }
-    run_from(table, registers, start, budget, &[], budget)
+    run_from(table, registers, start, budget, budget, &[])
 }
 
 // "Run machine" with words.
@@ -142,5 +143,5 @@ pub fn run_machine_with_words(
         return RunAnswer::Refused(9);
     }
     let limit = runs::lasting(words, budget);
-    run_from(table, registers, start, budget, words, limit)
+    run_from(table, registers, start, budget, limit, words)
 }

@@ -19,13 +19,13 @@ use Rattle.fsmd.proofs.run.run.Statement.{statement}
 use Rattle.fsmd.proofs.run.run.Tie as tie
 
 abbrev Inv-loop : tie.InvT-loop
-Inv-loop table start budget words limit states room₀ file₀ state₀ count₀ room file state count =
+Inv-loop table start budget limit words states room₀ file₀ state₀ count₀ room file state count =
     (state < getD table 0 0)
     × (length room ≡ roomWords)
     × Reached (machineRunner (machineOf table)) (upTo limit words) budget (startAt start (file₀ .words)) count (standsAt count state (file .words))
 
 abbrev μ-loop : tie.MeasureT-loop
-μ-loop table start budget words limit states room₀ file₀ state₀ count₀ room file state count = limit - count
+μ-loop table start budget limit words states room₀ file₀ state₀ count₀ room file state count = limit - count
 
 loop-holds : tie.Need-loop-holds Inv-loop μ-loop
 loop-holds c =

@@ -126,18 +126,22 @@ fn run_machine_with_words(
     put_run(answer, registers, line, 23);
 }
 
-// Both runs on these words, each on its own copy of the register words.
+// Both runs on the case's words and starters, each on its own copy of the register words.
 fn run_on(
     s: &[u8],
     c: Case,
     graph: &[u32],
     machine: &[u32],
-    words: &[u32],
-    starters: &[u32],
+    words: &mut [u32],
+    starters: &mut [u32],
     line: &mut [u32],
 )
     requires { ⌜ Within c ⌝ }
 {
+    let given = c.words;
+    let listed = c.starters;
+    buffers::load(words, s, given.at);
+    buffers::load(starters, s, listed.at);
     let buffer = c.registers;
     let n = buffer.count as usize;
     let mut first = [0u32; 20];
@@ -146,19 +150,24 @@ fn run_on(
     run_machine_with_words(machine, &mut second[..n], s, c, words, line);
 }
 
-// Both runs with the case's words and starters.
 fn run_both_with_words(s: &[u8], c: Case, graph: &[u32], machine: &[u32], line: &mut [u32])
     requires { ⌜ Within c ⌝ }
 {
-    let words = c.words;
-    let starters = c.starters;
-    let n = words.count as usize;
-    let m = starters.count as usize;
-    let mut first = [0u32; 64];
-    let mut second = [0u32; 70];
-    buffers::load(&mut first[..n], s, words.at);
-    buffers::load(&mut second[..m], s, starters.at);
-    run_on(s, c, graph, machine, &first[..n], &second[..m], line);
+    let given = c.words;
+    let listed = c.starters;
+    let n = given.count as usize;
+    let m = listed.count as usize;
+    let mut words = [0u32; 64];
+    let mut starters = [0u32; 70];
+    run_on(
+        s,
+        c,
+        graph,
+        machine,
+        &mut words[..n],
+        &mut starters[..m],
+        line,
+    );
 }
 
 // The listing's bytes are the first of the output, as many as the answer says.

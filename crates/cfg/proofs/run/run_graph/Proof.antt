@@ -7,7 +7,7 @@ use denote.Ref.{now}
 use borrow.Author.Tests.{not-true, not-false}
 use borrow.Author.Needs.{needs}
 use Rattle.runs.proofs.ListLaws.{and-left, and-right}
-use Rattle.runs.proofs.OperationLaws.{refused, refused-left, accepted, accepted-left}
+use Rattle.runs.proofs.OperationLaws.{refuses, accepted, accepted-left}
 use Rattle.runs.proofs.SupplyLaws.{unread-alike}
 use Rattle.runs.specs.Runs.{upTo, unread}
 use Rattle.cfg.specs.Graph.{graphRunner, wordless}
@@ -28,7 +28,7 @@ returns c =
     let ws = unread in
     let n = refusal t rs (k .start) in
     let h = short-table t rs (k .start) (c .if1 .taken) in
-    (sym (refused g ws rs (k .start) (k .budget) n 6 h), sym (refused-left g ws rs (k .start) (k .budget) n 6 h))
+    refuses g ws rs (k .start) (k .budget) n 6 h
 
 returns-2 : tie.Need-returns-2
 returns-2 c =
@@ -39,7 +39,7 @@ returns-2 c =
     let ws = unread in
     let n = refusal t rs (k .start) in
     let h = short-registers t rs (k .start) (c .before .if1 .left) (c .if2 .taken) in
-    (sym (refused g ws rs (k .start) (k .budget) n 6 h), sym (refused-left g ws rs (k .start) (k .budget) n 6 h))
+    refuses g ws rs (k .start) (k .budget) n 6 h
 
 returns-3 : tie.Need-returns-3
 returns-3 c =
@@ -52,7 +52,7 @@ returns-3 c =
     let ok = sym (c .before .is-admitted .ensures) ∙ c .if4 .taken in
     let e = rw ok at (sym (c .before .before .before .passes-with .ensures) ∙ not-true (c .before .before .before .passes-with .result) (c .before .before .if3 .taken)) in
     let h = words-needed t rs (k .start) (c .before .before .before .before .before .if1 .left) (c .before .before .before .before .if2 .left) ok e in
-    (sym (refused g ws rs (k .start) (k .budget) n 11 h), sym (refused-left g ws rs (k .start) (k .budget) n 11 h))
+    refuses g ws rs (k .start) (k .budget) n 11 h
 
 returns-4 : tie.Need-returns-4
 returns-4 c =
@@ -63,7 +63,7 @@ returns-4 c =
     let ws = unread in
     let n = refusal t rs (k .start) in
     let h = not-admitted t rs (k .start) (c .before .before .before .before .before .if1 .left) (c .before .before .before .before .if2 .left) (sym (c .before .is-admitted .ensures) ∙ c .if4 .left) in
-    (sym (refused g ws rs (k .start) (k .budget) n 5 h), sym (refused-left g ws rs (k .start) (k .budget) n 5 h))
+    refuses g ws rs (k .start) (k .budget) n 5 h
 
 returns-5 : tie.Need-returns-5
 returns-5 c =
@@ -77,7 +77,7 @@ returns-5 c =
     let ok = and-left (admitted t) (wordless (graphOf t)) pass in
     let w = and-right (admitted t) (wordless (graphOf t)) pass in
     let h = no-start t rs (k .start) (c .before .before .before .before .before .if1 .left) (c .before .before .before .before .if2 .left) ok w (omega (arith, c .if5 .taken)) in
-    (sym (refused g ws rs (k .start) (k .budget) n 8 h), sym (refused-left g ws rs (k .start) (k .budget) n 8 h))
+    refuses g ws rs (k .start) (k .budget) n 8 h
 
 run-from-requires : tie.Need-run-from-requires
 run-from-requires c κs =

@@ -6,7 +6,7 @@ use denote.Ref.{now}
 use borrow.Author.Tests.{not-true, not-false}
 use borrow.Author.Needs.{needs}
 use Rattle.word.specs.Word.{choose}
-use Rattle.runs.proofs.OperationLaws.{refused, refused-left, accepted, accepted-left}
+use Rattle.runs.proofs.OperationLaws.{refuses, accepted, accepted-left}
 use Rattle.runs.proofs.SupplyLaws.{cut-alike}
 use Rattle.runs.specs.Runs.{upTo, listed}
 use Rattle.cfg.specs.Graph.{graphRunner}
@@ -28,7 +28,7 @@ returns c =
     let ws = listed (now (k .words)) in
     let n = wordsRefusal t rs (k .start) (now (k .starters)) in
     let h = words-short-table t rs (k .start) (now (k .starters)) (c .if1 .taken) in
-    (sym (refused g ws rs (k .start) (k .budget) n 6 h), sym (refused-left g ws rs (k .start) (k .budget) n 6 h))
+    refuses g ws rs (k .start) (k .budget) n 6 h
 
 returns-2 : tie.Need-returns-2
 returns-2 c =
@@ -39,7 +39,7 @@ returns-2 c =
     let ws = listed (now (k .words)) in
     let n = wordsRefusal t rs (k .start) (now (k .starters)) in
     let h = words-short-registers t rs (k .start) (now (k .starters)) (c .before .if1 .left) (c .if2 .taken) in
-    (sym (refused g ws rs (k .start) (k .budget) n 6 h), sym (refused-left g ws rs (k .start) (k .budget) n 6 h))
+    refuses g ws rs (k .start) (k .budget) n 6 h
 
 returns-3 : tie.Need-returns-3
 returns-3 c =
@@ -50,7 +50,7 @@ returns-3 c =
     let ws = listed (now (k .words)) in
     let n = wordsRefusal t rs (k .start) (now (k .starters)) in
     let h = words-not-admitted t rs (k .start) (now (k .starters)) (c .before .before .before .if1 .left) (c .before .before .if2 .left) (sym (c .before .is-admitted .ensures) ∙ not-true (c .before .is-admitted .result) (c .if3 .taken)) in
-    (sym (refused g ws rs (k .start) (k .budget) n 5 h), sym (refused-left g ws rs (k .start) (k .budget) n 5 h))
+    refuses g ws rs (k .start) (k .budget) n 5 h
 
 returns-4 : tie.Need-returns-4
 returns-4 c =
@@ -62,7 +62,7 @@ returns-4 c =
     let n = wordsRefusal t rs (k .start) (now (k .starters)) in
     let ok = sym (c .before .before .before .is-admitted .ensures) ∙ not-false (c .before .before .before .is-admitted .result) (c .before .before .if3 .left) in
     let h = words-no-start t rs (k .start) (now (k .starters)) (c .before .before .before .before .before .if1 .left) (c .before .before .before .before .if2 .left) ok (c .if4 .taken) in
-    (sym (refused g ws rs (k .start) (k .budget) n 8 h), sym (refused-left g ws rs (k .start) (k .budget) n 8 h))
+    refuses g ws rs (k .start) (k .budget) n 8 h
 
 marked-requires : tie.Need-marked-requires
 marked-requires c κs =
@@ -81,7 +81,7 @@ returns-5 c =
     let ok = sym (c .before .before .before .before .before .before .before .is-admitted .ensures) ∙ not-false (c .before .before .before .before .before .before .before .is-admitted .result) (c .before .before .before .before .before .before .if3 .left) in
     let u = sym (c .before .before .marked .ensures .0) ∙ not-true (c .before .before .marked .result) (c .if5 .taken) in
     let h = words-unfit t rs (k .start) (now (k .starters)) (c .before .before .before .before .before .before .before .before .before .if1 .left) (c .before .before .before .before .before .before .before .before .if2 .left) ok (c .before .before .before .before .if4 .left) u in
-    (sym (refused g ws rs (k .start) (k .budget) n 10 h), sym (refused-left g ws rs (k .start) (k .budget) n 10 h))
+    refuses g ws rs (k .start) (k .budget) n 10 h
 
 run-from-requires : tie.Need-run-from-requires
 run-from-requires c κs =

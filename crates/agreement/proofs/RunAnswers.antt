@@ -7,19 +7,17 @@ use mathlib.Core.Logic.{_⊎_, inl, inr}
 use mathlib.Core.Bool.{Bool, true, false}
 use mathlib.Core.List.{List, _++_}
 use lib.Dec.{ltb}
-use lib.ListN.{length, getD, take, drop}
+use lib.ListN.{length, take, drop}
 use borrow.Author.Tests.{lt-ltb, le-ltb, ltb-true, ltb-false}
 use Rattle.runs.specs.Lists.{mem}
 use Rattle.runs.specs.Runs.{Place, standing, halted, Configuration, startAt, Supply, Runner, goes, times, stepsRun, outcome, answer, registersAfter, numberOf, outcomeOf, countOf, nextOf}
 use Rattle.runs.specs.declared.RunAnswer.{RunAnswer}
-use Rattle.runs.specs.declared.RunAnswer.the-variants.{Refused}
 use Rattle.runs.proofs.RunLaws.{never-both, place-of, registers-of, arrivals-of, halted-ends, dry-lasts}
 use Rattle.runs.proofs.RunLaws.{stepsRun-le, going-before, at-count, left-ended, arrivals-run}
 use Rattle.runs.proofs.RunLaws.{Reached, reached-after, answer-is, reached-spent, reached-halted, reached-dry, at-ended}
 use Rattle.cfg.specs.Graph.{CFG, graphRunner}
-use Rattle.fsmd.specs.Layout.{maxRegisters, machineWords}
+use Rattle.fsmd.specs.Layout.{maxRegisters}
 use Rattle.fsmd.specs.Machine.{machineRunner}
-use Rattle.fsmd.specs.Table.{machineOf, admitted}
 use Rattle.runs.specs.Operations.{answered, registersLeft}
 use Rattle.runs.proofs.OperationLaws.{refused, accepted, accepted-left}
 use Rattle.grouping.specs.Grouping.{Groups}

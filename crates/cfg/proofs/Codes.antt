@@ -6,7 +6,7 @@ use mathlib.Core.Path.{_≡_, refl, sym, ap, _∙_}
 use lib.Dec.{eqb, ltb}
 use lib.ListN.{getD, take, drop}
 use lib.Seq.{getD-take}
-use borrow.Author.Tests.{lt-leb, le-leb, eq-eqb, ne-eqb, ltb-true}
+use borrow.Author.Tests.{lt-leb, le-leb, ne-eqb, ltb-true}
 use Rattle.word.specs.Word.{choose, arities, arity}
 use Rattle.runs.proofs.ListLaws.{every-at}
 use Rattle.cfg.specs.declared.Instruction.{Instruction}

@@ -8,7 +8,6 @@ use lib.ListN.{length, getD}
 use Rattle.runs.specs.Lists.{upFrom, every}
 use Rattle.runs.proofs.ListLaws.{every-and, every-map, take-map-upFrom}
 use Rattle.cfg.specs.declared.Block.{Block}
-use Rattle.cfg.specs.declared.Instruction.{Instruction}
 use Rattle.cfg.specs.Layout.{maxBlocks, maxRegisters, maxInstructions, instructionWords, codeOffset, endingOffset, lastOffset, blockWords, allBlockWords, graphWords, blockOffset}
 use Rattle.cfg.specs.Graph.{codeOf, validInstruction, wordless}
 use Rattle.cfg.specs.Fits.{zeros, endingFits, blockFits, passes, blockPasses}

@@ -3,21 +3,21 @@ use Prim.Native.Nat.{ℕ, suc, _+_, _%_, _≤_, _<_}
 use native.Mathlib.Numerals.{add-one}
 use native.Mathlib.Omega.{arith}
 use mathlib.Core.Path.{_≡_, refl, ap, subst, _∙_}
-use mathlib.Core.Bool.{Bool, true, false, not, _||_}
-use mathlib.Core.List.{List, [], _∷_, _++_}
-use lib.Dec.{eqb, ltb}
-use lib.ListN.{length, getD, take, drop, set, drop-of-length-le}
+use mathlib.Core.Bool.{Bool, true, false}
+use mathlib.Core.List.{List, [], _∷_}
+use lib.Dec.{eqb}
+use lib.ListN.{length, getD, drop, set, drop-of-length-le}
 use lib.Seq.{drop-cons, getD-take, length-take-le}
 use borrow.Author.Tests.{eqb-true, eqb-false, eq-eqb, ne-eqb, lt-ltb, le-ltb}
 use Rattle.word.specs.Word.{choose, evalOf, arity}
-use Rattle.runs.specs.Runs.{Place, standing, halted, Configuration, standsAt, startAt, Supply, unread, moved, step, answer, registersAfter}
+use Rattle.runs.specs.Runs.{Place, standing, Configuration, standsAt, Supply, Runner, moved, step}
 use Rattle.runs.proofs.RunLaws.{goes-standing, moved-to, step-going, Reached, reached-step}
 use Rattle.cfg.specs.declared.Instruction.{Instruction}
 use Rattle.cfg.specs.declared.Ending.{Ending}
 use Rattle.cfg.specs.declared.Ending.the-variants.{Goto, Ite, Halt}
 use Rattle.cfg.specs.declared.Block.{Block}
 use Rattle.cfg.specs.Layout.{maxRegisters, graphWords}
-use Rattle.cfg.specs.Graph.{noInstruction, codeOf, execute, executeAll, holds, leave, runBlock, graphRunner, wordless}
+use Rattle.cfg.specs.Graph.{noInstruction, codeOf, execute, executeAll, holds, leave, runBlock, wordless}
 use Rattle.cfg.specs.Table.{blockAt, graphOf, admitted}
 use Rattle.cfg.specs.Run.{startersFit, refusal, wordsRefusal}
 use Rattle.cfg.specs.Steps.{Within, EndingWithin, BlockWithin, markedRunner}
@@ -164,19 +164,13 @@ turn t marks ws budget c₀ count k n rs after p l h w r e q =
     ∙ rw (← e, ← q) in
     rw (← m) (reached-step g ws budget c₀ count c r (goes-standing ws c n refl w) h)
 
--- and stands at block x then, where b says whether that is an arrival
-pub turn-to : (t marks : List ℕ) (ws : Supply) (budget : ℕ) (c₀ : Configuration) (count k n : ℕ) (rs after : List ℕ) (x : ℕ) (b : Bool)
-    → n < getD t 0 0 → count < budget → ws .lasts k ≡ true
-    → Reached (markedRunner (graphOf t) marks) ws budget c₀ count (standsAt k n rs)
-    → after ≡ executeAll (ws .word k) (codeOf (blockAt t n)) rs
-    → standing x ≡ leave (blockAt t n .ending) after
-    → eqb (getD marks x 0) 1 ≡ b
-    → Reached (markedRunner (graphOf t) marks) ws budget c₀ (count + 1) (standsAt (choose b (k + 1) k) x after)
-turn-to t marks ws budget c₀ count k n rs after x b l h w r e q m =
-    let g = markedRunner (graphOf t) marks in
-    subst (λ (c : Configuration). Reached g ws budget c₀ (count + 1) c)
-    (moved-to (g .arrives) k (record { place = standing x; registers = after }) x b refl m ∙ rw (add-one k))
-    (turn t marks ws budget c₀ count k n rs after (standing x) l h w r e q)
+-- it stands at block x then, where m says whether that is an arrival
+pub moved-stands : (r : Runner) (ws : Supply) (budget : ℕ) (c₀ : Configuration) (count k x : ℕ) (rs : List ℕ) (m : Bool) → r .arrives x ≡ m
+    → Reached r ws budget c₀ count (moved (r .arrives) k (record { place = standing x; registers = rs }))
+    → Reached r ws budget c₀ count (standsAt (choose m (k + 1) k) x rs)
+moved-stands r ws budget c₀ count k x rs m h =
+    subst (λ (c : Configuration). Reached r ws budget c₀ count c)
+    (moved-to (r .arrives) k (record { place = standing x; registers = rs }) x m refl h ∙ rw (add-one k))
 
 -- ---- refusals
 

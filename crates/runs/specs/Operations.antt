@@ -1,6 +1,5 @@
 -- An operation that runs a graph or a machine on a register buffer: its answer, and the words that it leaves there. Assumes nothing.
 use Prim.Native.Nat.{ℕ}
-use mathlib.Core.Bool.{Bool, true, false}
 use mathlib.Core.List.{List, _++_}
 use lib.ListN.{take, drop}
 use lib.Dec.{eqb}

@@ -1,9 +1,9 @@
 -- The worked examples P1 to P13, and answers of R-1, as one table of computed tests, and one theorem that all hold. Assumes nothing.
-use Prim.Native.Nat.{ℕ, zero, suc, _+_}
+use Prim.Native.Nat.{ℕ}
 use Prim.Native.String.{String}
-use mathlib.Core.Bool.{Bool, true, false, not, _&&_}
-use mathlib.Core.List.{List, [], _∷_, _++_, map}
-use lib.ListN.{length, getD, replicate}
+use mathlib.Core.Bool.{Bool, not, _&&_}
+use mathlib.Core.List.{List, [], _∷_, map}
+use lib.ListN.{length, replicate}
 use lib.Dec.{T, eqb}
 use Rattle.word.specs.Word.{evalOf}
 use Rattle.runs.specs.Lists.{same, every}

@@ -1,6 +1,4 @@
 -- `runs::lasting` meets its contract. Assumes nothing.
-use mathlib.Core.Path.{_≡_, sym}
-use lib.Dec.{ltb}
 use lib.ListN.{length}
 use borrow.Author.Tests.{lt-ltb, le-ltb}
 use denote.Ref.{now}

@@ -1,7 +1,7 @@
 -- `cfg::starters::marked` meets its contract. Assumes nothing.
 use Prim.Native.Nat.{ℕ}
 use native.Mathlib.Omega.{arith}
-use mathlib.Core.Path.{_≡_, refl, sym, ap, _∙_}
+use mathlib.Core.Path.{refl, sym, ap, _∙_}
 use lib.ListN.{length, getD, length-replicate}
 use denote.Ref.{now}
 use borrow.Author.Needs.{needs}

@@ -154,7 +154,7 @@ loop-again c =
     let d = c .before .before .before .before .before in
     let x = c .before .before .before .t .given .0 .0 in
     let e = ap placeOf (c .before .before .before .t .given .1) in
-    (below d x e, omega (arith, d .before .before .before .before .before .before .loop .inv .1), stands d x true e (eq-eqb (getD (marks d) x 0) 1 (c .if2 .taken)))
+    (below d x e, omega (arith, d .before .before .before .before .before .before .loop .inv .1), stands d x true e (eq-eqb (getD (marks d) x 0) 1 (omega (arith, c .if2 .taken))))
 
 loop-less-2 : tie.Need-loop-less-2 Inv-loop μ-loop
 loop-less-2 c = omega (arith, c .before .before .before .before .before .before .before .before .before .before .loop-test .taken)

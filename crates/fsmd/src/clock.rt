@@ -82,7 +82,12 @@ fn taken(
 {
     let mut next = registers;
     let mut i = 0;
-    while i < count {
+    // A loop of sixteen turns is unrolled, and each word of the file is then a variable. Stored at an index that varies, the words would
+    // make the copy of the whole file wait.
+    while i < Machine::REGISTERS {
+        if count <= i {
+            return next;
+        }
         next.words[i] = read(words, n, table[at + i]);
         i += 1;
     }

@@ -1,5 +1,5 @@
 -- `fsmd::clock::taken` meets its contract: the first i registers are taken, the others as they were. Assumes nothing.
-use Prim.Native.Nat.{ℕ, _-_, _≤_}
+use Prim.Native.Nat.{ℕ, _-_, _≤_, _<_}
 use native.Mathlib.Omega.{arith}
 use mathlib.Core.List.{List, _++_, map}
 use mathlib.Core.Path.{_≡_, refl, sym, ap, ap₂, _∙_}
@@ -28,13 +28,13 @@ loop-less c = omega arith
 
 loop-again : tie.Need-loop-again Inv-loop μ-loop
 loop-again c =
-    let b = c .before .before .before in
+    let b = c .before .before .before .before in
     let a = b .before .before .before .args in
     let t = now (a .table) in
     let i = b .loop .i in
     let f : ℕ → ℕ = λ x. getD (take (a .n) (now (a .words))) x 0 in
     let s = take (a .count) (drop (a .at) t) in
-    let q = c .before .before .loop-test .taken in
+    let q : i < a .count = omega arith in
     let e : length s ≡ a .count = window-length t (a .at) (a .count) (search needs) in
     let k : length (map f s) ≡ a .count = length-map s f ∙ e in
     let l : length (a .registers .words) ≡ maxRegisters = search needs in (
@@ -45,6 +45,17 @@ loop-again c =
 
 returns : tie.Need-returns Inv-loop μ-loop
 returns c =
+    let b = c .before .before in
+    let a = b .before .before .before .args in
+    let t = now (a .table) in
+    let f : ℕ → ℕ = λ x. getD (take (a .n) (now (a .words))) x 0 in
+    let s = take (a .count) (drop (a .at) t) in
+    let e : length (map f s) ≡ a .count = length-map s f ∙ window-length t (a .at) (a .count) (search needs) in
+    let i : b .loop .i ≡ a .count = omega arith in
+    b .loop .inv .1 ∙ rw (i, take-all (a .count) (map f s) (omega arith))
+
+returns-2 : tie.Need-returns-2 Inv-loop μ-loop
+returns-2 c =
     let b = c .before in
     let a = b .before .before .before .args in
     let t = now (a .table) in
@@ -61,6 +72,7 @@ taken-spec =
     Inv-loop
     μ-loop
     loop-holds
+    returns
     (λ c. search needs)
     (λ c. search needs)
     (λ c. search needs)
@@ -70,4 +82,4 @@ taken-spec =
     (λ c. search needs)
     loop-less
     loop-again
-    returns)
+    returns-2)

@@ -7,13 +7,13 @@ use native.Mathlib.Omega.{arith}
 use native.Mathlib.Numerals.{add-one}
 use lib.Dec.{eqb}
 use lib.ListN.{length, getD, set, drop, replicate, length-set, getD-replicate}
-use lib.Seq.{length-take-le, take-suc-set, drop-set-lt, drop-drop, getD-set-same, getD-set-other}
+use lib.Seq.{length-take-le, take-suc-set, drop-set-lt, drop-drop, getD-set-same, getD-set-other, getD-take}
 use borrow.Author.Tests.{eq-eqb, ne-eqb}
 use Rattle.cfg.specs.Layout.{maxBlocks}
 use Rattle.runs.specs.Lists.{mem}
 use Rattle.runs.proofs.Tests.{Compared, same, other, compared}
 use Rattle.grouping.specs.declared.Starters.{Starters}
-use Rattle.grouping.specs.Bytes.{Listed, startersOf, withStarter, used}
+use Rattle.grouping.specs.Bytes.{Listed, Marking, startersOf, withStarter, used}
 use Rattle.grouping.proofs.Marks.{used-le, used-lt, used-set}
 
 pub entry-listed : Listed (record { count = 1; list = replicate maxBlocks 0; marks = set (replicate maxBlocks 0) 0 1 })
@@ -45,6 +45,14 @@ starters-few s i = omega (arith, i .counted, i .marks-64, used-le 0 (s .marks))
 
 pub starters-length : (s : Starters) → Listed s → length (startersOf s) ≡ s .count
 starters-length s i = length-take-le (s .count) (s .list) (omega (arith, i .list-64, starters-few s i))
+
+pub marking : (s : Starters) → Listed s → Marking (startersOf s) (s .marks)
+marking s i = record {
+  marks-64 = i .marks-64;
+  few = omega (arith, starters-length s i, starters-few s i);
+  blocks = λ k h. let l : k < s .count = omega (arith, starters-length s i) in rw (getD-take (s .count) (s .list) k 0 l) (i .blocks k l);
+  marked = i .marked;
+}
 
 mem-snoc : (x y : ℕ) (l : List ℕ) → mem x (l ++ (y ∷ [])) ≡ mem x l || eqb x y
 mem-snoc x y [] = or-false (eqb x y)

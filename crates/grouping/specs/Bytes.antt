@@ -1,5 +1,5 @@
 -- What the bytes of the inner functions stand for, and the three searches on them. Assumes nothing.
-use Prim.Native.Nat.{ℕ, suc, _+_, _-_, _*_, _<_}
+use Prim.Native.Nat.{ℕ, suc, _+_, _-_, _*_, _≤_, _<_}
 use mathlib.Core.Path.{_≡_}
 use mathlib.Core.Bool.{Bool, true, false, not, _&&_}
 use mathlib.Core.List.{List, [], _∷_, _++_}
@@ -37,6 +37,13 @@ pub record Listed (s : Starters) : Type 0 where
   pub marked : (x : ℕ) → x < maxBlocks → mem x (startersOf s) ≡ not (eqb (getD (s .marks) x 0) 0)
   pub blocks : (k : ℕ) → k < s .count → getD (s .list) k 0 < maxBlocks
   pub rest : drop (s .count) (s .list) ≡ replicate (maxBlocks - s .count) 0
+
+-- `marks` has a mark at each starter, which is a block, and no other
+pub record Marking (starters marks : List ℕ) : Type 0 where
+  pub marks-64 : length marks ≡ maxBlocks
+  pub few : length starters ≤ maxBlocks
+  pub blocks : (k : ℕ) → k < length starters → getD starters k 0 < maxBlocks
+  pub marked : (x : ℕ) → x < maxBlocks → mem x starters ≡ not (eqb (getD marks x 0) 0)
 
 -- x becomes the newest starter when it isn't one already
 abbrev pub withStarter : ℕ → List ℕ → List ℕ

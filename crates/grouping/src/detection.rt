@@ -5,20 +5,20 @@ use crate::edges;
 use cfg::Graph;
 ghost use mathlib.Core.Path.{_≡_};
 ghost use Prim.Native.Nat.{_<_};
-ghost use Rattle.cfg.specs.Layout.{maxBlocks};
+ghost use lib.ListN.{length};
 ghost use Rattle.grouping.specs.Bytes.{Listed, startersOf, illegalBy, detection};
 
 // An edge between different states whose target is no starter.
-fn illegal(states: &[u8], starters: Starters, block: usize, target: usize) -> bool
-    requires { ⌜ target < maxBlocks ⌝ }
-    ensures { λ r. ⌜ r ≡ illegalBy (now (states .entry)) (starters .marks) block target ⌝ }
+fn illegal(states: &[u8], marks: &[u8], block: usize, target: usize) -> bool
+    requires { ⌜ target < length (now marks) ⌝ }
+    ensures { λ r. ⌜ r ≡ illegalBy (now (states .entry)) (now (marks .entry)) block target ⌝ }
 {
     let own = edges::at(states, block);
     let other = edges::at(states, target);
     if own == other {
         false
     } else {
-        starters.marks[target] == 0
+        marks[target] == 0
     }
 }
 
@@ -40,7 +40,7 @@ pub fn detect(edges: &[u8], states: &[u8], starters: Starters) -> Detected
             let t = edges::wide(to);
             k += 1;
             if t < Graph::BLOCKS {
-                if illegal(states, starters, block, t) {
+                if illegal(states, &starters.marks, block, t) {
                     found = Detected::IllegalTo(to);
                     break 'visit;
                 }

@@ -6,15 +6,15 @@ ghost use mathlib.Core.Path.{_≡_};
 ghost use Prim.Native.Nat.{_<_};
 ghost use lib.ListN.{length, getD};
 ghost use Rattle.cfg.specs.Layout.{maxBlocks};
-ghost use Rattle.grouping.specs.Bytes.{Listed, startersOf, taken, population};
+ghost use Rattle.grouping.specs.Bytes.{Listed, Marking, startersOf, taken, population};
 
 // State k takes the blocks not yet taken that its starter leads to, up to the starters of other states.
-fn take_state(edges: &[u8], starters: Starters, k: u8, states: &mut [u8])
-    requires { ⌜ Listed starters × (k < starters .count) × (length (now states) ≡ maxBlocks) ⌝ }
-    ensures { λ r. ⌜ now (states .exit) ≡ taken (now (edges .entry)) (startersOf starters) (getD (starters .list) k 0) k (now (states .entry)) ⌝ }
+fn take_state(edges: &[u8], starters: &[u8], marks: &[u8], k: u8, states: &mut [u8])
+    requires { ⌜ Marking (now starters) (now marks) × (k < length (now starters)) × (length (now states) ≡ maxBlocks) ⌝ }
+    ensures { λ r. ⌜ now (states .exit) ≡ taken (now (edges .entry)) (now (starters .entry)) (getD (now (starters .entry)) k 0) k (now (states .entry)) ⌝ }
 {
     let number = edges::wide(k);
-    let first = starters.list[number];
+    let first = starters[number];
     let root = edges::wide(first);
     if states[root] != edges::NONE {
         return;
@@ -33,7 +33,7 @@ fn take_state(edges: &[u8], starters: Starters, k: u8, states: &mut [u8])
             j += 1;
             if t < Graph::BLOCKS {
                 if states[t] == edges::NONE {
-                    if starters.marks[t] == 0 {
+                    if marks[t] == 0 {
                         passed[depth - 1] = j as u8;
                         states[t] = k;
                         stack[depth] = to;
@@ -53,10 +53,13 @@ pub fn populate(edges: &[u8], starters: Starters) -> [u8; Graph::BLOCKS]
     requires { ⌜ Listed starters ⌝ }
     ensures { λ r. ⌜ r ≡ population (now (edges .entry)) (startersOf starters) ⌝ }
 {
+    let count = starters.count;
+    let list = starters.list;
+    let marks = starters.marks;
     let mut states = [edges::NONE; Graph::BLOCKS];
     let mut k: u8 = 0;
-    while edges::wide(k) < starters.count {
-        take_state(edges, starters, k, &mut states);
+    while edges::wide(k) < count {
+        take_state(edges, &list[..count], &marks, k, &mut states);
         k += 1;
     }
     states

@@ -28,16 +28,16 @@ abbrev μ-visit : tie.MeasureT-visit
 μ-visit edges states starters seen₀ stack₀ passed₀ depth₀ found₀ seen stack passed depth found = 2 * (maxBlocks - used 0 seen) + depth
 
 -- a block that is not visited yet finds room on the stack
-room : (c : tie.Then3 Inv-edges μ-edges Inv-visit μ-visit) → c .before .before .before .before .before .before .before .edges .depth < maxBlocks
+room : (c : tie.Then3 Inv-edges μ-edges Inv-visit μ-visit) → c .before .before .before .before .before .before .before .before .before .before .edges .depth < maxBlocks
 room c =
-    let a = c .before .before .before .before .before in
-    detect-room (a .before .before .edges .inv .0) (a .at .result) (c .before .before .before .before .wide3 .result) (c .before .before .before .before .wide3 .ensures .0) (a .at .ensures) (a .before .edges-test .taken) (c .before .before .before .if1 .taken) (c .if3 .taken)
+    let a = c .before .before .before .before .before .before .before .before in
+    detect-room (a .before .before .edges .inv .0) (a .at .result) (c .before .before .before .before .before .before .before .wide3 .result) (c .before .before .before .before .before .before .before .wide3 .ensures .0) (a .at .ensures) (a .before .edges-test .taken) (c .before .before .before .before .before .before .if1 .taken) (c .if3 .taken)
 
 array-write-seen : tie.Need-array-write-seen Inv-edges μ-edges Inv-visit μ-visit
 array-write-seen c = lit< tt
 
 visit-holds : tie.Need-visit-holds Inv-edges μ-edges Inv-visit μ-visit
-visit-holds c = let a = c .before .before in (detect-begins (now (a .args .edges)) (a .args .starters) (now (a .args .states)) (a .pre), refl)
+visit-holds c = let a = c .before .before in (detect-begins (now (a .args .edges)) (a .args .t3) (now (a .args .states)) (a .pre), refl)
 
 sub-wide : tie.Need-sub-wide Inv-edges μ-edges Inv-visit μ-visit
 sub-wide c = omega (arith, c .visit-test .taken)
@@ -66,22 +66,22 @@ add-k : tie.Need-add-k Inv-edges μ-edges Inv-visit μ-visit
 add-k c = omega (arith, c .before .before .edges-test .taken)
 
 illegal-requires : tie.Need-illegal-requires Inv-edges μ-edges Inv-visit μ-visit
-illegal-requires c κs = c .if1 .taken
+illegal-requires c κs = omega (arith, c .before .before .before .if1 .taken, c .before .before .before .before .before .before .before .edges .inv .0 .listed .marks-64)
 
 array-read-if3 : tie.Need-array-read-if3 Inv-edges μ-edges Inv-visit μ-visit
-array-read-if3 c = c .before .before .if1 .taken
+array-read-if3 c = c .before .before .before .before .before .if1 .taken
 
 cast-passed : tie.Need-cast-passed Inv-edges μ-edges Inv-visit μ-visit
-cast-passed c = omega (arith, c .before .before .before .before .before .before .edges-test .taken)
+cast-passed c = omega (arith, c .before .before .before .before .before .before .before .before .before .edges-test .taken)
 
 sub-passed : tie.Need-sub-passed Inv-edges μ-edges Inv-visit μ-visit
-sub-passed c = omega (arith, c .before .before .before .before .before .before .before .edges .inv .0 .on .some)
+sub-passed c = omega (arith, c .before .before .before .before .before .before .before .before .before .before .edges .inv .0 .on .some)
 
 array-write-passed : tie.Need-array-write-passed Inv-edges μ-edges Inv-visit μ-visit
 array-write-passed c = omega (arith, room c)
 
 array-write-seen-2 : tie.Need-array-write-seen-2 Inv-edges μ-edges Inv-visit μ-visit
-array-write-seen-2 c = c .before .before .before .if1 .taken
+array-write-seen-2 c = c .before .before .before .before .before .before .if1 .taken
 
 array-write-stack : tie.Need-array-write-stack Inv-edges μ-edges Inv-visit μ-visit
 array-write-stack c = room c
@@ -94,24 +94,24 @@ add-depth c = omega (arith, room c)
 
 visit-less : tie.Need-visit-less Inv-edges μ-edges Inv-visit μ-visit
 visit-less c =
-    let a = c .before .before .before .before .before in
+    let a = c .before .before .before .before .before .before .before .before in
     let i = a .before .before .edges .inv in
-    detect-falls (i .0) (a .at .result) (c .before .before .before .before .wide3 .result) (c .before .before .before .before .wide3 .ensures .0) (a .at .ensures) (a .before .edges-test .taken) (c .before .before .before .if1 .taken) (c .if3 .taken) (i .2) (i .3)
+    detect-falls (i .0) (a .at .result) (c .before .before .before .before .before .before .before .wide3 .result) (c .before .before .before .before .before .before .before .wide3 .ensures .0) (a .at .ensures) (a .before .edges-test .taken) (c .before .before .before .before .before .before .if1 .taken) (c .if3 .taken) (i .2) (i .3)
 
 visit-again : tie.Need-visit-again Inv-edges μ-edges Inv-visit μ-visit
 visit-again c =
-    let a = c .before .before .before .before .before in
+    let a = c .before .before .before .before .before .before .before .before in
     let i = a .before .before .edges .inv in
-    (detect-pushes (i .0) (a .at .result) (c .before .before .before .before .wide3 .result) (c .before .before .before .before .wide3 .ensures .0) (a .at .ensures) (a .before .edges-test .taken) (c .before .before .before .if1 .taken) (sym (c .before .before .illegal .ensures) ∙ c .before .if2 .left) (c .if3 .taken), i .1)
+    (detect-pushes (i .0) (a .at .result) (c .before .before .before .before .before .before .before .wide3 .result) (c .before .before .before .before .before .before .before .wide3 .ensures .0) (a .at .ensures) (a .before .edges-test .taken) (c .before .before .before .before .before .before .if1 .taken) (sym (c .before .before .illegal .ensures) ∙ c .before .if2 .left) (c .if3 .taken), i .1)
 
 edges-less : tie.Need-edges-less Inv-edges μ-edges Inv-visit μ-visit
-edges-less c = omega (arith, c .before .before .before .before .before .before .edges-test .taken)
+edges-less c = omega (arith, c .before .before .before .before .before .before .before .before .before .edges-test .taken)
 
 edges-again : tie.Need-edges-again Inv-edges μ-edges Inv-visit μ-visit
 edges-again c =
-    let a = c .before .before .before .before .before in
+    let a = c .before .before .before .before .before .before .before .before in
     let i = a .before .before .edges .inv in
-    (detect-known (i .0) (a .at .result) (c .before .before .before .before .wide3 .result) (c .before .before .before .before .wide3 .ensures .0) (a .at .ensures) (a .before .edges-test .taken) (c .before .before .before .if1 .taken) (sym (c .before .before .illegal .ensures) ∙ c .before .if2 .left) (c .if3 .left), i .1, i .2, i .3)
+    (detect-known (i .0) (a .at .result) (c .before .before .before .before .before .before .before .wide3 .result) (c .before .before .before .before .before .before .before .wide3 .ensures .0) (a .at .ensures) (a .before .edges-test .taken) (c .before .before .before .before .before .before .if1 .taken) (sym (c .before .before .illegal .ensures) ∙ c .before .if2 .left) (c .if3 .left), i .1, i .2, i .3)
 
 edges-less-2 : tie.Need-edges-less-2 Inv-edges μ-edges Inv-visit μ-visit
 edges-less-2 c = omega (arith, c .before .before .before .edges-test .taken)
@@ -140,8 +140,8 @@ returns c =
 
 returns-2 : tie.Need-returns-2 Inv-edges μ-edges Inv-visit μ-visit
 returns-2 c =
-    let a = c .before .before .before .before in
-    detect-stops (a .before .before .edges .inv .0) (a .at .result) (c .before .before .before .wide3 .result) (c .before .before .before .wide3 .ensures .0) (a .at .ensures) (a .before .edges-test .taken) (c .before .before .if1 .taken) (sym (c .before .illegal .ensures) ∙ c .if2 .taken)
+    let a = c .before .before .before .before .before .before .before in
+    detect-stops (a .before .before .edges .inv .0) (a .at .result) (c .before .before .before .before .before .before .wide3 .result) (c .before .before .before .before .before .before .wide3 .ensures .0) (a .at .ensures) (a .before .edges-test .taken) (c .before .before .before .before .before .if1 .taken) (sym (c .before .illegal .ensures) ∙ c .if2 .taken)
 
 pub detect-spec : {M : Type 1} → statement M
 detect-spec =

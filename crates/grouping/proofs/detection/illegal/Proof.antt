@@ -10,14 +10,14 @@ use Rattle.grouping.proofs.detection.illegal.Tie as tie
 
 returns : tie.Need-returns
 returns c =
-    let a = c .before .before .before .before .args in
+    let a = c .before .before .before .before .before .args in
     let own = getD (now (a .states)) (a .block) none in
     let other = getD (now (a .states)) (a .target) none in
     rw (eq-eqb own other (sym (c .before .before .at .ensures) ∙ c .if1 .taken ∙ c .before .at2 .ensures)) refl
 
 returns-2 : tie.Need-returns-2
 returns-2 c =
-    let a = c .before .before .before .before .before .args in
+    let a = c .before .before .before .before .before .before .args in
     let own = getD (now (a .states)) (a .block) none in
     let other = getD (now (a .states)) (a .target) none in
     rw (ne-eqb own other (λ h. c .before .if1 .left (c .before .before .before .at .ensures ∙ h ∙ sym (c .before .before .at2 .ensures)))) refl

@@ -6,9 +6,8 @@ use denote.Ref.{now}
 use lib.Dec.{lit<}
 use lib.ListN.{getD}
 use Rattle.fsmd.specs.Layout.{none}
-use Rattle.grouping.specs.Bytes.{startersOf, used, taken}
+use Rattle.grouping.specs.Bytes.{used, taken}
 use Rattle.grouping.proofs.ByteStack.{shallow}
-use Rattle.grouping.proofs.StarterLaws.{starters-few}
 use Rattle.grouping.proofs.PopulationSearch.{takeRest, TakeVisit, TakeEdges, take-nothing, take-begins, take-whole, take-ends, take-onward, take-enters, take-pops, take-none, take-known, take-starter, take-room, take-falls, take-pushes}
 use borrow.Author.Needs.{needs}
 use Rattle.cfg.specs.Layout.{maxBlocks}
@@ -16,28 +15,28 @@ use Rattle.grouping.proofs.population.take_state.Statement.{statement}
 use Rattle.grouping.proofs.population.take_state.Tie as tie
 
 abbrev Inv-edges : tie.InvT-edges
-Inv-edges edges k states₀ starters number first root stack₀ passed₀ depth₀ block j₀ states stack passed depth j =
-    TakeEdges edges starters root k (takeRest edges starters root k states₀ stack₀ passed₀ depth₀) states stack passed depth block j × (states ≡ states₀) × (depth ≡ depth₀)
+Inv-edges edges starters marks k states₀ number first root stack₀ passed₀ depth₀ block j₀ states stack passed depth j =
+    TakeEdges edges starters marks root k (takeRest edges starters root k states₀ stack₀ passed₀ depth₀) states stack passed depth block j × (states ≡ states₀) × (depth ≡ depth₀)
 
 abbrev μ-edges : tie.MeasureT-edges
-μ-edges edges k states₀ starters number first root stack₀ passed₀ depth₀ block j₀ states stack passed depth j = 2 - j
+μ-edges edges starters marks k states₀ number first root stack₀ passed₀ depth₀ block j₀ states stack passed depth j = 2 - j
 
 abbrev Inv-visit : tie.InvT-visit
-Inv-visit edges k states₀ starters number first root stack₀ passed₀ depth₀ states stack passed depth =
-    TakeVisit edges starters root k (takeRest edges starters root k states₀ stack₀ passed₀ depth₀) states stack passed depth
+Inv-visit edges starters marks k states₀ number first root stack₀ passed₀ depth₀ states stack passed depth =
+    TakeVisit edges starters marks root k (takeRest edges starters root k states₀ stack₀ passed₀ depth₀) states stack passed depth
 
 abbrev μ-visit : tie.MeasureT-visit
-μ-visit edges k states₀ starters number first root stack₀ passed₀ depth₀ states stack passed depth = 2 * (maxBlocks - used none states) + depth
+μ-visit edges starters marks k states₀ number first root stack₀ passed₀ depth₀ states stack passed depth = 2 * (maxBlocks - used none states) + depth
 
-few : (c : tie.After-wide Inv-edges μ-edges Inv-visit μ-visit) → c .before .before .before .args .k < maxBlocks
-few c = let a = c .before .before .before in omega (arith, a .pre .1, starters-few (a .args .t2) (a .pre .0))
+few : (c : tie.After-wide Inv-edges μ-edges Inv-visit μ-visit) → c .before .before .before .before .before .args .k < maxBlocks
+few c = let a = c .before .before .before .before .before in omega (arith, a .pre .1, a .pre .0 .few)
 
 -- the starter's byte, and that it is a block
-first-is : (c : tie.After-wide2 Inv-edges μ-edges Inv-visit μ-visit) → c .wide2 .result ≡ getD (c .before .before .before .before .before .args .t2 .list) (c .before .before .before .before .before .args .k) 0
-first-is c = c .wide2 .ensures .0 ∙ ap (λ (n : ℕ). getD (c .before .before .before .before .before .args .t2 .list) n 0) (c .before .before .wide .ensures .0)
+first-is : (c : tie.After-wide2 Inv-edges μ-edges Inv-visit μ-visit) → c .wide2 .result ≡ getD (now (c .before .before .before .before .before .before .before .args .starters)) (c .before .before .before .before .before .before .before .args .k) 0
+first-is c = c .wide2 .ensures .0 ∙ ap (λ (n : ℕ). getD (now (c .before .before .before .before .before .before .before .args .starters)) n 0) (c .before .before .wide .ensures .0)
 
 root-low : (c : tie.After-wide2 Inv-edges μ-edges Inv-visit μ-visit) → c .wide2 .result < maxBlocks
-root-low c = rw (first-is c) (c .before .before .before .before .before .pre .0 .blocks (c .before .before .before .before .before .args .k) (c .before .before .before .before .before .pre .1))
+root-low c = rw (first-is c) (c .before .before .before .before .before .before .before .pre .0 .blocks (c .before .before .before .before .before .before .before .args .k) (c .before .before .before .before .before .before .before .pre .1))
 
 -- a block that is not taken yet finds room on the stack
 room : (c : tie.Then4 Inv-edges μ-edges Inv-visit μ-visit) → c .before .before .before .before .before .before .before .before .edges .depth < maxBlocks
@@ -45,28 +44,28 @@ room c =
     let a = c .before .before .before .before .before .before in
     take-room (a .before .before .edges .inv .0) (a .at .result) (c .before .before .before .before .before .wide5 .result) (c .before .before .before .before .before .wide5 .ensures .0) (a .at .ensures) (a .before .edges-test .taken) (c .before .before .before .before .if2 .taken) (c .before .before .if3 .taken)
 
-element-copy-out-first : tie.Need-element-copy-out-first Inv-edges μ-edges Inv-visit μ-visit
-element-copy-out-first c = rw (c .wide .ensures .0) (few c)
+shared-slice-read-first : tie.Need-shared-slice-read-first Inv-edges μ-edges Inv-visit μ-visit
+shared-slice-read-first c = rw (c .before .wide .ensures .0) (c .before .before .before .before .before .before .pre .1)
 
 slice-read-if1 : tie.Need-slice-read-if1 Inv-edges μ-edges Inv-visit μ-visit
-slice-read-if1 c = omega (arith, root-low (c .before), c .before .before .before .before .before .before .pre .2)
+slice-read-if1 c = omega (arith, root-low (c .before), c .before .before .before .before .before .before .before .before .pre .2)
 
 returns : tie.Need-returns Inv-edges μ-edges Inv-visit μ-visit
 returns c =
-    let a = c .before .before .before .before .before .before .before in
-    take-nothing (now (a .args .edges)) (a .args .t2) (getD (a .args .t2 .list) (a .args .k) 0) (c .before .before .wide2 .result) (a .args .k) (first-is (c .before .before)) (now (a .args .states)) (a .pre .2) (root-low (c .before .before)) (c .if1 .taken)
+    let a = c .before .before .before .before .before .before .before .before .before in
+    take-nothing (now (a .args .edges)) (now (a .args .starters)) (now (a .args .marks)) (getD (now (a .args .starters)) (a .args .k) 0) (c .before .before .wide2 .result) (a .args .k) (first-is (c .before .before)) (now (a .args .states)) (a .pre .2) (root-low (c .before .before)) (c .if1 .taken)
 
 slice-write-states : tie.Need-slice-write-states Inv-edges μ-edges Inv-visit μ-visit
-slice-write-states c = omega (arith, root-low (c .before .before), c .before .before .before .before .before .before .before .pre .2)
+slice-write-states c = omega (arith, root-low (c .before .before), c .before .before .before .before .before .before .before .before .before .pre .2)
 
 array-write-stack : tie.Need-array-write-stack Inv-edges μ-edges Inv-visit μ-visit
 array-write-stack c = lit< tt
 
 visit-holds : tie.Need-visit-holds Inv-edges μ-edges Inv-visit μ-visit
 visit-holds c =
-    let a = c .before .before .before .before .before .before .before in
+    let a = c .before .before .before .before .before .before .before .before .before in
     let k-low : a .args .k < none = omega (arith, few (c .before .before .before .before)) in
-    take-begins (now (a .args .edges)) (a .args .t2) (getD (a .args .t2 .list) (c .before .before .before .before .wide .result) 0) (c .before .before .wide2 .result) (a .args .k) (c .before .before .wide2 .ensures .0) (now (a .args .states)) (a .pre .2) (root-low (c .before .before)) k-low (c .if1 .left) (a .pre .0)
+    take-begins (now (a .args .edges)) (now (a .args .starters)) (now (a .args .marks)) (getD (now (a .args .starters)) (c .before .before .before .before .wide .result) 0) (c .before .before .wide2 .result) (a .args .k) (c .before .before .wide2 .ensures .0) (now (a .args .states)) (a .pre .2) (root-low (c .before .before)) k-low (c .if1 .left) (a .pre .0)
 
 sub-wide : tie.Need-sub-wide Inv-edges μ-edges Inv-visit μ-visit
 sub-wide c = omega (arith, c .visit-test .taken)
@@ -97,8 +96,8 @@ add-j c = omega (arith, c .before .before .edges-test .taken)
 slice-read-if3 : tie.Need-slice-read-if3 Inv-edges μ-edges Inv-visit μ-visit
 slice-read-if3 c = omega (arith, c .before .if2 .taken, c .before .before .before .before .before .edges .inv .0 .on .sized .seen-64)
 
-element-copy-out-if4 : tie.Need-element-copy-out-if4 Inv-edges μ-edges Inv-visit μ-visit
-element-copy-out-if4 c = c .before .before .if2 .taken
+shared-slice-read-if4 : tie.Need-shared-slice-read-if4 Inv-edges μ-edges Inv-visit μ-visit
+shared-slice-read-if4 c = omega (arith, c .before .before .before .if2 .taken, c .before .before .before .before .before .before .before .edges .inv .0 .marking .marks-64)
 
 cast-passed : tie.Need-cast-passed Inv-edges μ-edges Inv-visit μ-visit
 cast-passed c = omega (arith, c .before .before .before .before .before .before .before .edges-test .taken)
@@ -172,16 +171,16 @@ visit-again-2 : tie.Need-visit-again-2 Inv-edges μ-edges Inv-visit μ-visit
 visit-again-2 c = take-onward (take-pops (c .before .edges .inv .0) (c .edges-test .left)) (c .before .before .before .before .before .visit .inv .on .left)
 
 same-length : tie.Need-same-length Inv-edges μ-edges Inv-visit μ-visit
-same-length c = c .before .visit .inv .on .sized .seen-64 ∙ sym (c .before .before .before .before .before .before .before .before .before .pre .2)
+same-length c = c .before .visit .inv .on .sized .seen-64 ∙ sym (c .before .before .before .before .before .before .before .before .before .before .before .pre .2)
 
 returns-2 : tie.Need-returns-2 Inv-edges μ-edges Inv-visit μ-visit
 returns-2 c =
-    let a = c .before .before .before .before .before .before .before .before .before in
+    let a = c .before .before .before .before .before .before .before .before .before .before .before in
     let w = c .before .before .before .before in
     let k-low : a .args .k < none = omega (arith, few (c .before .before .before .before .before .before)) in
     take-ends (c .before .visit .inv) (omega (arith, c .visit-test .left))
-    ∙ take-whole (now (a .args .edges)) (a .args .t2) (getD (a .args .t2 .list) (c .before .before .before .before .before .before .wide .result) 0) (w .wide2 .result) (a .args .k) (w .wide2 .ensures .0) (now (a .args .states)) (a .pre .2) (root-low w) k-low (c .before .before .if1 .left)
-    ∙ ap (λ (n : ℕ). taken (now (a .args .edges)) (startersOf (a .args .t2)) (getD (a .args .t2 .list) n 0) (a .args .k) (now (a .args .states))) (c .before .before .before .before .before .before .wide .ensures .0)
+    ∙ take-whole (now (a .args .edges)) (now (a .args .starters)) (now (a .args .marks)) (getD (now (a .args .starters)) (c .before .before .before .before .before .before .wide .result) 0) (w .wide2 .result) (a .args .k) (w .wide2 .ensures .0) (now (a .args .states)) (a .pre .2) (root-low w) k-low (c .before .before .if1 .left)
+    ∙ ap (λ (n : ℕ). taken (now (a .args .edges)) (now (a .args .starters)) (getD (now (a .args .starters)) n 0) (a .args .k) (now (a .args .states))) (c .before .before .before .before .before .before .wide .ensures .0)
 
 pub take-state-spec : {M : Type 1} → statement M
 take-state-spec =
@@ -192,7 +191,7 @@ take-state-spec =
     Inv-visit
     μ-visit
     (λ c κs. search needs)
-    element-copy-out-first
+    shared-slice-read-first
     (λ c κs. search needs)
     slice-read-if1
     returns
@@ -212,7 +211,7 @@ take-state-spec =
     (λ c κs. search needs)
     add-j
     slice-read-if3
-    element-copy-out-if4
+    shared-slice-read-if4
     cast-passed
     sub-passed
     array-write-passed

@@ -36,7 +36,7 @@ place-alike g s edges starts blocks e m (suc n) placed =
         ∙ ap (λ (p : ℕ → Bool). not (mem x placed) && (mem x (s .starters) || every p blocks)) (fun-ext (passing x))
 
 -- more numbers, none of which passes
-only-more : (p : ℕ → Bool) (k n m : ℕ) → ((x : ℕ) → k + n ≤ x → p x ≡ false) → only p (upFrom k (n + m)) ≡ only p (upFrom k n)
+pub only-more : (p : ℕ → Bool) (k n m : ℕ) → ((x : ℕ) → k + n ≤ x → p x ≡ false) → only p (upFrom k (n + m)) ≡ only p (upFrom k n)
 only-more p k zero zero f = refl
 only-more p k zero (suc m) f =
     let e : zero + suc m ≡ suc (zero + m) = omega arith in

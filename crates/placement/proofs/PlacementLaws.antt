@@ -185,7 +185,7 @@ module _ (g : CFG) (a : Closed g) (s : Groups) (G : Grouped g s) (k : ℕ) (k-in
   k-some : k ≢ nowhere
   k-some e = let n = G .few-states in let b = a .few-blocks in omega arith
 
-  member-state : (x : ℕ) → In x (members g s k) → stateIn (s .states) x ≡ k
+  pub member-state : (x : ℕ) → In x (members g s k) → stateIn (s .states) x ≡ k
   unfolding members
   member-state x i = eqb-true (stateIn (s .states) x) k (only-in (λ x. eqb (stateIn (s .states) x) k) (upFrom 0 (length (g .blocks))) x i .1)
 
@@ -195,12 +195,20 @@ module _ (g : CFG) (a : Closed g) (s : Groups) (G : Grouped g s) (k : ℕ) (k-in
   member-reached : (x : ℕ) → In x (members g s k) → Reached g x
   member-reached x i = state-reached x (member-state x i)
 
-  state-member : (x : ℕ) → stateIn (s .states) x ≡ k → In x (members g s k)
+  pub state-member : (x : ℕ) → stateIn (s .states) x ≡ k → In x (members g s k)
   unfolding members
   state-member x e =
       let h = reached-below a (state-reached x e) in
       in-only (λ x. eqb (stateIn (s .states) x) k) (upFrom 0 (length (g .blocks))) x
       (upFrom-in 0 (length (g .blocks)) x (omega arith) (omega arith)) (eq-eqb (stateIn (s .states) x) k e)
+
+  -- an edge to a non-starter stays in the state
+  pub inside : (u v : ℕ) → In u (members g s k) → In v (successors g u) → (In v (s .starters) → ⊥) → In v (members g s k)
+  inside u v i j f = go (G .edge u v (member-reached u i) j)
+    where
+      go : In v (s .starters) ⊎ (stateIn (s .states) v ≡ stateIn (s .states) u) → In v (members g s k)
+      go (inl c) = absurd (f c)
+      go (inr c) = state-member v (c ∙ member-state u i)
 
   -- along the falling rank: where no block is both unplaced and due, all are placed
   none-left : (placed : List ℕ) → ((x : ℕ) → In x (members g s k) → (In x placed → ⊥) → Due g s (members g s k) placed x → ⊥)
@@ -348,7 +356,7 @@ module _ (g : CFG) (a : Closed g) (s : Groups) (G : Grouped g s) (k : ℕ) (k-in
     others = h .0;
     starter-first = λ d. h .1 ∙ ap (λ (z : ℕ). z ∷ h .0) (getD-any (s .starters) k nowhere d k-in);
     no-starter = lone;
-    forward = sorted-forward g s (members g s k) closed [] (order g s k) o (λ v i. absurd i);
+    forward = sorted-forward g s (members g s k) inside [] (order g s k) o (λ v i. absurd i);
     later = later;
     entered = entered;
   }
@@ -368,13 +376,6 @@ module _ (g : CFG) (a : Closed g) (s : Groups) (G : Grouped g s) (k : ℕ) (k-in
           let d : Distinct (getD (s .starters) k nowhere ∷ h .0) = rw (h .1) at (o .distinct) in
           let m : In x (order g s k) = rw (h .1) (inr i) in
           d .0 (subst (λ z. In z (h .0)) (own-starter x j (member-state x (o .fresh x m .0))) i)
-
-      closed : (u v : ℕ) → In u (members g s k) → In v (successors g u) → (In v (s .starters) → ⊥) → In v (members g s k)
-      closed u v i j f = go (G .edge u v (member-reached u i) j)
-        where
-          go : In v (s .starters) ⊎ (stateIn (s .states) v ≡ stateIn (s .states) u) → In v (members g s k)
-          go (inl c) = absurd (f c)
-          go (inr c) = state-member v (c ∙ member-state u i)
 
       later : (u v : ℕ) → stateIn (s .states) u ≡ k → In v (successors g u) → (In v (s .starters) → ⊥)
           → (before after : List ℕ) → order g s k ≡ before ++ (v ∷ after) → In u before

@@ -1,157 +1,33 @@
--- The steps of the placement code: one more block passed, one more block placed. Assumes nothing.
-use Prim.Native.Nat.{ℕ, zero, suc, _+_, _-_, _*_, _≤_, _<_}
+-- The steps of the placement code: one more edge counted, one more block passed or placed. Assumes nothing.
+use Prim.Native.Nat.{ℕ, suc, _+_, _-_, _≤_, _<_}
 use native.Mathlib.Numerals.{add-one}
 use native.Mathlib.Omega.{arith}
-use native.Mathlib.Decide.{decLt}
-use mathlib.Core.Bool.{Bool, true, false, not, _&&_, _||_, false≢true}
-use mathlib.Core.Logic.{_⊎_, inl, inr}
-use mathlib.Core.Path.{_≡_, refl, sym, _∙_, ap, fun-ext}
-use mathlib.Core.List.{List, [], _∷_, _++_, append-assoc, append-nil}
+use mathlib.Core.Bool.{Bool, true, false, not, _||_}
+use mathlib.Core.Path.{_≡_, refl, sym, _∙_, ap}
+use mathlib.Core.List.{List, [], _∷_, _++_, append-nil}
 use mathlib.Core.Option.{Option}
-use lib.Dec.{eqb, ltb}
-use lib.ListN.{length, getD, take, set, replicate, length-set, getD-replicate, List·getD-eq-default}
-use lib.Seq.{take-suc-set, getD-set-same, getD-set-other, append-snoc}
-use borrow.Author.Tests.{eqb-true, eq-eqb, ne-eqb, lt-ltb, le-ltb}
-use Rattle.runs.specs.Lists.{upFrom, mem, only, keep, orElse, every, first}
-use Rattle.runs.proofs.Tests.{true-or-false, Compared, same, other, compared}
-use Rattle.runs.proofs.ListLaws.{upFrom-cons, upFrom-done, eqb-sym}
-use Rattle.runs.proofs.MembershipLaws.{in-upFrom, first-some}
-use Rattle.runs.proofs.Sets.{getD-any}
-use Rattle.fsmd.specs.Layout.{maxBlocks, none}
-use Rattle.grouping.specs.Bytes.{edgesFrom, edgesIn}
-use Rattle.placement.specs.Placement.{placeNext}
-use Rattle.placement.specs.PlacementBytes.{marked, ofState, membersIn, passes, nextIn, placeIn, holdsBack, freed, dueIn, nextDue, blockOr64}
+use lib.Dec.{eqb}
+use lib.ListN.{length, getD, take, drop, set, replicate, length-set, List·getD-eq-default, drop-of-length-le, length-append, length-drop}
+use lib.Seq.{take-suc-set, getD-set-same, getD-set-other, append-snoc, drop-cons, length-take-le, getD-at, take-at, drop-at}
+use borrow.Author.Tests.{eq-eqb, ne-eqb}
+use borrow.Rule.Slice.PartMut.{putMid, same-len-mid}
+use Rattle.runs.specs.Lists.{upFrom, only, keep, first}
+use Rattle.runs.proofs.Tests.{Compared, same, other, compared}
+use Rattle.runs.proofs.ListLaws.{upFrom-cons, copied-more}
+use Rattle.runs.proofs.Sets.{Distinct, getD-any, getD-in}
+use Rattle.runs.proofs.MembershipLaws.{distinct-only, distinct-upFrom}
+use Rattle.fsmd.specs.Layout.{none}
+use Rattle.grouping.specs.Bytes.{edgesIn}
+use Rattle.placement.specs.Counts.{waiting, lowered, without, blocksOf, run}
+use Rattle.placement.specs.PlacementBytes.{marked, ofState, membersFrom, membersIn, placeIn, targetsIn, countsIn, Chosen}
+use Rattle.placement.proofs.CountLaws.{without-at, waits, waits-on, enough, choice, run-stops, run-on, run-places}
+use Rattle.placement.proofs.CountSteps.{zeros}
+use Rattle.placement.proofs.PlacedOrder.{only-more}
 
--- ---- one block passed
-
-module _ (p : ℕ → Bool) (u : ℕ) where
-  pub every-fails : u < 64 → p u ≡ false → every p (upFrom u (64 - u)) ≡ false
-  every-fails h e = ap (every p) (upFrom-cons u 64 h) ∙ rw e refl
-
-  pub every-on : u < 64 → p u ≡ true → every p (upFrom u (64 - u)) ≡ every p (upFrom (u + 1) (64 - (u + 1)))
-  every-on h e = ap (every p) (upFrom-cons u 64 h) ∙ rw e refl
-
-  pub every-done : 64 ≤ u → every p (upFrom u (64 - u)) ≡ true
-  every-done h = ap (every p) (upFrom-done u 64 h)
-
-  pub first-here : u < 64 → p u ≡ true → first p (upFrom u (64 - u)) ≡ Option.some u
-  first-here h e = ap (first p) (upFrom-cons u 64 h) ∙ rw e refl
-
-  pub first-on : u < 64 → p u ≡ false → first p (upFrom u (64 - u)) ≡ first p (upFrom (u + 1) (64 - (u + 1)))
-  first-on h e = ap (first p) (upFrom-cons u 64 h) ∙ rw e refl
-
-  pub first-done : 64 ≤ u → first p (upFrom u (64 - u)) ≡ Option.none
-  first-done h = ap (first p) (upFrom-done u 64 h)
-
--- ---- all blocks tested, or those of a list alone
-
-module _ (q m p f : ℕ → Bool) (h : (u : ℕ) → f u ≡ q u && not (p u)) where
-  every-only : (l : List ℕ) → every (λ (u : ℕ). not (f u && m u)) l ≡ every (λ (u : ℕ). not (m u) || p u) (only q l)
-  every-only [] = refl
-  every-only (u ∷ l) = rw (h u, every-only l) (kept (q u))
-    where
-      bools : (b c : Bool) → not (not b && c) ≡ not c || b
-      bools true true = refl
-      bools true false = refl
-      bools false true = refl
-      bools false false = refl
-
-      kept : (a : Bool) → not ((a && not (p u)) && m u) && every (λ (u : ℕ). not (m u) || p u) (only q l) ≡ every (λ (u : ℕ). not (m u) || p u) (keep a u (only q l))
-      kept true = ap (λ (z : Bool). z && every (λ (u : ℕ). not (m u) || p u) (only q l)) (bools (p u) (m u))
-      kept false = refl
-
-module _ (q p f : ℕ → Bool) (h : (u : ℕ) → f u ≡ q u && p u) where
-  first-only : (l : List ℕ) → first f l ≡ first p (only q l)
-  first-only [] = refl
-  first-only (u ∷ l) = rw (h u, first-only l) (kept (q u))
-    where
-      kept : (a : Bool) → orElse (a && p u) u (first p (only q l)) ≡ first p (keep a u (only q l))
-      kept true = refl
-      kept false = refl
-
-pub freed-opens : (edges left : List ℕ) (x : ℕ) → freed edges left x ≡ every (λ u. not (holdsBack edges left x u)) (upFrom 0 64)
-unfolding freed
-freed-opens edges left x = refl
-
-pub next-opens : (edges starts left : List ℕ) → nextDue edges starts left ≡ blockOr64 (first (dueIn edges starts left) (upFrom 0 64))
-unfolding nextDue
-next-opens edges starts left = refl
-
--- where the marks are those of the state's blocks that are not placed, the blocks due are those that come next
-module _ (edges starts states : List ℕ) (k : ℕ) (left : List ℕ) (placed : ℕ → Bool) (rest : (x : ℕ) → marked left x ≡ ofState states k x && not (placed x)) where
-  freed-is : (x : ℕ) → freed edges left x ≡ every (passes edges placed x) (membersIn states k)
-  freed-is x = freed-opens edges left x ∙ every-only (ofState states k) (λ (u : ℕ). mem x (edgesIn edges u)) placed (marked left) rest (upFrom 0 64)
-
-  due-is : (x : ℕ) → dueIn edges starts left x ≡ ofState states k x && nextIn edges starts (membersIn states k) placed x
-  due-is x = rw (rest x, freed-is x) (go (ofState states k x))
-    where
-      go : (a : Bool) → (a && not (placed x)) && (marked starts x || every (passes edges placed x) (membersIn states k)) ≡ a && (not (placed x) && (marked starts x || every (passes edges placed x) (membersIn states k)))
-      go true = refl
-      go false = refl
-
-  pub next-is : first (dueIn edges starts left) (upFrom 0 64) ≡ first (nextIn edges starts (membersIn states k) placed) (membersIn states k)
-  next-is = first-only (ofState states k) (nextIn edges starts (membersIn states k) placed) (dueIn edges starts left) due-is (upFrom 0 64)
-
--- ---- the edges of a block
-
-pub leads-at : (edges : List ℕ) (u x : ℕ) → x < 64
-    → mem x (edgesIn edges u) ≡ eqb (getD edges (2 * u) none) x || eqb (getD edges (2 * u + 1) none) x
-unfolding edgesFrom
-leads-at edges u x h = go (getD edges (2 * u) none) (getD edges (2 * u + 1) none)
-  where
-    one : (a : ℕ) (l : List ℕ) → Compared a 64 → mem x (keep (ltb a 64) a l) ≡ eqb a x || mem x l
-    one a l c = two (true-or-false (ltb a 64))
-      where
-        two : (ltb a 64 ≡ true) ⊎ (ltb a 64 ≡ false) → mem x (keep (ltb a 64) a l) ≡ eqb a x || mem x l
-        two (inl e) = rw (e, eqb-sym a x) refl
-        two (inr e) =
-            let n : eqb a x ≡ false = ne-eqb a x (λ (d : a ≡ x). false≢true (sym e ∙ lt-ltb a 64 (omega arith))) in
-            rw (e, n) refl
-
-    last : (b : Bool) → b || false ≡ b
-    last true = refl
-    last false = refl
-
-    go : (a b : ℕ) → mem x (only (λ t. ltb t 64) (a ∷ b ∷ [])) ≡ eqb a x || eqb b x
-    go a b =
-        one a (keep (ltb b 64) b []) (compared a 64)
-        ∙ ap (λ (c : Bool). eqb a x || c) (one b [] (compared b 64) ∙ last (eqb b x))
-
--- ---- one more block placed
-
-none-at-all : (edges starts blocks placed : List ℕ) → placeIn edges starts blocks 0 placed ≡ []
-unfolding placeIn
-none-at-all edges starts blocks placed = refl
-
-pub record Placing (edges starts states : List ℕ) (k : ℕ) (left list : List ℕ) (count : ℕ) : Type 0 where
-  pub left-64 : length left ≡ 64
-  pub list-64 : length list ≡ 64
-  pub few : count ≤ 64
-  pub before : List ℕ
-  pub unplaced : (x : ℕ) → marked left x ≡ ofState states k x && not (mem x before)
-  pub rest : placeIn edges starts (membersIn states k) 64 [] ≡ take count list ++ placeIn edges starts (membersIn states k) (64 - count) before
+-- ---- marks
 
 pub no-marks : (x : ℕ) → marked (replicate 64 0) x ≡ false
-no-marks x = go (decLt x 64)
-  where
-    go : Dec (x < 64) → marked (replicate 64 0) x ≡ false
-    go (yes h) = rw (getD-replicate {A = ℕ} 64 x 0 0 h) refl
-    go (no h) = rw (List·getD-eq-default {A = ℕ} (replicate 64 0) 0 {n = x} (omega arith)) refl
-
-and-yes : (b : Bool) → b ≡ b && true
-and-yes true = refl
-and-yes false = refl
-
-pub placing-begins : (edges starts states : List ℕ) (k : ℕ) (left : List ℕ) → length left ≡ 64 → ((x : ℕ) → marked left x ≡ ofState states k x)
-    → Placing edges starts states k left (replicate 64 0) 0
-placing-begins edges starts states k left n h = record {
-  left-64 = n;
-  list-64 = refl;
-  few = omega arith;
-  before = [];
-  unplaced = λ x. h x ∙ and-yes (ofState states k x);
-  rest = refl;
-}
+no-marks x = rw (zeros x) refl
 
 pub marked-set : (marks : List ℕ) (x y : ℕ) → x < length marks → marked (set marks x 1) y ≡ eqb y x || marked marks y
 marked-set marks x y h = go (compared y x)
@@ -160,125 +36,229 @@ marked-set marks x y h = go (compared y x)
     go (same e p) = rw (e, p, getD-set-same marks x 1 0 h) refl
     go (other e p) = rw (e, getD-set-other marks x y 1 0 p) refl
 
--- a mark taken away
-marked-clear : (marks : List ℕ) (x y : ℕ) → x < length marks → marked (set marks x 0) y ≡ not (eqb y x) && marked marks y
-marked-clear marks x y h = go (compared y x)
-  where
-    go : Compared y x → marked (set marks x 0) y ≡ not (eqb y x) && marked marks y
-    go (same e p) = rw (e, p, getD-set-same marks x 0 0 h) refl
-    go (other e p) = rw (e, getD-set-other marks x y 0 0 p) refl
+-- ---- the blocks of a state, one after another
 
--- ---- the blocks of a state, marked one after another
+pub record Members (states blocks : List ℕ) (k count x : ℕ) : Type 0 where
+  pub size : length blocks ≡ 64
+  pub within : x ≤ length states
+  pub few : count ≤ x
+  pub rest : membersIn states k ≡ take count blocks ++ membersFrom states k x (64 - x)
 
-pub record Members (states marks : List ℕ) (k x : ℕ) : Type 0 where
-  pub size : length marks ≡ 64
-  pub so-far : (y : ℕ) → marked marks y ≡ ltb y x && ofState states k y
+pub members-none : (states : List ℕ) (k : ℕ) → Members states (replicate 64 0) k 0 0
+members-none states k = record { size = refl; within = omega arith; few = omega arith; rest = refl }
 
-pub members-none : (states : List ℕ) (k : ℕ) → Members states (replicate 64 0) k 0
-members-none states k = record { size = refl; so-far = λ y. no-marks y ∙ rw (le-ltb y 0 (omega arith)) refl }
+module _ {states blocks : List ℕ} {k count x : ℕ} (m : Members states blocks k count x) where
+  -- the block at x comes next, or not
+  members-next : x < 64 → membersIn states k ≡ take count blocks ++ keep (ofState states k x) x (membersFrom states k (x + 1) (64 - (x + 1)))
+  members-next l = m .rest ∙ ap (λ (u : List ℕ). take count blocks ++ only (ofState states k) u) (upFrom-cons x 64 l)
 
-module _ (states marks : List ℕ) (k x : ℕ) (m : Members states marks k x) (h : x < length states) where
-  -- the test at x is the next
-  before-or-at : (y : ℕ) → ltb y (x + 1) ≡ eqb y x || ltb y x
-  before-or-at y = go (compared y x) (decLt y x)
-    where
-      go : Compared y x → Dec (y < x) → ltb y (x + 1) ≡ eqb y x || ltb y x
-      go (same e p) d = rw (e, lt-ltb y (x + 1) (omega arith)) refl
-      go (other e p) (yes l) = rw (e, lt-ltb y (x + 1) (omega arith), lt-ltb y x l) refl
-      go (other e p) (no l) = rw (e, le-ltb y (x + 1) (omega arith), le-ltb y x (omega arith)) refl
-
-  pub members-one : x < 64 → getD states x 0 ≡ k → Members states (set marks x 1) k (x + 1)
-  members-one l e = record {
-    size = length-set marks x 1 ∙ m .size;
-    so-far = λ y. marked-set marks x y (omega (arith, m .size)) ∙ rw (m .so-far y, before-or-at y) (go (compared y x));
-  }
-    where
-      go : {y : ℕ} → Compared y x → eqb y x || (ltb y x && ofState states k y) ≡ (eqb y x || ltb y x) && ofState states k y
-      go (same f p) = rw (f, p, getD-any states x none 0 h, eq-eqb (getD states x 0) k e) refl
-      go (other f p) = rw f refl
-
-  pub members-other : (getD states x 0 ≡ k → ⊥) → Members states marks k (x + 1)
-  members-other f = record { size = m .size; so-far = λ y. rw (m .so-far y, before-or-at y) (go (compared y x)) }
-    where
-      go : {y : ℕ} → Compared y x → ltb y x && ofState states k y ≡ (eqb y x || ltb y x) && ofState states k y
-      go (same g p) = rw (g, p, le-ltb x x (omega arith), getD-any states x none 0 h, ne-eqb (getD states x 0) k f) refl
-      go (other g p) = rw g refl
-
-pub members-all : (states marks : List ℕ) (k x : ℕ) → Members states marks k x → length states ≤ x → k < 64 → (y : ℕ) → marked marks y ≡ ofState states k y
-members-all states marks k x m h l y = m .so-far y ∙ go (decLt y x)
-  where
-    go : Dec (y < x) → ltb y x && ofState states k y ≡ ofState states k y
-    go (yes b) = rw (lt-ltb y x b) refl
-    go (no b) =
-        let e : getD states y none ≡ none = List·getD-eq-default states none {n = y} (omega arith) in
-        rw (le-ltb y x (omega arith), e, ne-eqb none k (λ (f : none ≡ k). absurd (omega arith))) refl
-
--- ---- the next block
-
-chosen : (o : Option ℕ) (x : ℕ) → x ≡ blockOr64 o → x < 64 → o ≡ Option.some x
-chosen Option.none x e h = absurd (omega arith)
-chosen (Option.some y) x e h = ap Option.some (sym e)
-
--- the blocks of a state are below 64
-exhausted : (o : Option ℕ) → ((x : ℕ) → o ≡ Option.some x → x < 64) → 64 ≤ blockOr64 o → o ≡ Option.none
-exhausted Option.none f h = refl
-exhausted (Option.some x) f h = absurd (let l = f x refl in omega arith)
-
-module _ (edges starts states : List ℕ) (k : ℕ) (left list : List ℕ) (count : ℕ) (p : Placing edges starts states k left list count) where
-  by-marks : first (dueIn edges starts left) (upFrom 0 64) ≡ first (nextIn edges starts (membersIn states k) (λ x. mem x (p .before))) (membersIn states k)
-  by-marks = next-is edges starts states k left (λ x. mem x (p .before)) (p .unplaced)
-
-  module _ (more : count < 64) (x : ℕ) (n : x ≡ nextDue edges starts left) where
-    e : x ≡ blockOr64 (first (dueIn edges starts left) (upFrom 0 64))
-    e = n ∙ next-opens edges starts left
-
-    next-placed : x < 64 → placeIn edges starts (membersIn states k) (64 - count) (p .before) ≡ x ∷ placeIn edges starts (membersIn states k) (64 - (count + 1)) (x ∷ p .before)
-    unfolding placeIn
-    next-placed h =
-        let n : 64 - count ≡ suc (64 - (count + 1)) = omega arith in
-        rw n
-        (ap (λ (o : Option ℕ). placeNext o (λ x. placeIn edges starts (membersIn states k) (64 - (count + 1)) (x ∷ p .before)))
-        (sym by-marks ∙ chosen (first (dueIn edges starts left) (upFrom 0 64)) x e h))
-
-    none-placed : 64 ≤ x → placeIn edges starts (membersIn states k) (64 - count) (p .before) ≡ []
-    unfolding placeIn
-    none-placed h =
-        let n : 64 - count ≡ suc (64 - (count + 1)) = omega arith in
-        rw n
-        (ap (λ (o : Option ℕ). placeNext o (λ x. placeIn edges starts (membersIn states k) (64 - (count + 1)) (x ∷ p .before)))
-        (sym by-marks ∙ exhausted (first (dueIn edges starts left) (upFrom 0 64)) low (omega (arith, e))))
-      where
-        low : (y : ℕ) → first (dueIn edges starts left) (upFrom 0 64) ≡ Option.some y → y < 64
-        low y f =
-            let l = in-upFrom 0 64 y (first-some (dueIn edges starts left) (upFrom 0 64) y f .0) in
-            omega (arith, l .1)
-
-    pub placing-on : x < 64 → Placing edges starts states k (set left x 0) (set list count x) (count + 1)
-    placing-on h = record {
-      left-64 = length-set left x 0 ∙ p .left-64;
-      list-64 = length-set list count x ∙ p .list-64;
-      few = omega arith;
-      before = x ∷ p .before;
-      unplaced = λ y. marked-clear left x y (omega (arith, p .left-64))
-          ∙ (ap (λ (b : Bool). not (eqb y x) && b) (p .unplaced y) ∙ moved (eqb y x) (ofState states k y) (mem y (p .before)));
-      rest = p .rest ∙ ap (λ (l : List ℕ). take count list ++ l) (next-placed h) ∙ sym (append-snoc (take count list) x (placeIn edges starts (membersIn states k) (64 - (count + 1)) (x ∷ p .before)))
-          ∙ ap (λ (l : List ℕ). l ++ placeIn edges starts (membersIn states k) (64 - (count + 1)) (x ∷ p .before)) taken;
+  module _ (h : x < length states) (l : x < 64) where
+    pub members-one : getD states x 0 ≡ k → Members states (set blocks count x) k (count + 1) (x + 1)
+    members-one e = record {
+      size = length-set blocks count x ∙ m .size;
+      within = omega arith;
+      few = let f = m .few in omega arith;
+      rest = members-next l ∙ rw (getD-any states x none 0 h, eq-eqb (getD states x 0) k e, taken) (sym (append-snoc (take count blocks) x (membersFrom states k (x + 1) (64 - (x + 1)))));
     }
       where
-        moved : (a b c : Bool) → not a && (b && not c) ≡ b && not (a || c)
-        moved true true c = refl
-        moved true false c = refl
-        moved false true c = refl
-        moved false false c = refl
+        taken : take (count + 1) (set blocks count x) ≡ take count blocks ++ (x ∷ [])
+        taken = let r : count < length blocks = omega (arith, m .size, m .few) in rw (add-one, take-suc-set blocks count x r) refl
 
-        taken : take count list ++ (x ∷ []) ≡ take (count + 1) (set list count x)
-        taken = let l : count < length list = omega (arith, p .list-64) in sym (rw (add-one, take-suc-set list count x l) refl)
+    pub members-other : (getD states x 0 ≡ k → ⊥) → Members states blocks k count (x + 1)
+    members-other f = record {
+      size = m .size;
+      within = omega arith;
+      few = let f = m .few in omega arith;
+      rest = members-next l ∙ rw (getD-any states x none 0 h, ne-eqb (getD states x 0) k f) refl;
+    }
 
-    pub placing-stops : 64 ≤ x → take count list ≡ placeIn edges starts (membersIn states k) 64 []
-    placing-stops h = sym (p .rest ∙ ap (λ (l : List ℕ). take count list ++ l) (none-placed h) ∙ append-nil (take count list))
-
-  pub placing-full : 64 ≤ count → take count list ≡ placeIn edges starts (membersIn states k) 64 []
-  placing-full h = sym (p .rest ∙ ap (λ (l : List ℕ). take count list ++ l) none-left ∙ append-nil (take count list))
+  pub members-all : length states ≤ x → k < 64 → take count blocks ≡ membersIn states k
+  members-all h l = sym (m .rest ∙ ap (λ (u : List ℕ). take count blocks ++ u) none-left ∙ append-nil (take count blocks))
     where
-      none-left : placeIn edges starts (membersIn states k) (64 - count) (p .before) ≡ []
-      none-left = let n : 64 - count ≡ 0 = omega arith in ap (λ (m : ℕ). placeIn edges starts (membersIn states k) m (p .before)) n ∙ none-at-all edges starts (membersIn states k) (p .before)
+      outside : (y : ℕ) → x + 0 ≤ y → ofState states k y ≡ false
+      outside y g =
+          let e : getD states y none ≡ none = List·getD-eq-default states none {n = y} (omega arith) in
+          rw (e, ne-eqb none k (λ (f : none ≡ k). absurd (omega arith))) refl
+
+      none-left : membersFrom states k x (64 - x) ≡ []
+      none-left = let e : 64 - x ≡ 0 + (64 - x) = omega arith in rw e (only-more (ofState states k) x 0 (64 - x) outside)
+
+-- ---- the first block that waits for no edge
+
+-- what the code's test says of the count at n, which is x
+pub count-zero : (waits : List ℕ) (x n : ℕ) (r b : Bool) → n ≡ x → r ≡ marked waits n → not r ≡ b → eqb (countsIn waits x) 0 ≡ b
+count-zero waits x n r b p e f = sym (go (eqb (countsIn waits x) 0)) ∙ ap not (sym (e ∙ ap (marked waits) p)) ∙ f
+  where
+    go : (z : Bool) → not (not z) ≡ z
+    go true = refl
+    go false = refl
+
+module _ (p : ℕ → Bool) (l : List ℕ) (i : ℕ) where
+  pub first-here : i < length l → p (getD l i 0) ≡ true → first p (drop i l) ≡ Option.some (getD l i 0)
+  first-here h e = ap (first p) (drop-cons l i 0 h) ∙ rw e refl
+
+  pub first-on : i < length l → p (getD l i 0) ≡ false → first p (drop i l) ≡ first p (drop (i + 1) l)
+  first-on h e = ap (first p) (drop-cons l i 0 h) ∙ rw (e, add-one) refl
+
+  pub first-done : length l ≤ i → first p (drop i l) ≡ Option.none
+  first-done h = ap (first p) (drop-of-length-le l h)
+
+-- ---- a block comes to the front of those left
+
+pub record Moving (old : List ℕ) (i : ℕ) (left : List ℕ) (carried j : ℕ) : Type 0 where
+  pub size : length left ≡ length old
+  pub within : j ≤ i + 1
+  pub moved : left ≡ take j (getD old i 0 ∷ old) ++ drop j old
+  pub next : carried ≡ getD (getD old i 0 ∷ old) j 0
+
+pub moving-begins : (old : List ℕ) (i : ℕ) → Moving old i old (getD old i 0) 0
+moving-begins old i = record { size = refl; within = omega arith; moved = refl; next = refl }
+
+module _ {old : List ℕ} {i : ℕ} {left : List ℕ} {carried j : ℕ} (m : Moving old i left carried j) where
+  pub moving-on : i < length old → j ≤ i → Moving old i (set left j carried) (getD left j 0) (j + 1)
+  moving-on h l = record {
+    size = length-set left j carried ∙ m .size;
+    within = omega arith;
+    moved = ap (set left j) (m .next) ∙ ap (λ v. set v j (getD new j 0)) (m .moved) ∙ copied-more old new j (omega arith) (omega arith);
+    next = ap (λ v. getD v j 0) (m .moved ∙ ap (λ v. take j new ++ v) (drop-cons old j 0 (omega arith)))
+        ∙ (getD-at (take j new) (getD old j 0) (drop (suc j) old) 0 j (length-take-le j new (omega arith)) ∙ rw add-one refl);
+  }
+    where
+      new : List ℕ
+      new = getD old i 0 ∷ old
+
+  pub moving-done : i < j → left ≡ getD old i 0 ∷ (take i old ++ drop (i + 1) old)
+  moving-done l = let e : j ≡ suc i = omega (arith, m .within) in m .moved ∙ rw (e, add-one) refl
+
+-- ---- one more block placed
+
+-- what is placed so far and what the counts choose of those left are the whole
+pub record Placing (targets : ℕ → List ℕ) (whole front left counts : List ℕ) (turns : ℕ) : Type 0 where
+  pub distinct : Distinct left
+  pub exact : countsIn counts ≡ waits targets left
+  pub rest : whole ≡ front ++ blocksOf (run targets turns left)
+
+module _ {targets : ℕ → List ℕ} {whole front left counts : List ℕ} {turns : ℕ} (p : Placing targets whole front left counts turns) where
+  choice-is : first (λ x. eqb (countsIn counts x) 0) left ≡ choice targets left
+  choice-is = ap (λ (f : ℕ → ℕ). first (λ x. eqb (f x) 0) left) (p .exact)
+
+  pub placing-stops : first (λ x. eqb (countsIn counts x) 0) left ≡ Option.none → front ≡ whole
+  placing-stops e =
+      sym (p .rest ∙ ap (λ l. front ++ blocksOf l) (run-stops targets turns left (sym choice-is ∙ e)) ∙ append-nil front)
+
+  module _ (i : ℕ) (h : i < length left) where
+    -- the counts are high enough for the block's edges to lower them
+    pub placing-enough : (x : ℕ) → waiting (targets (getD left i 0)) x ≤ countsIn counts x
+    placing-enough x = omega (arith, ap (λ f. f x) (p .exact), enough targets (getD left i 0) left (p .distinct) (getD-in left i 0 h) x)
+
+    pub placing-on : first (λ x. eqb (countsIn counts x) 0) left ≡ Option.some (getD left i 0) → (lower : List ℕ) → countsIn lower ≡ lowered (targets (getD left i 0)) (countsIn counts)
+        → (m : ℕ) → turns ≡ suc m → Placing targets whole (front ++ (getD left i 0 ∷ [])) (take i left ++ drop (i + 1) left) lower m
+    placing-on e lower w m t = rw (← others) (record {
+      distinct = distinct-only (λ y. not (eqb y (getD left i 0))) left (p .distinct);
+      exact = w ∙ ap (lowered (targets (getD left i 0))) (p .exact) ∙ waits-on targets (getD left i 0) left (p .distinct) (getD-in left i 0 h);
+      rest = p .rest ∙ rw (t, run-on targets m left (getD left i 0) (p .distinct) (sym choice-is ∙ e)) (sym (append-snoc front (getD left i 0) (blocksOf (run targets m (without (getD left i 0) left)))));
+    })
+      where
+        others : without (getD left i 0) left ≡ take i left ++ drop (i + 1) left
+        others = rw add-one (without-at left i (p .distinct) h)
+
+-- the same, where the n blocks stand in one list, and the first `count` are placed
+abbrev pub left : ℕ → List ℕ → ℕ → List ℕ
+left n blocks count = take (n - count) (drop count blocks)
+
+pub record PlacingIn (edges starts states : List ℕ) (k n : ℕ) (blocks counts : List ℕ) (count : ℕ) : Type 0 where
+  pub blocks-64 : length blocks ≡ 64
+  pub counts-64 : length counts ≡ 64
+  pub few : n ≤ 64
+  pub within : count ≤ n
+  pub placing : Placing (targetsIn edges starts) (placeIn edges starts (membersIn states k) 64 []) (take count blocks) (left n blocks count) counts (64 - count)
+
+pub placing-begins : (edges starts states : List ℕ) (k n : ℕ) (blocks counts : List ℕ) → n ≤ 64 → length blocks ≡ 64 → take n blocks ≡ membersIn states k → length counts ≡ 64
+    → countsIn counts ≡ waits (targetsIn edges starts) (take n blocks) → PlacingIn edges starts states k n blocks counts 0
+unfolding placeIn
+placing-begins edges starts states k n blocks counts f b e c w = record {
+  blocks-64 = b;
+  counts-64 = c;
+  few = f;
+  within = omega arith;
+  placing = record {
+    distinct = rw (all, e) distinct;
+    exact = rw all w;
+    rest = rw (all, e) (sym (run-places (edgesIn edges) (marked starts) (membersIn states k) distinct (placeIn edges starts (membersIn states k)) (λ placed. refl) (λ n placed. refl) 64));
+  };
+}
+  where
+    all : n - 0 ≡ n
+    all = omega arith
+
+    distinct : Distinct (membersIn states k)
+    distinct = distinct-only (ofState states k) (upFrom 0 64) (distinct-upFrom 0 64)
+
+module _ {edges starts states : List ℕ} {k n : ℕ} {blocks counts : List ℕ} {count : ℕ} (p : PlacingIn edges starts states k n blocks counts count) where
+  pub left-length : length (left n blocks count) ≡ n - count
+  left-length = length-take-le (n - count) (drop count blocks) (omega (arith, length-drop count blocks, p .blocks-64, p .few))
+
+  pub stops-in : first (λ x. eqb (countsIn counts x) 0) (left n blocks count) ≡ Option.none → take count blocks ≡ placeIn edges starts (membersIn states k) 64 []
+  stops-in = placing-stops (p .placing)
+
+  pub full-in : n ≤ count → take count blocks ≡ placeIn edges starts (membersIn states k) 64 []
+  full-in h = stops-in (let z : n - count ≡ 0 = omega arith in rw z refl)
+
+  -- the block at i of those left is chosen, and brought to their front
+  module _ (i : ℕ) (h : i < n - count) {part : List ℕ}
+      (moved : part ≡ getD (left n blocks count) i 0 ∷ (take i (left n blocks count) ++ drop (i + 1) (left n blocks count)))
+      {u : ℕ} (at : u ≡ getD (putMid count (n - count) blocks part) count 0) where
+    abbrev old : List ℕ
+    old = left n blocks count
+
+    abbrev others : List ℕ
+    others = take i old ++ drop (i + 1) old
+
+    abbrev after : List ℕ
+    after = drop (n - count) (drop count blocks)
+
+    below : i < length old
+    below = omega (arith, left-length)
+
+    others-length : length others ≡ n - (count + 1)
+    others-length = omega (arith, length-append (take i old) (drop (i + 1) old), length-take-le i old (omega (arith, below)), length-drop (i + 1) old, left-length)
+
+    front-length : length (take count blocks) ≡ count
+    front-length = length-take-le count blocks (omega (arith, p .within, p .few, p .blocks-64))
+
+    new-is : putMid count (n - count) blocks part ≡ take count blocks ++ (getD old i 0 ∷ (others ++ after))
+    new-is = ap (λ (l : List ℕ). take count blocks ++ (l ++ after)) moved
+
+    chosen : u ≡ getD old i 0
+    chosen = at ∙ ap (λ (l : List ℕ). getD l count 0) new-is ∙ getD-at (take count blocks) (getD old i 0) (others ++ after) 0 count front-length
+
+    pub enough-in : (x : ℕ) → waiting (targetsIn edges starts u) x ≤ countsIn counts x
+    enough-in = rw chosen (placing-enough (p .placing) i below)
+
+    pub on-in : Chosen old counts i → (lower : List ℕ) → length lower ≡ 64 → countsIn lower ≡ lowered (targetsIn edges starts u) (countsIn counts)
+        → PlacingIn edges starts states k n (putMid count (n - count) blocks part) lower (count + 1)
+    on-in e lower z w = record {
+      blocks-64 = same-len-mid count (n - count) blocks part (omega (arith, ap length moved, others-length, left-length)) ∙ p .blocks-64;
+      counts-64 = z;
+      few = p .few;
+      within = omega arith;
+      placing = rw (new-front, new-left)
+          (placing-on (p .placing) i below (e .block below) lower (rw chosen at w) (64 - (count + 1)) (omega (arith, p .few)));
+    }
+      where
+        front : List ℕ
+        front = take count blocks ++ (getD old i 0 ∷ [])
+
+        front-is : length front ≡ count + 1
+        front-is = length-append (take count blocks) (getD old i 0 ∷ []) ∙ rw front-length refl
+
+        split : putMid count (n - count) blocks part ≡ front ++ (others ++ after)
+        split = new-is ∙ sym (append-snoc (take count blocks) (getD old i 0) (others ++ after))
+
+        new-front : take (count + 1) (putMid count (n - count) blocks part) ≡ front
+        new-front = ap (take (count + 1)) split ∙ take-at front (others ++ after) (count + 1) front-is
+
+        new-left : left n (putMid count (n - count) blocks part) (count + 1) ≡ others
+        new-left =
+            ap (take (n - (count + 1))) (ap (drop (count + 1)) split ∙ drop-at front (others ++ after) (count + 1) front-is)
+            ∙ take-at others after (n - (count + 1)) others-length

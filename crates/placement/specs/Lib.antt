@@ -1,2 +1,3 @@
 pub mod Placement
+pub mod Counts
 pub mod PlacementBytes

@@ -1,11 +1,12 @@
 -- What the bytes of the placement code stand for. Assumes nothing.
-use Prim.Native.Nat.{ℕ, zero, suc}
+use Prim.Native.Nat.{ℕ, zero, suc, _≤_, _<_}
+use mathlib.Core.Path.{_≡_}
 use mathlib.Core.Bool.{Bool, not, _&&_, _||_}
 use mathlib.Core.List.{List, [], _∷_}
 use mathlib.Core.Option.{Option}
-use lib.Dec.{eqb}
-use lib.ListN.{getD}
-use Rattle.runs.specs.Lists.{upFrom, mem, only, every, first}
+use lib.Dec.{eqb, ltb}
+use lib.ListN.{length, getD}
+use Rattle.runs.specs.Lists.{upFrom, mem, only, keep, every, first}
 use Rattle.fsmd.specs.Layout.{maxBlocks, none}
 use Rattle.grouping.specs.Bytes.{edgesIn}
 use Rattle.placement.specs.Placement.{placeNext}
@@ -42,24 +43,26 @@ placeIn edges starts blocks zero placed = []
 placeIn edges starts blocks (suc n) placed =
     placeNext (first (nextIn edges starts blocks (λ x. mem x placed)) blocks) (λ x. placeIn edges starts blocks n (x ∷ placed))
 
--- ---- where `left` marks the blocks of the state that are left to place
+-- ---- by counts
 
--- u is left to place, and leads to x
-abbrev pub holdsBack : List ℕ → List ℕ → ℕ → ℕ → Bool
-holdsBack edges left x u = marked left u && mem x (edgesIn edges u)
+-- an edge to t is in-state: t is a block, and no starter
+abbrev pub awaited : List ℕ → ℕ → Bool
+awaited starts t = ltb t maxBlocks && not (marked starts t)
 
-unfoldable pub freed : List ℕ → List ℕ → ℕ → Bool
-freed edges left x = every (λ u. not (holdsBack edges left x u)) (upFrom 0 maxBlocks)
+-- the target of one edge, where it is in-state
+abbrev pub targetIn : List ℕ → ℕ → List ℕ
+targetIn starts t = keep (awaited starts t) t []
 
--- x is left to place, and is a starter or held back by none
-abbrev pub dueIn : List ℕ → List ℕ → List ℕ → ℕ → Bool
-dueIn edges starts left x = marked left x && (marked starts x || freed edges left x)
+-- the targets of u's in-state edges
+abbrev pub targetsIn : List ℕ → List ℕ → ℕ → List ℕ
+targetsIn edges starts u = only (λ t. not (marked starts t)) (edgesIn edges u)
 
--- a block's number, or 64 for none
-abbrev pub blockOr64 : Option ℕ → ℕ
-blockOr64 Option.none = maxBlocks
-blockOr64 (Option.some x) = x
+-- the counts that the bytes hold
+abbrev pub countsIn : List ℕ → ℕ → ℕ
+countsIn waits x = getD waits x 0
 
--- the lowest-numbered block that is due
-unfoldable pub nextDue : List ℕ → List ℕ → List ℕ → ℕ
-nextDue edges starts left = blockOr64 (first (dueIn edges starts left) (upFrom 0 maxBlocks))
+-- the place of the first block whose count is 0, or the length where there is none
+pub record Chosen (left waits : List ℕ) (i : ℕ) : Type 0 where
+  pub within : i ≤ length left
+  pub block : i < length left → first (λ x. eqb (countsIn waits x) 0) left ≡ Option.some (getD left i 0)
+  pub none : length left ≤ i → first (λ x. eqb (countsIn waits x) 0) left ≡ Option.none

@@ -1,20 +1,23 @@
-// The order in which the blocks of a state are placed.
+// The order in which the blocks of a state are placed, by counts of the edges that each block waits for.
 use cfg::Graph;
 use grouping::edges;
 ghost use mathlib.Core.Path.{_≡_};
-ghost use mathlib.Core.List.{[]};
-ghost use Prim.Native.Nat.{ℕ, _<_, _≤_};
-ghost use lib.ListN.{length, take};
-ghost use Rattle.runs.specs.Lists.{mem};
+ghost use mathlib.Core.List.{[], _∷_, _++_};
+ghost use Prim.Native.Nat.{ℕ, _+_, _<_, _≤_};
+ghost use lib.ListN.{length, getD, take, drop};
+ghost use Rattle.runs.specs.Lists.{concatMap};
 ghost use Rattle.fsmd.specs.Layout.{maxBlocks};
-ghost use Rattle.grouping.specs.Bytes.{edgesIn};
-ghost use Rattle.placement.specs.PlacementBytes.{marked, ofState, membersIn, placeIn, holdsBack, freed, dueIn, nextDue};
+ghost use Rattle.placement.specs.Counts.{waiting, lowered};
+ghost use Rattle.placement.specs.PlacementBytes.{marked, membersIn, placeIn, awaited, targetIn, targetsIn, countsIn, Chosen};
 
 // The first `count` are the blocks in order.
 pub struct Order {
     pub count: usize,
     pub blocks: [u8; Graph::BLOCKS],
 }
+
+// A number that no block has.
+const PAST: u8 = Graph::BLOCKS as u8;
 
 // Whether a mark stands at x; none does past the end.
 fn mark(marks: &[u8], x: usize) -> bool
@@ -27,110 +30,128 @@ fn mark(marks: &[u8], x: usize) -> bool
     }
 }
 
-// Whether an edge of u leads to x.
-fn leads(edges: &[u8], u: usize, x: u8) -> bool
-    requires { ⌜ (u < maxBlocks) × (x < maxBlocks) ⌝ }
-    ensures { λ r. ⌜ r ≡ mem x (edgesIn (now (edges .entry)) u) ⌝ }
-{
-    if edges::at(edges, 2 * u) == x {
-        true
-    } else {
-        edges::at(edges, 2 * u + 1) == x
-    }
-}
-
-// A mark at each block of state k.
-fn members(states: &[u8], k: u8) -> [u8; Graph::BLOCKS]
+// The blocks of state k, in rising order.
+fn members(states: &[u8], k: u8) -> Order
     requires { ⌜ (length (now states) ≤ maxBlocks) × (k < maxBlocks) ⌝ }
-    ensures { λ r. ⌜ (length r ≡ maxBlocks) × ((x : ℕ) → marked r x ≡ ofState (now (states .entry)) k x) ⌝ }
+    ensures { λ r. ⌜ (r .count ≤ maxBlocks) × (length (r .blocks) ≡ maxBlocks) × (take (r .count) (r .blocks) ≡ membersIn (now (states .entry)) k) ⌝ }
 {
-    let mut marks = [0u8; Graph::BLOCKS];
+    let mut blocks = [0u8; Graph::BLOCKS];
+    let mut count: usize = 0;
     let mut x: usize = 0;
     while x < states.len() {
         if states[x] == k {
-            marks[x] = 1;
+            blocks[count] = x as u8;
+            count += 1;
         }
         x += 1;
     }
-    marks
+    Order { count, blocks }
 }
 
-// Whether u is left to place and leads to x.
-fn holds_back(edges: &[u8], left: &[u8], x: u8, u: usize) -> bool
-    requires { ⌜ (u < maxBlocks) × (x < maxBlocks) ⌝ }
-    ensures { λ r. ⌜ r ≡ holdsBack (now (edges .entry)) (now (left .entry)) x u ⌝ }
+// Whether an edge to t is in-state: t is a block, and no starter.
+fn is_awaited(starts: &[u8], t: u8) -> bool
+    ensures { λ r. ⌜ r ≡ awaited (now (starts .entry)) t ⌝ }
 {
-    if mark(left, u) {
-        leads(edges, u, x)
+    if t < PAST {
+        !mark(starts, edges::wide(t))
     } else {
         false
     }
 }
 
-// Whether no block that is left leads to x.
-fn is_freed(edges: &[u8], left: &[u8], x: u8) -> bool
-    requires { ⌜ x < maxBlocks ⌝ }
-    ensures { λ r. ⌜ r ≡ freed (now (edges .entry)) (now (left .entry)) x ⌝ }
+// One edge more to t.
+fn raise(starts: &[u8], waits: &mut [u8], t: u8)
+    requires { ⌜ (length (now waits) ≡ maxBlocks) × ((x : ℕ) → countsIn (now waits) x < 255) ⌝ }
+    ensures { λ r. ⌜ (length (now (waits .exit)) ≡ maxBlocks) × ((x : ℕ) → countsIn (now (waits .exit)) x ≡ waiting (targetIn (now (starts .entry)) t) x + countsIn (now (waits .entry)) x) ⌝ }
 {
-    let mut u: usize = 0;
-    while u < Graph::BLOCKS {
-        if holds_back(edges, left, x, u) {
-            return false;
-        }
-        u += 1;
-    }
-    true
-}
-
-// Whether x is left to place and ready.
-fn due(edges: &[u8], starts: &[u8], left: &[u8], x: u8) -> bool
-    requires { ⌜ x < maxBlocks ⌝ }
-    ensures { λ r. ⌜ r ≡ dueIn (now (edges .entry)) (now (starts .entry)) (now (left .entry)) x ⌝ }
-{
-    let n = edges::wide(x);
-    if mark(left, n) {
-        if mark(starts, n) {
-            true
-        } else {
-            is_freed(edges, left, x)
-        }
-    } else {
-        false
+    if is_awaited(starts, t) {
+        let n = edges::wide(t);
+        waits[n] += 1;
     }
 }
 
-// A number that no block has.
-const PAST: u8 = Graph::BLOCKS as u8;
-
-// The lowest-numbered block that is to be placed next, or 64.
-fn next(edges: &[u8], starts: &[u8], left: &[u8]) -> u8
-    ensures { λ r. ⌜ r ≡ nextDue (now (edges .entry)) (now (starts .entry)) (now (left .entry)) ⌝ }
+// One edge less to t.
+fn lower(starts: &[u8], waits: &mut [u8], t: u8)
+    requires { ⌜ (length (now waits) ≡ maxBlocks) × ((x : ℕ) → waiting (targetIn (now starts) t) x ≤ countsIn (now waits) x) ⌝ }
+    ensures { λ r. ⌜ (length (now (waits .exit)) ≡ maxBlocks) × (countsIn (now (waits .exit)) ≡ lowered (targetIn (now (starts .entry)) t) (countsIn (now (waits .entry)))) ⌝ }
 {
-    let mut x: u8 = 0;
-    while x < PAST {
-        if due(edges, starts, left, x) {
-            return x;
-        }
-        x += 1;
+    if is_awaited(starts, t) {
+        let n = edges::wide(t);
+        waits[n] -= 1;
     }
-    PAST
 }
 
-// The blocks of state k, always the lowest-numbered that is ready.
+// For each block, how many in-state edges lead to it from `blocks`.
+fn count_edges(edges: &[u8], starts: &[u8], blocks: &[u8]) -> [u8; Graph::BLOCKS]
+    requires { ⌜ length (now blocks) ≤ maxBlocks ⌝ }
+    ensures { λ r. ⌜ (length r ≡ maxBlocks) × (countsIn r ≡ waiting (concatMap (targetsIn (now (edges .entry)) (now (starts .entry))) (now (blocks .entry)))) ⌝ }
+{
+    let mut waits = [0u8; Graph::BLOCKS];
+    let mut i: usize = 0;
+    while i < blocks.len() {
+        let u = edges::wide(blocks[i]);
+        raise(starts, &mut waits, edges::at(edges, 2 * u));
+        raise(starts, &mut waits, edges::at(edges, 2 * u + 1));
+        i += 1;
+    }
+    waits
+}
+
+// Each in-state edge of u lowers a count.
+fn lower_edges(edges: &[u8], starts: &[u8], waits: &mut [u8], u: usize)
+    requires { ⌜ (u < 256) × (length (now waits) ≡ maxBlocks) × ((x : ℕ) → waiting (targetsIn (now edges) (now starts) u) x ≤ countsIn (now waits) x) ⌝ }
+    ensures { λ r. ⌜ (length (now (waits .exit)) ≡ maxBlocks) × (countsIn (now (waits .exit)) ≡ lowered (targetsIn (now (edges .entry)) (now (starts .entry)) u) (countsIn (now (waits .entry)))) ⌝ }
+{
+    lower(starts, waits, edges::at(edges, 2 * u));
+    lower(starts, waits, edges::at(edges, 2 * u + 1));
+}
+
+// The place of the first block that waits for no edge, or the length.
+fn choose(left: &[u8], waits: &[u8]) -> usize
+    ensures { λ r. ⌜ Chosen (now (left .entry)) (now (waits .entry)) r ⌝ }
+{
+    let mut i: usize = 0;
+    while i < left.len() {
+        if !mark(waits, edges::wide(left[i])) {
+            return i;
+        }
+        i += 1;
+    }
+    i
+}
+
+// The block at i comes to the front, past those before it.
+fn to_front(left: &mut [u8], i: usize)
+    requires { ⌜ i < length (now left) ⌝ }
+    ensures { λ r. ⌜ now (left .exit) ≡ getD (now (left .entry)) i 0 ∷ (take i (now (left .entry)) ++ drop (i + 1) (now (left .entry))) ⌝ }
+{
+    let mut carried = left[i];
+    let mut j: usize = 0;
+    while j <= i {
+        let next = left[j];
+        left[j] = carried;
+        carried = next;
+        j += 1;
+    }
+}
+
+// The blocks of state k, always the lowest-numbered that waits for no edge: those placed stand in front, the others behind them in rising order.
 pub fn place(edges: &[u8], states: &[u8], starts: &[u8], k: u8) -> Order
     requires { ⌜ (length (now states) ≤ maxBlocks) × (k < maxBlocks) ⌝ }
     ensures { λ r. ⌜ (r .count ≤ maxBlocks) × (length (r .blocks) ≡ maxBlocks) × (take (r .count) (r .blocks) ≡ placeIn (now (edges .entry)) (now (starts .entry)) (membersIn (now (states .entry)) k) maxBlocks []) ⌝ }
 {
-    let mut left = members(states, k);
-    let mut blocks = [0u8; Graph::BLOCKS];
+    let all = members(states, k);
+    let n = all.count;
+    let mut blocks = all.blocks;
+    let mut waits = count_edges(edges, starts, &blocks[..n]);
     let mut count: usize = 0;
-    while count < Graph::BLOCKS {
-        let x = next(edges, starts, &left);
-        if PAST <= x {
+    while count < n {
+        let i = choose(&blocks[count..n], &waits);
+        if n - count <= i {
             break;
         }
-        left[edges::wide(x)] = 0;
-        blocks[count] = x;
+        to_front(&mut blocks[count..n], i);
+        lower_edges(edges, starts, &mut waits, edges::wide(blocks[count]));
         count += 1;
     }
     Order { count, blocks }

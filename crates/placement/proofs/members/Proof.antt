@@ -2,7 +2,6 @@
 use mathlib.Core.Logic.{⊎-elim}
 use Prim.Native.Nat.{_-_}
 use native.Mathlib.Omega.{arith}
-use denote.Ref.{now}
 use lib.ListN.{length}
 use borrow.Author.Needs.{needs}
 use Rattle.placement.proofs.PlacementSteps.{Members, members-none, members-one, members-other, members-all}
@@ -10,29 +9,29 @@ use Rattle.placement.proofs.members.Statement.{statement}
 use Rattle.placement.proofs.members.Tie as tie
 
 abbrev Inv-loop : tie.InvT-loop
-Inv-loop states k marks₀ x₀ marks x = Members states marks k x
+Inv-loop states k blocks₀ count₀ x₀ blocks count x = Members states blocks k count x
 
 abbrev μ-loop : tie.MeasureT-loop
-μ-loop states k marks₀ x₀ marks x = length states - x
+μ-loop states k blocks₀ count₀ x₀ blocks count x = length states - x
 
 loop-again : tie.Need-loop-again Inv-loop μ-loop
 loop-again c =
-    let a = c .before .before .before .before .args in
     let l = c .before .before .before .loop in
     let below = c .before .before .loop-test .taken in
+    let low = c .before .before .before .before .pre .0 in
     ⊎-elim
-    (λ w. rw (w .1) (members-one (now (a .states)) (l .marks) (a .k) (l .x) (l .inv) below (omega (arith, c .before .before .before .before .pre .0)) (w .0 .taken)))
-    (λ w. rw (w .1) (members-other (now (a .states)) (l .marks) (a .k) (l .x) (l .inv) below (w .0 .left)))
+    (λ w. rw (w .1, w .2) (members-one (l .inv) below (omega arith) (omega (arith, w .0 .taken))))
+    (λ w. rw (w .1, w .2) (members-other (l .inv) below (omega arith) (w .0 .left)))
     (c .if1 .came)
 
 returns : tie.Need-returns Inv-loop μ-loop
 returns c =
-    let a = c .before .before .args in
     let l = c .before .loop in
-    (l .inv .size, members-all (now (a .states)) (l .marks) (a .k) (l .x) (l .inv) (c .loop-test .left) (c .before .before .pre .1))
+    let p = c .before .before .pre in
+    (omega (arith, l .inv .few, l .inv .within, p .0), l .inv .size, members-all (l .inv) (c .loop-test .left) (p .1))
 
-array-write-marks : tie.Need-array-write-marks Inv-loop μ-loop
-array-write-marks c = omega (arith, c .before .before .loop-test .taken, c .before .before .before .before .pre .0)
+room : tie.Need-array-write-blocks Inv-loop μ-loop
+room c = let l = c .before .before .before .loop .inv in omega (arith, l .size, l .few, c .before .before .loop-test .taken, c .before .before .before .before .pre .0)
 
 pub members-spec : {M : Type 1} → statement M
 members-spec =
@@ -42,7 +41,9 @@ members-spec =
     μ-loop
     (λ c. members-none _ _)
     (λ c. search needs)
-    array-write-marks
+    (λ c. omega (arith, c .before .before .before .before .pre .0, c .before .before .loop-test .taken))
+    room
+    (λ c. omega (arith, room c))
     (λ c. search needs)
     (λ c. search needs)
     loop-again

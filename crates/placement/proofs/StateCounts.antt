@@ -1,0 +1,156 @@
+-- Placing a state by counts: each count is exact, the order is the same, and each in-state edge lowers a count exactly once. Assumes nothing.
+use Prim.Native.Nat.{ℕ, zero, suc, _+_, _<_}
+use native.Mathlib.Omega.{arith}
+use mathlib.Core.Bool.{Bool, true, false, not, _&&_, _||_}
+use mathlib.Core.Path.{_≡_, refl, sym, _∙_, ap, subst, fun-ext}
+use mathlib.Core.List.{List, [], _∷_, _++_, map}
+use lib.ListN.{length, getD}
+use lib.Dec.{eqb, ltb}
+use borrow.Author.Tests.{eq-eqb, ne-eqb, lt-ltb, le-ltb, ltb-true, not-true}
+use Rattle.word.specs.Word.{choose}
+use Rattle.runs.specs.Lists.{upFrom, mem, only, keep, concatMap}
+use Rattle.runs.proofs.Tests.{Compared, same, other, compared}
+use Rattle.runs.proofs.ListLaws.{same-test}
+use Rattle.runs.proofs.Sets.{In, Distinct, mem→Out, Out→mem}
+use Rattle.runs.proofs.MembershipLaws.{only-in, distinct-only, distinct-upFrom}
+use Rattle.cfg.specs.Graph.{CFG, successors}
+use Rattle.fsmd.specs.Layout.{none as nowhere}
+use Rattle.grouping.specs.Grouping.{Groups, groups}
+use Rattle.grouping.proofs.Reach.{Closed}
+use Rattle.grouping.proofs.GroupingLaws.{grouped}
+use Rattle.placement.specs.Placement.{members, place, order}
+use Rattle.placement.specs.Counts.{Choice, blocksOf, run, Exact, Each, Edge, edgesTo, edgesOut, inState, choicesOf, edgesOf, lowerings, occurrences, isInState}
+use Rattle.placement.proofs.PlacementLaws.{Placed, placed-states, member-state, state-member, inside}
+use Rattle.placement.proofs.CountLaws.{targetsOf, number, number-cons, number-alike, run-exact, run-places}
+
+-- ---- the edges of one block
+
+ltb-suc : (a b : ℕ) → ltb (suc a) (suc b) ≡ ltb a b
+ltb-suc a b =
+    same-test (ltb (suc a) (suc b)) (ltb a b) (λ e. lt-ltb a b (omega (arith, ltb-true (suc a) (suc b) e))) (λ e. lt-ltb (suc a) (suc b) (omega (arith, ltb-true a b e)))
+
+module _ (starter : ℕ → Bool) where
+  abbrev inner : Edge → Bool
+  inner e = not (starter (e .target))
+
+  targets-are : (u way : ℕ) (l : List ℕ) → map (λ (e : Edge). e .target) (only inner (edgesTo u way l)) ≡ only (λ t. not (starter t)) l
+  targets-are u way [] = refl
+  targets-are u way (t ∷ l) = go (not (starter t)) (targets-are u (suc way) l)
+    where
+      go : (b : Bool) → map (λ (e : Edge). e .target) (only inner (edgesTo u (suc way) l)) ≡ only (λ t. not (starter t)) l
+          → map (λ (e : Edge). e .target) (keep b (record { source = u; way = way; target = t }) (only inner (edgesTo u (suc way) l))) ≡ keep b t (only (λ t. not (starter t)) l)
+      go true ih = ap (λ m. t ∷ m) ih
+      go false ih = ih
+
+  module _ (u way : ℕ) where
+    -- one more edge: how often the edge looked for stands there
+    one-more : (e : Edge) (l : List Edge) (n : ℕ) → (eqb (e .source) u && eqb (e .way) way) ≡ false → occurrences u way l ≡ n → (b : Bool) → occurrences u way (keep b e l) ≡ n
+    one-more e l n h ih true = rw h ih
+    one-more e l n h ih false = ih
+
+    other-block : (y : ℕ) → (y ≡ u → ⊥) → (i : ℕ) (l : List ℕ) → occurrences u way (only inner (edgesTo y i l)) ≡ 0
+    other-block y f i [] = refl
+    other-block y f i (t ∷ l) =
+        one-more (record { source = y; way = i; target = t }) (only inner (edgesTo y (suc i) l)) 0 (rw (ne-eqb y u f) refl) (other-block y f (suc i) l) (not (starter t))
+
+    -- those after it
+    later-edges : (i : ℕ) → way < i → (l : List ℕ) → occurrences u way (only inner (edgesTo u i l)) ≡ 0
+    later-edges i h [] = refl
+    later-edges i h (t ∷ l) =
+        one-more (record { source = u; way = i; target = t }) (only inner (edgesTo u (suc i) l)) 0
+        (rw (eq-eqb u u refl, ne-eqb i way (λ (q : i ≡ way). omega arith)) refl) (later-edges (suc i) (omega arith) l) (not (starter t))
+
+    own-edge : (i d : ℕ) → way ≡ i + d → (l : List ℕ) → occurrences u way (only inner (edgesTo u i l)) ≡ choose (ltb d (length l) && not (starter (getD l d nowhere))) 1 0
+    own-edge i d e [] = rw (le-ltb d 0 (omega arith)) refl
+    own-edge i zero e (t ∷ l) = rw (lt-ltb 0 (suc (length l)) (omega arith)) (go (not (starter t)))
+      where
+        go : (b : Bool) → occurrences u way (keep b (record { source = u; way = i; target = t }) (only inner (edgesTo u (suc i) l))) ≡ choose b 1 0
+        go true = rw (eq-eqb u u refl, eq-eqb i way (omega arith), later-edges (suc i) (omega arith) l) refl
+        go false = later-edges (suc i) (omega arith) l
+    own-edge i (suc d) e (t ∷ l) = rw (ltb-suc d (length l)) (
+        one-more (record { source = u; way = i; target = t }) (only inner (edgesTo u (suc i) l)) (choose (ltb d (length l) && not (starter (getD l d nowhere))) 1 0)
+        (rw (eq-eqb u u refl, ne-eqb i way (λ (q : i ≡ way). omega arith)) refl) (own-edge (suc i) d (omega arith) l) (not (starter t)))
+
+-- ---- the blocks of a state
+
+concat-map : {A B : Type 0} (f : ℕ → List A) (h : B → ℕ) (l : List B) → concatMap f (map h l) ≡ concatMap (λ (c : B). f (h c)) l
+unfolding concatMap
+concat-map f h [] = refl
+concat-map f h (c ∷ l) = ap (λ m. f (h c) ++ m) (concat-map f h l)
+
+module _ (g : CFG) (s : Groups) (k : ℕ) where
+  abbrev starter : ℕ → Bool
+  starter t = mem t (s .starters)
+
+  in-state : inState g s ≡ targetsOf (successors g) starter
+  in-state = fun-ext λ u. targets-are starter u 0 (successors g u)
+
+  members-distinct : Distinct (members g s k)
+  unfolding members
+  members-distinct = distinct-only (λ x. eqb (getD (s .states) x nowhere) k) (upFrom 0 (length (g .blocks))) (distinct-upFrom 0 (length (g .blocks)))
+
+  -- before each choice every block's count is the number of its in-state edges from unplaced blocks
+  pub counts-exact : Each (Exact (inState g s)) (choicesOf g s k)
+  unfolding choicesOf
+  counts-exact = run-exact (inState g s) (length (members g s k)) (members g s k) members-distinct
+
+  -- the placement is the same, block for block
+  pub order-by-counts : blocksOf (choicesOf g s k) ≡ order g s k
+  unfolding choicesOf order place
+  order-by-counts =
+      ap (λ (f : ℕ → List ℕ). blocksOf (run f (length (members g s k)) (members g s k))) in-state
+      ∙ run-places (successors g) starter (members g s k) members-distinct (place g s (members g s k)) (λ placed. refl) (λ n placed. refl) (length (members g s k))
+
+  -- the edges of one placed block after another
+  pub lowerings-in-order : lowerings g s k ≡ concatMap (edgesOut g s) (order g s k)
+  unfolding lowerings
+  lowerings-in-order = sym (concat-map (edgesOut g s) (λ (c : Choice). c .block) (choicesOf g s k)) ∙ ap (concatMap (edgesOut g s)) order-by-counts
+
+  -- each in-state edge of the state stands once in the list of them, and no other edge does
+  pub edges-once : (u way : ℕ) → occurrences u way (edgesOf g s k) ≡ choose (isInState g s k u way) 1 0
+  unfolding edgesOf concatMap
+  edges-once u way = go (members g s k) members-distinct
+    where
+      p : Edge → Bool
+      p e = eqb (e .source) u && eqb (e .way) way
+
+      c : Bool
+      c = ltb way (length (successors g u)) && not (starter (getD (successors g u) way nowhere))
+
+      none-there : (l : List ℕ) → (In u l → ⊥) → _≡_ {A = ℕ} (choose (mem u l && c) 1 0) 0
+      none-there l f = rw (Out→mem u l f) refl
+
+      go : (l : List ℕ) → Distinct l → number p (edgesOut g s) l ≡ choose (mem u l && c) 1 0
+      go [] d = refl
+      go (y ∷ l) d = number-cons p (edgesOut g s) y l ∙ at (compared u y) (go l (d .1))
+        where
+          at : Compared u y → number p (edgesOut g s) l ≡ choose (mem u l && c) 1 0
+              → length (only p (edgesOut g s y)) + number p (edgesOut g s) l ≡ choose ((eqb u y || mem u l) && c) 1 0
+          at (same e q) ih =
+              let n : number p (edgesOut g s) l ≡ 0 = ih ∙ none-there l (subst (λ z. In z l → ⊥) (sym q) (d .0)) in
+              rw (e, ← q) (omega (arith, n, own-edge starter u way 0 way (omega arith) (successors g u)))
+          at (other e q) ih = rw e (omega (arith, ih, other-block starter u way y (λ z. q (sym z)) 0 (successors g y)))
+
+-- ---- the grouping of a graph
+
+module _ (g : CFG) (a : Closed g) (k : ℕ) (h : k < length (groups g .starters)) where
+  -- an in-state edge stays in the state
+  pub edges-inside : (u t : ℕ) → In u (members g (groups g) k) → In t (inState g (groups g) u) → In t (members g (groups g) k)
+  edges-inside u t i j =
+      let o = only-in (λ t. not (mem t (groups g .starters))) (successors g u) t (subst (λ f. In t (f u)) (in-state g (groups g) k) j) in
+      inside g a (groups g) (grouped g a) k h u t i (o .0) (mem→Out t (groups g .starters) (not-true (mem t (groups g .starters)) (o .1)))
+
+  -- whichever edges are looked for, as many lower a count as there are
+  pub lowerings-alike : (p : Edge → Bool) → length (only p (lowerings g (groups g) k)) ≡ length (only p (edgesOf g (groups g) k))
+  unfolding edgesOf
+  lowerings-alike p =
+      ap (λ l. length (only p l)) (lowerings-in-order g (groups g) k)
+      ∙ number-alike p (edgesOut g (groups g)) (order g (groups g) k) (members g (groups g) k) (o .distinct) (members-distinct g (groups g) k)
+      (λ x i. state-member g a (groups g) (grouped g a) k h x (o .mine x i)) (λ x i. o .all x (member-state g a (groups g) (grouped g a) k h x i))
+    where
+      o : Placed g (groups g) k
+      o = placed-states g a k h
+
+  -- each in-state edge of the state lowers a count exactly once, and no other edge lowers one
+  pub lowered-once : (u way : ℕ) → occurrences u way (lowerings g (groups g) k) ≡ choose (isInState g (groups g) k u way) 1 0
+  lowered-once u way = lowerings-alike (λ (e : Edge). eqb (e .source) u && eqb (e .way) way) ∙ edges-once g (groups g) k u way

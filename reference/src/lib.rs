@@ -13,6 +13,7 @@ pub mod machine;
 pub mod machine_table;
 pub mod operations;
 pub mod parse;
+pub mod placement;
 pub mod print;
 pub mod random;
 pub mod run;

@@ -3,7 +3,7 @@
 use crate::graph::{Binary, Ending, Graph, Instruction};
 use crate::grouping::{group, Grouping};
 use crate::machine::{Machine, Source, State, Wire};
-use std::collections::BTreeSet;
+use crate::placement::by_looking;
 
 /// A way out of a placed block: when it is taken, and the registers then.
 #[derive(Clone)]
@@ -105,24 +105,13 @@ impl Builder<'_> {
         }
         State { first, wires: self.wires, next_state, next_registers }
     }
-
-    /// Whether every in-state edge to the block comes from a placed block.
-    fn ready(&self, block: usize, waiting: &BTreeSet<usize>) -> bool {
-        let is_starter = self.grouping.starters.contains(&block);
-        is_starter || !waiting.iter().any(|&other| self.graph.successors(other).contains(&block))
-    }
 }
 
 fn build_state(graph: &Graph, grouping: &Grouping, state: usize, first: usize) -> State {
     let mut builder = Builder { graph, grouping, wires: Vec::new(), edges: Vec::new() };
-    let mut waiting = grouping.blocks_of(state);
-    // Without its starters no part of a grouped graph has a cycle, so some
-    // waiting block is always ready.
-    while let Some(block) = waiting.iter().copied().find(|&b| builder.ready(b, &waiting)) {
+    for block in by_looking(graph, grouping, state) {
         builder.place(block);
-        waiting.remove(&block);
     }
-    debug_assert!(waiting.is_empty());
     debug_assert!(builder.edges.iter().all(|edge| grouping.state_of[&edge.source] == state));
     builder.close(first)
 }

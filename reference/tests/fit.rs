@@ -2,12 +2,12 @@
 
 mod common;
 
-use common::{graph_of, many_graphs};
+use common::{every_small_graph, graph_of, many_graphs};
 use reference::block_set::BlockSet;
 use reference::fit::{Flow, Reading};
 use reference::generate::examples::{P10, P11, P12, P7, P9};
 use reference::generate::graphs;
-use reference::graph::{Block, Comparison, Ending, Graph};
+use reference::graph::Graph;
 use reference::grouping::group;
 use reference::random::Random;
 
@@ -68,24 +68,9 @@ fn random_graphs() {
     }
 }
 
-/// All endings of a block among so many: halt, goto, ite.
-fn endings(blocks: usize) -> Vec<Ending> {
-    let comparison = Comparison::Eq;
-    let ite = |t| (0..blocks).map(move |f| Ending::Ite { comparison, a: 0, b: 0, t, f });
-    let gotos = (0..blocks).map(Ending::Goto);
-    gotos.chain((0..blocks).flat_map(ite)).chain([Ending::Halt]).collect()
-}
-
 #[test]
 fn every_graph_of_at_most_four_blocks() {
-    for blocks in 1..=4 {
-        let endings = endings(blocks);
-        for choice in 0..endings.len().pow(blocks as u32) {
-            let digit = |n: usize| choice / endings.len().pow(n as u32) % endings.len();
-            let block = |n| Block { instructions: Vec::new(), ending: endings[digit(n)] };
-            check(&Graph { registers: 1, blocks: (0..blocks).map(block).collect() });
-        }
-    }
+    every_small_graph().for_each(|graph| check(&graph));
 }
 
 /// On graphs of any size the starters are fit, and are not without any one of them.

@@ -8,21 +8,53 @@ pub struct Order {
     pub blocks: [u8; BLOCKS],
 }
 
-/// Always the lowest-numbered block whose incoming edges all come from placed blocks.
-pub fn place(edges: &Edges, grouping: &Grouping, k: u8) -> Order {
-    let mut left = [false; BLOCKS];
-    for (left, &state) in left.iter_mut().zip(&grouping.states) {
-        *left = state == k;
-    }
+/// So many blocks are passed at once where none is of the state.
+const ROW: usize = 16;
+
+/// The blocks of state `k` in rising order.
+fn blocks_of(grouping: &Grouping, k: u8) -> Order {
     let mut order = Order { count: 0, blocks: [0; BLOCKS] };
-    let ready = |left: &[bool; BLOCKS], block: usize| {
-        grouping.is_starter[block]
-            || !(0..BLOCKS).any(|other| left[other] && edges[other].contains(&(block as u8)))
-    };
-    while let Some(block) = (0..BLOCKS).find(|&block| left[block] && ready(&left, block)) {
-        left[block] = false;
-        order.blocks[order.count] = block as u8;
-        order.count += 1;
+    for (row, states) in grouping.states.chunks_exact(ROW).enumerate() {
+        // A fold has no branches, so the whole row is compared by a few instructions.
+        if !states.iter().fold(false, |any, &state| any | (state == k)) {
+            continue;
+        }
+        for (i, _) in states.iter().enumerate().filter(|(_, &state)| state == k) {
+            order.blocks[order.count] = (ROW * row + i) as u8;
+            order.count += 1;
+        }
+    }
+    order
+}
+
+/// The targets of a block's in-state edges: those that are neither none nor starters.
+#[inline]
+fn inner<'a>(
+    edges: &'a Edges,
+    grouping: &'a Grouping,
+    block: u8,
+) -> impl Iterator<Item = usize> + 'a {
+    let targets = edges[usize::from(block)].iter().map(|&target| usize::from(target));
+    targets.filter(|&target| grouping.is_starter.get(target) == Some(&false))
+}
+
+/// Always the lowest-numbered block for which no in-state edge waits. The unplaced blocks stay in
+/// rising order behind the placed ones.
+pub fn place(edges: &Edges, grouping: &Grouping, k: u8) -> Order {
+    let mut order = blocks_of(grouping, k);
+    let mut waiting = [0u8; BLOCKS];
+    for &block in &order.blocks[..order.count] {
+        inner(edges, grouping, block).for_each(|target| waiting[target] += 1);
+    }
+    for placed in 0..order.count {
+        let is_ready = |&at: &usize| waiting[usize::from(order.blocks[at])] == 0;
+        let Some(at) = (placed..order.count).find(is_ready) else { break };
+        let block = order.blocks[at];
+        if at > placed {
+            order.blocks.copy_within(placed..at, placed + 1);
+            order.blocks[placed] = block;
+        }
+        inner(edges, grouping, block).for_each(|target| waiting[target] -= 1);
     }
     order
 }

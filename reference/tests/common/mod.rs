@@ -1,9 +1,9 @@
-//! What several test files share: tables of texts, and random graphs.
+//! What several test files share: tables of texts, random graphs, all small ones.
 
 #![allow(dead_code)]
 
 use reference::generate::graphs;
-use reference::graph::Graph;
+use reference::graph::{Block, Comparison, Ending, Graph};
 use reference::graph_table::GRAPH_WORDS;
 use reference::machine_table::MACHINE_WORDS;
 use reference::operations::{
@@ -129,4 +129,27 @@ pub fn many_silent_graphs(seed: u64, count: usize) -> Vec<Graph> {
         graphs::graph_of(&mut random, size)
     };
     (0..count).map(&mut make).collect()
+}
+
+/// All endings of a block among so many: halt, goto, ite.
+fn endings(blocks: usize) -> Vec<Ending> {
+    let comparison = Comparison::Eq;
+    let ite = |t| (0..blocks).map(move |f| Ending::Ite { comparison, a: 0, b: 0, t, f });
+    let gotos = (0..blocks).map(Ending::Goto);
+    gotos.chain((0..blocks).flat_map(ite)).chain([Ending::Halt]).collect()
+}
+
+/// Every graph of so many blocks, without instructions.
+fn every_graph_of(blocks: usize) -> impl Iterator<Item = Graph> {
+    let endings = endings(blocks);
+    (0..endings.len().pow(blocks as u32)).map(move |choice| {
+        let digit = |n: usize| choice / endings.len().pow(n as u32) % endings.len();
+        let block = |n| Block { instructions: Vec::new(), ending: endings[digit(n)] };
+        Graph { registers: 1, blocks: (0..blocks).map(block).collect() }
+    })
+}
+
+/// Every graph of at most four blocks, without instructions.
+pub fn every_small_graph() -> impl Iterator<Item = Graph> {
+    (1..=4).flat_map(every_graph_of)
 }

@@ -11,15 +11,16 @@ use Rattle.word.specs.Word.{choose}
 use Rattle.runs.specs.Lists.{upFrom, mem, only, keep, concatMap}
 use Rattle.runs.proofs.Tests.{Compared, same, other, compared}
 use Rattle.runs.proofs.ListLaws.{same-test}
-use Rattle.runs.proofs.Sets.{In, Distinct, mem→Out, Out→mem}
+use Rattle.runs.proofs.Sets.{In, Distinct, mem→In, In→mem, mem→Out, Out→mem}
 use Rattle.runs.proofs.MembershipLaws.{only-in, distinct-only, distinct-upFrom}
 use Rattle.cfg.specs.Graph.{CFG, successors}
+use Rattle.cfg.specs.Table.{admitted, graphOf}
 use Rattle.fsmd.specs.Layout.{none as nowhere}
 use Rattle.grouping.specs.Grouping.{Groups, groups}
-use Rattle.grouping.proofs.Reach.{Closed}
+use Rattle.grouping.proofs.Reach.{Closed, admitted-closed}
 use Rattle.grouping.proofs.GroupingLaws.{grouped}
 use Rattle.placement.specs.Placement.{members, place, order}
-use Rattle.placement.specs.Counts.{Choice, blocksOf, run, Exact, Each, Edge, edgesTo, edgesOut, inState, choicesOf, edgesOf, lowerings, occurrences, isInState}
+use Rattle.placement.specs.Counts.{Choice, blocksOf, run, Exact, Each, Edge, edgesTo, edgesOut, inState, choicesOf, edgesOf, lowerings, occurrences, isInState, PlacedByCounts}
 use Rattle.placement.proofs.PlacementLaws.{Placed, placed-states, member-state, state-member, inside}
 use Rattle.placement.proofs.CountLaws.{targetsOf, number, number-cons, number-alike, run-exact, run-places}
 
@@ -134,14 +135,13 @@ module _ (g : CFG) (s : Groups) (k : ℕ) where
 -- ---- the grouping of a graph
 
 module _ (g : CFG) (a : Closed g) (k : ℕ) (h : k < length (groups g .starters)) where
-  -- an in-state edge stays in the state
-  pub edges-inside : (u t : ℕ) → In u (members g (groups g) k) → In t (inState g (groups g) u) → In t (members g (groups g) k)
+  edges-inside : (u t : ℕ) → mem u (members g (groups g) k) ≡ true → mem t (inState g (groups g) u) ≡ true → mem t (members g (groups g) k) ≡ true
   edges-inside u t i j =
-      let o = only-in (λ t. not (mem t (groups g .starters))) (successors g u) t (subst (λ f. In t (f u)) (in-state g (groups g) k) j) in
-      inside g a (groups g) (grouped g a) k h u t i (o .0) (mem→Out t (groups g .starters) (not-true (mem t (groups g .starters)) (o .1)))
+      let o = only-in (λ t. not (mem t (groups g .starters))) (successors g u) t (mem→In t (targetsOf (successors g) (λ t. mem t (groups g .starters)) u) (subst (λ f. mem t (f u) ≡ true) (in-state g (groups g) k) j)) in
+      In→mem t (members g (groups g) k)
+      (inside g a (groups g) (grouped g a) k h u t (mem→In u (members g (groups g) k) i) (o .0) (mem→Out t (groups g .starters) (not-true (mem t (groups g .starters)) (o .1))))
 
-  -- whichever edges are looked for, as many lower a count as there are
-  pub lowerings-alike : (p : Edge → Bool) → length (only p (lowerings g (groups g) k)) ≡ length (only p (edgesOf g (groups g) k))
+  lowerings-alike : (p : Edge → Bool) → length (only p (lowerings g (groups g) k)) ≡ length (only p (edgesOf g (groups g) k))
   unfolding edgesOf
   lowerings-alike p =
       ap (λ l. length (only p l)) (lowerings-in-order g (groups g) k)
@@ -151,6 +151,15 @@ module _ (g : CFG) (a : Closed g) (k : ℕ) (h : k < length (groups g .starters)
       o : Placed g (groups g) k
       o = placed-states g a k h
 
-  -- each in-state edge of the state lowers a count exactly once, and no other edge lowers one
-  pub lowered-once : (u way : ℕ) → occurrences u way (lowerings g (groups g) k) ≡ choose (isInState g (groups g) k u way) 1 0
-  lowered-once u way = lowerings-alike (λ (e : Edge). eqb (e .source) u && eqb (e .way) way) ∙ edges-once g (groups g) k u way
+  pub placed-by-counts : PlacedByCounts g (groups g) k
+  placed-by-counts = record {
+    same-order = order-by-counts g (groups g) k;
+    exact = counts-exact g (groups g) k;
+    once = λ u way. lowerings-alike (λ (e : Edge). eqb (e .source) u && eqb (e .way) way) ∙ edges-once g (groups g) k u way;
+    alike = lowerings-alike;
+    inside = edges-inside;
+  }
+
+-- every state of every admitted graph
+pub table-placed-by-counts : (words : List ℕ) → admitted words ≡ true → (k : ℕ) → k < length (groups (graphOf words) .starters) → PlacedByCounts (graphOf words) (groups (graphOf words)) k
+table-placed-by-counts words e = placed-by-counts (graphOf words) (admitted-closed words e)

@@ -1,6 +1,6 @@
 -- Placing the blocks of a state by waiting counts (request R-3). Assumes nothing.
 use Prim.Native.Nat.{ℕ, zero, suc, _-_, _≤_}
-use mathlib.Core.Bool.{Bool, not, _&&_}
+use mathlib.Core.Bool.{Bool, true, not, _&&_}
 use mathlib.Core.Path.{_≡_}
 use mathlib.Core.List.{List, [], _∷_, map}
 use mathlib.Core.Option.{Option, none, some}
@@ -11,7 +11,7 @@ use Rattle.runs.specs.Lists.{mem, only, first, concatMap}
 use Rattle.cfg.specs.Graph.{CFG, successors}
 use Rattle.fsmd.specs.Layout.{none as nowhere}
 use Rattle.grouping.specs.Grouping.{Groups}
-use Rattle.placement.specs.Placement.{members}
+use Rattle.placement.specs.Placement.{members, order}
 
 -- how many edges lead to x, where `targets` has one target for each
 abbrev pub waiting : List ℕ → ℕ → ℕ
@@ -102,3 +102,15 @@ occurrences u way edges = length (only (λ (e : Edge). eqb (e .source) u && eqb 
 -- edge `way` of u is an in-state edge of state k: u is a block of the state, and the edge leads to a non-starter
 abbrev pub isInState : CFG → Groups → ℕ → ℕ → ℕ → Bool
 isInState g s k u way = mem u (members g s k) && (ltb way (length (successors g u)) && not (mem (getD (successors g u) way nowhere) (s .starters)))
+
+-- what placing state k by counts is shown to do
+pub record PlacedByCounts (g : CFG) (s : Groups) (k : ℕ) : Type 0 where
+  -- the placement is the same, block for block
+  pub same-order : blocksOf (choicesOf g s k) ≡ order g s k
+  pub exact : Each (Exact (inState g s)) (choicesOf g s k)
+  -- each in-state edge of the state lowers a count exactly once, and no other edge lowers one
+  pub once : (u way : ℕ) → occurrences u way (lowerings g s k) ≡ choose (isInState g s k u way) 1 0
+  -- whichever edges are looked for, as many lower a count as there are
+  pub alike : (p : Edge → Bool) → length (only p (lowerings g s k)) ≡ length (only p (edgesOf g s k))
+  -- an in-state edge stays in the state
+  pub inside : (u t : ℕ) → mem u (members g s k) ≡ true → mem t (inState g s u) ≡ true → mem t (members g s k) ≡ true

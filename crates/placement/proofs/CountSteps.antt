@@ -108,10 +108,9 @@ pub record Counting (edges starts blocks waits : List ℕ) (i : ℕ) : Type 0 wh
   pub low : (x : ℕ) → countsIn waits x ≤ 2 * i
   pub counted : countsIn waits ≡ waiting (concatMap (targetsIn edges starts) (take i blocks))
 
-pub counting-begins : (edges starts blocks : List ℕ) → Counting edges starts blocks (replicate 64 0) 0
+pub counting-begins : (edges starts blocks waits : List ℕ) → length waits ≡ 64 → ((x : ℕ) → countsIn waits x ≡ 0) → Counting edges starts blocks waits 0
 unfolding concatMap
-counting-begins edges starts blocks =
-    record { within = omega arith; size = refl; low = λ x. omega (arith, zeros x); counted = fun-ext zeros }
+counting-begins edges starts blocks waits n z = record { within = omega arith; size = n; low = λ x. omega (arith, z x); counted = fun-ext z }
 
 pub one-at-most : (starts : List ℕ) (t x : ℕ) → waiting (targetIn starts t) x ≤ 1
 one-at-most starts t x = go (awaited starts t)

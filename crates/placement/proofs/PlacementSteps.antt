@@ -44,8 +44,8 @@ pub record Members (states blocks : List ℕ) (k count x : ℕ) : Type 0 where
   pub few : count ≤ x
   pub rest : membersIn states k ≡ take count blocks ++ membersFrom states k x (64 - x)
 
-pub members-none : (states : List ℕ) (k : ℕ) → Members states (replicate 64 0) k 0 0
-members-none states k = record { size = refl; within = omega arith; few = omega arith; rest = refl }
+pub members-none : (states blocks : List ℕ) (k : ℕ) → length blocks ≡ 64 → Members states blocks k 0 0
+members-none states blocks k n = record { size = n; within = omega arith; few = omega arith; rest = refl }
 
 module _ {states blocks : List ℕ} {k count x : ℕ} (m : Members states blocks k count x) where
   -- the block at x comes next, or not

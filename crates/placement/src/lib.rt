@@ -10,12 +10,6 @@ ghost use Rattle.fsmd.specs.Layout.{maxBlocks};
 ghost use Rattle.placement.specs.Counts.{waiting, lowered};
 ghost use Rattle.placement.specs.PlacementBytes.{marked, membersIn, placeIn, awaited, targetIn, targetsIn, countsIn, Chosen};
 
-// The first `count` are the blocks in order.
-pub struct Order {
-    pub count: usize,
-    pub blocks: [u8; Graph::BLOCKS],
-}
-
 // A number that no block has.
 const PAST: u8 = Graph::BLOCKS as u8;
 
@@ -30,12 +24,11 @@ fn mark(marks: &[u8], x: usize) -> bool
     }
 }
 
-// The blocks of state k, in rising order.
-fn members(states: &[u8], k: u8) -> Order
-    requires { ⌜ (length (now states) ≤ maxBlocks) × (k < maxBlocks) ⌝ }
-    ensures { λ r. ⌜ (r .count ≤ maxBlocks) × (length (r .blocks) ≡ maxBlocks) × (take (r .count) (r .blocks) ≡ membersIn (now (states .entry)) k) ⌝ }
+// The blocks of state k, in rising order from the front of `blocks`; how many there are.
+fn members(states: &[u8], k: u8, blocks: &mut [u8]) -> usize
+    requires { ⌜ (length (now states) ≤ maxBlocks) × (k < maxBlocks) × (length (now blocks) ≡ maxBlocks) ⌝ }
+    ensures { λ r. ⌜ (r ≤ maxBlocks) × (take r (now (blocks .exit)) ≡ membersIn (now (states .entry)) k) ⌝ }
 {
-    let mut blocks = [0u8; Graph::BLOCKS];
     let mut count: usize = 0;
     let mut x: usize = 0;
     while x < states.len() {
@@ -45,7 +38,7 @@ fn members(states: &[u8], k: u8) -> Order
         }
         x += 1;
     }
-    Order { count, blocks }
+    count
 }
 
 // Whether an edge to t is in-state: t is a block, and no starter.
@@ -81,20 +74,18 @@ fn lower(starts: &[u8], waits: &mut [u8], t: u8)
     }
 }
 
-// For each block, how many in-state edges lead to it from `blocks`.
-fn count_edges(edges: &[u8], starts: &[u8], blocks: &[u8]) -> [u8; Graph::BLOCKS]
-    requires { ⌜ length (now blocks) ≤ maxBlocks ⌝ }
-    ensures { λ r. ⌜ (length r ≡ maxBlocks) × (countsIn r ≡ waiting (concatMap (targetsIn (now (edges .entry)) (now (starts .entry))) (now (blocks .entry)))) ⌝ }
+// For each block, how many in-state edges lead to it from `blocks`; none is counted yet.
+fn count_edges(edges: &[u8], starts: &[u8], blocks: &[u8], waits: &mut [u8])
+    requires { ⌜ (length (now blocks) ≤ maxBlocks) × (length (now waits) ≡ maxBlocks) × ((x : ℕ) → countsIn (now waits) x ≡ 0) ⌝ }
+    ensures { λ r. ⌜ countsIn (now (waits .exit)) ≡ waiting (concatMap (targetsIn (now (edges .entry)) (now (starts .entry))) (now (blocks .entry))) ⌝ }
 {
-    let mut waits = [0u8; Graph::BLOCKS];
     let mut i: usize = 0;
     while i < blocks.len() {
         let u = edges::wide(blocks[i]);
-        raise(starts, &mut waits, edges::at(edges, 2 * u));
-        raise(starts, &mut waits, edges::at(edges, 2 * u + 1));
+        raise(starts, waits, edges::at(edges, 2 * u));
+        raise(starts, waits, edges::at(edges, 2 * u + 1));
         i += 1;
     }
-    waits
 }
 
 // Each in-state edge of u lowers a count.
@@ -135,15 +126,15 @@ fn to_front(left: &mut [u8], i: usize)
     }
 }
 
-// The blocks of state k, always the lowest-numbered that waits for no edge: those placed stand in front, the others behind them in rising order.
-pub fn place(edges: &[u8], states: &[u8], starts: &[u8], k: u8) -> Order
-    requires { ⌜ (length (now states) ≤ maxBlocks) × (k < maxBlocks) ⌝ }
-    ensures { λ r. ⌜ (r .count ≤ maxBlocks) × (length (r .blocks) ≡ maxBlocks) × (take (r .count) (r .blocks) ≡ placeIn (now (edges .entry)) (now (starts .entry)) (membersIn (now (states .entry)) k) maxBlocks []) ⌝ }
+// The blocks of state k, always the lowest-numbered that waits for no edge, from the front of `blocks`; how many there are. Those placed stand in
+// front, the others behind them in rising order.
+pub fn place(edges: &[u8], states: &[u8], starts: &[u8], k: u8, blocks: &mut [u8]) -> usize
+    requires { ⌜ (length (now states) ≤ maxBlocks) × (k < maxBlocks) × (length (now blocks) ≡ maxBlocks) ⌝ }
+    ensures { λ r. ⌜ (r ≤ maxBlocks) × (take r (now (blocks .exit)) ≡ placeIn (now (edges .entry)) (now (starts .entry)) (membersIn (now (states .entry)) k) maxBlocks []) ⌝ }
 {
-    let all = members(states, k);
-    let n = all.count;
-    let mut blocks = all.blocks;
-    let mut waits = count_edges(edges, starts, &blocks[..n]);
+    let n = members(states, k, blocks);
+    let mut waits = [0u8; Graph::BLOCKS];
+    count_edges(edges, starts, &blocks[..n], &mut waits);
     let mut count: usize = 0;
     while count < n {
         let i = choose(&blocks[count..n], &waits);
@@ -154,5 +145,5 @@ pub fn place(edges: &[u8], states: &[u8], starts: &[u8], k: u8) -> Order
         lower_edges(edges, starts, &mut waits, edges::wide(blocks[count]));
         count += 1;
     }
-    Order { count, blocks }
+    count
 }

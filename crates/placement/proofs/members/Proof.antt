@@ -1,5 +1,6 @@
 -- `placement::members` meets its contract. Assumes nothing.
 use mathlib.Core.Logic.{⊎-elim}
+use mathlib.Core.Path.{sym, _∙_}
 use Prim.Native.Nat.{_-_}
 use native.Mathlib.Omega.{arith}
 use lib.ListN.{length}
@@ -28,9 +29,9 @@ returns : tie.Need-returns Inv-loop μ-loop
 returns c =
     let l = c .before .loop in
     let p = c .before .before .pre in
-    (omega (arith, l .inv .few, l .inv .within, p .0), l .inv .size, members-all (l .inv) (c .loop-test .left) (p .1))
+    (omega (arith, l .inv .few, l .inv .within, p .0), members-all (l .inv) (c .loop-test .left) (p .1))
 
-room : tie.Need-array-write-blocks Inv-loop μ-loop
+room : tie.Need-slice-write-blocks Inv-loop μ-loop
 room c = let l = c .before .before .before .loop .inv in omega (arith, l .size, l .few, c .before .before .loop-test .taken, c .before .before .before .before .pre .0)
 
 pub members-spec : {M : Type 1} → statement M
@@ -39,7 +40,7 @@ members-spec =
     (tie.spec
     Inv-loop
     μ-loop
-    (λ c. members-none _ _)
+    (λ c. members-none _ _ _ (c .pre .2))
     (λ c. search needs)
     (λ c. omega (arith, c .before .before .before .before .pre .0, c .before .before .loop-test .taken))
     room
@@ -47,4 +48,5 @@ members-spec =
     (λ c. search needs)
     (λ c. search needs)
     loop-again
+    (λ c. c .before .loop .inv .size ∙ sym (c .before .before .pre .2))
     returns)

@@ -122,9 +122,8 @@ fn one_state(
     requires { ⌜ Edged (now targets) (now rows) 0 ⌝ }
     ensures { λ r. ⌜ (now (table .exit) ≡ withStates (take recordsOffset (now (table .entry))) (firstStates (now (graph .entry)) (k + 1))) × (r ≡ wireCount (firstStates (now (graph .entry)) (k + 1))) ⌝ }
 {
-    let order = placement::place(edges, states, starts, k as u8);
-    let count = order.count;
-    let blocks = order.blocks;
+    let mut blocks = [0u8; Graph::BLOCKS];
+    let count = placement::place(edges, states, starts, k as u8, &mut blocks);
     let registers = graph[1] as usize;
     let mut values = [0u32; Machine::REGISTERS];
     let at = Machine::WIRE_WORDS + Wire::WORDS * first;

@@ -8,21 +8,12 @@ pub struct Order {
     pub blocks: [u8; BLOCKS],
 }
 
-/// So many blocks are passed at once where none is of the state.
-const ROW: usize = 16;
-
 /// The blocks of state `k` in rising order.
 fn blocks_of(grouping: &Grouping, k: u8) -> Order {
     let mut order = Order { count: 0, blocks: [0; BLOCKS] };
-    for (row, states) in grouping.states.chunks_exact(ROW).enumerate() {
-        // A fold has no branches, so the whole row is compared by a few instructions.
-        if !states.iter().fold(false, |any, &state| any | (state == k)) {
-            continue;
-        }
-        for (i, _) in states.iter().enumerate().filter(|(_, &state)| state == k) {
-            order.blocks[order.count] = (ROW * row + i) as u8;
-            order.count += 1;
-        }
+    for (block, _) in grouping.states.iter().enumerate().filter(|(_, &state)| state == k) {
+        order.blocks[order.count] = block as u8;
+        order.count += 1;
     }
     order
 }

@@ -69,3 +69,7 @@ Rates =
     block (sampled 0 ∷ []) (Goto 1)
     ∷ block (sampled 1 ∷ add 1 1 0 ∷ []) (Goto 0)
     ∷ [])
+
+-- R-3: both edges of block 0 lead to block 3, and block 1 waits for blocks of higher numbers
+unfoldable pub Twins : CFG
+Twins = graph 2 (block [] (ite Eq 3 3) ∷ block [] Halt ∷ block [] (Goto 1) ∷ block [] (ite Eq 2 1) ∷ [])

@@ -1,12 +1,12 @@
--- The worked examples P1 to P13, and answers of R-1, as one table of computed tests, and one theorem that all hold. Assumes nothing.
+-- The worked examples P1 to P13, answers of R-1 and placements of R-3, as one table of computed tests, and one theorem that all hold. Assumes nothing.
 use Prim.Native.Nat.{ℕ}
 use Prim.Native.String.{String}
-use mathlib.Core.Bool.{Bool, not, _&&_}
+use mathlib.Core.Bool.{Bool, true, false, not, _&&_}
 use mathlib.Core.List.{List, [], _∷_, map}
 use lib.ListN.{length, replicate}
 use lib.Dec.{T, eqb}
 use Rattle.word.specs.Word.{evalOf}
-use Rattle.runs.specs.Lists.{same, every}
+use Rattle.runs.specs.Lists.{same, every, concatMap}
 use Rattle.runs.specs.Runs.{numberOf, outcomeOf, countOf, nextOf}
 use Rattle.runs.specs.Operations.{answered, registersLeft}
 use Rattle.runs.specs.declared.RunAnswer.{RunAnswer}
@@ -19,8 +19,9 @@ use Rattle.fsmd.specs.Machine.{State, clock}
 use Rattle.fsmd.specs.Table.{tableOf as machineTable, machineOf, admitted as machineAdmitted}
 use Rattle.fsmd.specs.Run.{refusal as machineRefusal, runAnswer as runMachine, runRegisters as machineRegisters, wordsRefusal as machineWordsRefusal, wordsAnswer as runMachineOn, wordsRegisters as machineRegistersOn}
 use Rattle.grouping.specs.Grouping.{groups}
+use Rattle.placement.specs.Counts.{lowered, Choice, Edge, blocksOf, choicesOf, lowerings}
 use Rattle.synthesis.specs.Synthesis.{machine}
-use Rattle.worked_examples.specs.Graphs.{P7, P9, P10, P11, P12, Figure5, Rates}
+use Rattle.worked_examples.specs.Graphs.{P7, P9, P10, P11, P12, Figure5, Rates, Twins}
 use Rattle.worked_examples.specs.Texts.{lines, gotoTwo, gotoOne, eight, nine, p7Text}
 
 -- an example's name, and whether it holds
@@ -47,8 +48,25 @@ regs a b = a ∷ b ∷ replicate 14 0
 abbrev wireCounts : CFG → List ℕ
 wireCounts g = map (λ (q : State). length (q .wires)) (machine g .states)
 
+-- equal lists of lists
+abbrev alike : List (List ℕ) → List (List ℕ) → Bool
+alike [] [] = true
+alike (x ∷ xs) (y ∷ ys) = same x y && alike xs ys
+alike [] (y ∷ ys) = false
+alike (x ∷ xs) [] = false
+
+-- placing state k by counts: the order, the unplaced blocks' counts before each choice, and each lowering's source, edge and target
+abbrev placed : CFG → ℕ → List ℕ
+placed g k = blocksOf (choicesOf g (groups g) k)
+
+abbrev countsBefore : CFG → ℕ → List (List ℕ)
+countsBefore g k = map (λ (c : Choice). map (c .counts) (c .unplaced)) (choicesOf g (groups g) k)
+
+abbrev loweredBy : CFG → ℕ → List ℕ
+loweredBy g k = concatMap (λ (e : Edge). e .source ∷ e .way ∷ e .target ∷ []) (lowerings g (groups g) k)
+
 unfoldable pub rows : List Row
-unfolding evalOf groups machine answered registersLeft graphRefusal graphWordsRefusal graphOf runBlock machineRefusal machineWordsRefusal machineOf clock graphTable machineTable graphAdmitted machineAdmitted readAnswer readWords P7 P9 P10 P11 P12 Figure5 Rates gotoTwo gotoOne eight nine p7Text
+unfolding choicesOf lowered lowerings concatMap Twins evalOf groups machine answered registersLeft graphRefusal graphWordsRefusal graphOf runBlock machineRefusal machineWordsRefusal machineOf clock graphTable machineTable graphAdmitted machineAdmitted readAnswer readWords P7 P9 P10 P11 P12 Figure5 Rates gotoTwo gotoOne eight nine p7Text
 rows =
     row "P1 the empty text: 3, line 1" (same (reading []) (3 ∷ 1 ∷ []))
     ∷ row "P2 graph,65,1: 2, line 1" (same (reading (lines ("graph,65,1" ∷ []))) (2 ∷ 1 ∷ []))
@@ -116,6 +134,14 @@ rows =
     ∷ row "9 before 11" (same (fields (runGraphOn (graphTable Rates) (regs 0 0) 2 1 [] [])) (9 ∷ 0 ∷ 0 ∷ 0 ∷ []))
     ∷ row "a graph that reads words, run without: 12" (same (fields (runGraph (graphTable Rates) (regs 0 0) 2 1)) (12 ∷ 0 ∷ 0 ∷ 0 ∷ []))
     ∷ row "a machine that reads words, run without: 12" (same (fields (runMachine (machineTable (machine Rates)) (regs 0 0) 1 1)) (12 ∷ 0 ∷ 0 ∷ 0 ∷ []))
+    -- R-3: placing by counts
+    ∷ row "an ite with two edges to one block: the order" (same (placed Twins 0) (0 ∷ 3 ∷ 2 ∷ 1 ∷ []))
+    ∷ row "it has two edges waiting" (alike (countsBefore Twins 0) ((0 ∷ 2 ∷ 1 ∷ 2 ∷ []) ∷ (2 ∷ 1 ∷ 0 ∷ []) ∷ (1 ∷ 0 ∷ []) ∷ (0 ∷ []) ∷ []))
+    ∷ row "and lowers the count twice" (same (loweredBy Twins 0) (0 ∷ 0 ∷ 3 ∷ 0 ∷ 1 ∷ 3 ∷ 3 ∷ 0 ∷ 2 ∷ 3 ∷ 1 ∷ 1 ∷ 2 ∷ 0 ∷ 1 ∷ []))
+    ∷ row "P7 by counts" (same (placed P7 1) (1 ∷ 2 ∷ 3 ∷ 4 ∷ 5 ∷ []))
+    ∷ row "P7 edges back to the starter lower nothing" (same (loweredBy P7 1) (1 ∷ 0 ∷ 2 ∷ 1 ∷ 1 ∷ 5 ∷ 2 ∷ 0 ∷ 3 ∷ 2 ∷ 1 ∷ 4 ∷ []))
+    ∷ row "P11 waits for no edge" (alike (countsBefore P11 0) ((0 ∷ []) ∷ []))
+    ∷ row "P12 an unreachable predecessor is not waited for" (alike (countsBefore P12 0) ((0 ∷ 1 ∷ []) ∷ (0 ∷ []) ∷ []))
     ∷ []
 
 pub all-hold : T (every (λ (r : Row). r .holds) rows)

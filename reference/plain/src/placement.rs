@@ -9,9 +9,9 @@ pub struct Order {
 }
 
 /// The blocks of state `k` in rising order.
-fn blocks_of(grouping: &Grouping, k: u8) -> Order {
+fn blocks_of(states: &[u8], k: u8) -> Order {
     let mut order = Order { count: 0, blocks: [0; BLOCKS] };
-    for (block, _) in grouping.states.iter().enumerate().filter(|(_, &state)| state == k) {
+    for (block, _) in states.iter().enumerate().filter(|(_, &state)| state == k) {
         order.blocks[order.count] = block as u8;
         order.count += 1;
     }
@@ -30,9 +30,9 @@ fn inner<'a>(
 }
 
 /// Always the lowest-numbered block for which no in-state edge waits. The unplaced blocks stay in
-/// rising order behind the placed ones.
-pub fn place(edges: &Edges, grouping: &Grouping, k: u8) -> Order {
-    let mut order = blocks_of(grouping, k);
+/// rising order behind the placed ones. `blocks` is how many the graph has.
+pub fn place(edges: &Edges, grouping: &Grouping, blocks: usize, k: u8) -> Order {
+    let mut order = blocks_of(&grouping.states[..blocks], k);
     let mut waiting = [0u8; BLOCKS];
     for &block in &order.blocks[..order.count] {
         inner(edges, grouping, block).for_each(|target| waiting[target] += 1);

@@ -23,7 +23,7 @@ fn fill(graph: &[u32], table: &mut [u32]) {
     let mut pending = Edges::none();
     let mut first = 0;
     for k in 0..grouping.count {
-        let order = place(&edges, &grouping, k as u8);
+        let order = place(&edges, &grouping, graph[0] as usize, k as u8);
         let (records, wires) = table.split_at_mut(WIRE_WORDS);
         let mut state = State::new(&mut wires[4 * first..], registers, &mut pending);
         for &block in &order.blocks[..order.count] {

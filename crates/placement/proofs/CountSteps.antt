@@ -14,7 +14,7 @@ use Rattle.word.specs.Word.{choose}
 use Rattle.runs.specs.Lists.{only, keep, concatMap}
 use Rattle.runs.proofs.Tests.{Compared, same, other, compared, and-true}
 use Rattle.runs.proofs.ListLaws.{length-only, concat-one}
-use Rattle.fsmd.specs.Layout.{none}
+use Rattle.fsmd.specs.Layout.{maxBlocks, none}
 use Rattle.grouping.specs.Bytes.{edgesFrom}
 use Rattle.placement.specs.Counts.{waiting, lowered}
 use Rattle.placement.specs.PlacementBytes.{marked, awaited, targetIn, targetsIn, countsIn}
@@ -26,15 +26,15 @@ pub targets-two : (edges starts : List ℕ) (u : ℕ) → targetsIn edges starts
 unfolding edgesFrom
 targets-two edges starts u = go (getD edges (2 * u) none) (getD edges (2 * u + 1) none)
   where
-    go : (a b : ℕ) → only (λ t. not (marked starts t)) (only (λ t. ltb t 64) (a ∷ b ∷ [])) ≡ targetIn starts a ++ targetIn starts b
-    go a b = only-only (λ t. not (marked starts t)) (λ t. ltb t 64) (awaited starts) (λ t. refl) (a ∷ b ∷ []) ∙ two (awaited starts a)
+    go : (a b : ℕ) → only (λ t. not (marked starts t)) (only (λ t. ltb t maxBlocks) (a ∷ b ∷ [])) ≡ targetIn starts a ++ targetIn starts b
+    go a b = only-only (λ t. not (marked starts t)) (λ t. ltb t maxBlocks) (awaited starts) (λ t. refl) (a ∷ b ∷ []) ∙ two (awaited starts a)
       where
         two : (c : Bool) → keep c a (targetIn starts b) ≡ keep c a [] ++ targetIn starts b
         two true = refl
         two false = refl
 
-pub awaited-below : (starts : List ℕ) (t : ℕ) → awaited starts t ≡ true → t < 64
-awaited-below starts t e = ltb-true t 64 (and-true (ltb t 64) (not (marked starts t)) e .0)
+pub awaited-below : (starts : List ℕ) (t : ℕ) → awaited starts t ≡ true → t < maxBlocks
+awaited-below starts t e = ltb-true t maxBlocks (and-true (ltb t maxBlocks) (not (marked starts t)) e .0)
 
 -- ---- one edge counted
 
@@ -50,11 +50,11 @@ module _ (starts waits : List ℕ) (t : ℕ) where
     pub awaited-one : waiting (targetIn starts t) t ≡ 1
     awaited-one = rw (e, eq-eqb t t refl) refl
 
-    module _ (size : length waits ≡ 64) where
+    module _ (size : length waits ≡ maxBlocks) where
       inside : t < length waits
       inside = omega (arith, size, awaited-below starts t e)
 
-      pub raise-one : (length (set waits t (countsIn waits t + 1)) ≡ 64)
+      pub raise-one : (length (set waits t (countsIn waits t + 1)) ≡ maxBlocks)
           × ((x : ℕ) → countsIn (set waits t (countsIn waits t + 1)) x ≡ waiting (targetIn starts t) x + countsIn waits x)
       raise-one = (length-set waits t (countsIn waits t + 1) ∙ size, λ x. rw e (go x (compared x t)))
         where
@@ -62,7 +62,7 @@ module _ (starts waits : List ℕ) (t : ℕ) where
           go x (same f p) = rw (f, p, getD-set-same waits t (countsIn waits t + 1) 0 inside) (omega arith)
           go x (other f p) = rw (f, getD-set-other waits t x (countsIn waits t + 1) 0 p) (omega arith)
 
-      pub lower-one : (length (set waits t (countsIn waits t - 1)) ≡ 64) × (countsIn (set waits t (countsIn waits t - 1)) ≡ lowered (targetIn starts t) (countsIn waits))
+      pub lower-one : (length (set waits t (countsIn waits t - 1)) ≡ maxBlocks) × (countsIn (set waits t (countsIn waits t - 1)) ≡ lowered (targetIn starts t) (countsIn waits))
       unfolding lowered
       lower-one = (length-set waits t (countsIn waits t - 1) ∙ size, rw e (fun-ext (λ x. go x (compared x t))))
         where
@@ -95,20 +95,20 @@ module _ (edges starts waits : List ℕ) (u : ℕ) where
 
 -- ---- the edges of one block after another
 
-pub zeros : (x : ℕ) → countsIn (replicate 64 0) x ≡ 0
-zeros x = go (decLt x 64)
+pub zeros : (x : ℕ) → countsIn (replicate maxBlocks 0) x ≡ 0
+zeros x = go (decLt x maxBlocks)
   where
-    go : Dec (x < 64) → countsIn (replicate 64 0) x ≡ 0
-    go (yes h) = getD-replicate {A = ℕ} 64 x 0 0 h
-    go (no h) = List·getD-eq-default {A = ℕ} (replicate 64 0) 0 {n = x} (omega arith)
+    go : Dec (x < maxBlocks) → countsIn (replicate maxBlocks 0) x ≡ 0
+    go (yes h) = getD-replicate {A = ℕ} maxBlocks x 0 0 h
+    go (no h) = List·getD-eq-default {A = ℕ} (replicate maxBlocks 0) 0 {n = x} (omega arith)
 
 pub record Counting (edges starts blocks waits : List ℕ) (i : ℕ) : Type 0 where
   pub within : i ≤ length blocks
-  pub size : length waits ≡ 64
+  pub size : length waits ≡ maxBlocks
   pub low : (x : ℕ) → countsIn waits x ≤ 2 * i
   pub counted : countsIn waits ≡ waiting (concatMap (targetsIn edges starts) (take i blocks))
 
-pub counting-begins : (edges starts blocks waits : List ℕ) → length waits ≡ 64 → ((x : ℕ) → countsIn waits x ≡ 0) → Counting edges starts blocks waits 0
+pub counting-begins : (edges starts blocks waits : List ℕ) → length waits ≡ maxBlocks → ((x : ℕ) → countsIn waits x ≡ 0) → Counting edges starts blocks waits 0
 unfolding concatMap
 counting-begins edges starts blocks waits n z = record { within = omega arith; size = n; low = λ x. omega (arith, z x); counted = fun-ext z }
 
@@ -120,7 +120,7 @@ one-at-most starts t x = go (awaited starts t)
     go false = omega arith
 
 module _ {edges starts blocks waits : List ℕ} {i : ℕ} (c : Counting edges starts blocks waits i) where
-  pub counting-on : i < length blocks → (more : List ℕ) → length more ≡ 64
+  pub counting-on : i < length blocks → (more : List ℕ) → length more ≡ maxBlocks
       → ((x : ℕ) → countsIn more x ≡ waiting (targetIn starts (getD edges (2 * getD blocks i 0 + 1) none)) x + (waiting (targetIn starts (getD edges (2 * getD blocks i 0) none)) x + countsIn waits x))
       → Counting edges starts blocks more (i + 1)
   counting-on h more n e = record {

@@ -16,7 +16,7 @@ use Rattle.runs.proofs.Tests.{Compared, same, other, compared}
 use Rattle.runs.proofs.ListLaws.{upFrom-cons, copied-more}
 use Rattle.runs.proofs.Sets.{Distinct, getD-any, getD-in}
 use Rattle.runs.proofs.MembershipLaws.{distinct-only, distinct-upFrom}
-use Rattle.fsmd.specs.Layout.{none}
+use Rattle.fsmd.specs.Layout.{maxBlocks, none}
 use Rattle.grouping.specs.Bytes.{edgesIn}
 use Rattle.placement.specs.Counts.{waiting, lowered, without, blocksOf, run}
 use Rattle.placement.specs.PlacementBytes.{marked, ofState, membersFrom, membersIn, placeIn, targetsIn, countsIn, Chosen}
@@ -26,7 +26,7 @@ use Rattle.placement.proofs.PlacedOrder.{only-more}
 
 -- ---- marks
 
-pub no-marks : (x : ℕ) → marked (replicate 64 0) x ≡ false
+pub no-marks : (x : ℕ) → marked (replicate maxBlocks 0) x ≡ false
 no-marks x = rw (zeros x) refl
 
 pub marked-set : (marks : List ℕ) (x y : ℕ) → x < length marks → marked (set marks x 1) y ≡ eqb y x || marked marks y
@@ -39,26 +39,26 @@ marked-set marks x y h = go (compared y x)
 -- ---- the blocks of a state, one after another
 
 pub record Members (states blocks : List ℕ) (k count x : ℕ) : Type 0 where
-  pub size : length blocks ≡ 64
+  pub size : length blocks ≡ maxBlocks
   pub within : x ≤ length states
   pub few : count ≤ x
-  pub rest : membersIn states k ≡ take count blocks ++ membersFrom states k x (64 - x)
+  pub rest : membersIn states k ≡ take count blocks ++ membersFrom states k x (maxBlocks - x)
 
-pub members-none : (states blocks : List ℕ) (k : ℕ) → length blocks ≡ 64 → Members states blocks k 0 0
+pub members-none : (states blocks : List ℕ) (k : ℕ) → length blocks ≡ maxBlocks → Members states blocks k 0 0
 members-none states blocks k n = record { size = n; within = omega arith; few = omega arith; rest = refl }
 
 module _ {states blocks : List ℕ} {k count x : ℕ} (m : Members states blocks k count x) where
   -- the block at x comes next, or not
-  members-next : x < 64 → membersIn states k ≡ take count blocks ++ keep (ofState states k x) x (membersFrom states k (x + 1) (64 - (x + 1)))
-  members-next l = m .rest ∙ ap (λ (u : List ℕ). take count blocks ++ only (ofState states k) u) (upFrom-cons x 64 l)
+  members-next : x < maxBlocks → membersIn states k ≡ take count blocks ++ keep (ofState states k x) x (membersFrom states k (x + 1) (maxBlocks - (x + 1)))
+  members-next l = m .rest ∙ ap (λ (u : List ℕ). take count blocks ++ only (ofState states k) u) (upFrom-cons x maxBlocks l)
 
-  module _ (h : x < length states) (l : x < 64) where
+  module _ (h : x < length states) (l : x < maxBlocks) where
     pub members-one : getD states x 0 ≡ k → Members states (set blocks count x) k (count + 1) (x + 1)
     members-one e = record {
       size = length-set blocks count x ∙ m .size;
       within = omega arith;
       few = let f = m .few in omega arith;
-      rest = members-next l ∙ rw (getD-any states x none 0 h, eq-eqb (getD states x 0) k e, taken) (sym (append-snoc (take count blocks) x (membersFrom states k (x + 1) (64 - (x + 1)))));
+      rest = members-next l ∙ rw (getD-any states x none 0 h, eq-eqb (getD states x 0) k e, taken) (sym (append-snoc (take count blocks) x (membersFrom states k (x + 1) (maxBlocks - (x + 1)))));
     }
       where
         taken : take (count + 1) (set blocks count x) ≡ take count blocks ++ (x ∷ [])
@@ -72,7 +72,7 @@ module _ {states blocks : List ℕ} {k count x : ℕ} (m : Members states blocks
       rest = members-next l ∙ rw (getD-any states x none 0 h, ne-eqb (getD states x 0) k f) refl;
     }
 
-  pub members-all : length states ≤ x → k < 64 → take count blocks ≡ membersIn states k
+  pub members-all : length states ≤ x → k < maxBlocks → take count blocks ≡ membersIn states k
   members-all h l = sym (m .rest ∙ ap (λ (u : List ℕ). take count blocks ++ u) none-left ∙ append-nil (take count blocks))
     where
       outside : (y : ℕ) → x + 0 ≤ y → ofState states k y ≡ false
@@ -80,8 +80,8 @@ module _ {states blocks : List ℕ} {k count x : ℕ} (m : Members states blocks
           let e : getD states y none ≡ none = List·getD-eq-default states none {n = y} (omega arith) in
           rw (e, ne-eqb none k (λ (f : none ≡ k). absurd (omega arith))) refl
 
-      none-left : membersFrom states k x (64 - x) ≡ []
-      none-left = let e : 64 - x ≡ 0 + (64 - x) = omega arith in rw e (only-more (ofState states k) x 0 (64 - x) outside)
+      none-left : membersFrom states k x (maxBlocks - x) ≡ []
+      none-left = let e : maxBlocks - x ≡ 0 + (maxBlocks - x) = omega arith in rw e (only-more (ofState states k) x 0 (maxBlocks - x) outside)
 
 -- ---- the first block that waits for no edge
 
@@ -167,13 +167,13 @@ abbrev pub left : ℕ → List ℕ → ℕ → List ℕ
 left n blocks count = take (n - count) (drop count blocks)
 
 pub record PlacingIn (edges starts states : List ℕ) (k n : ℕ) (blocks counts : List ℕ) (count : ℕ) : Type 0 where
-  pub blocks-64 : length blocks ≡ 64
-  pub counts-64 : length counts ≡ 64
-  pub few : n ≤ 64
+  pub blocks-64 : length blocks ≡ maxBlocks
+  pub counts-64 : length counts ≡ maxBlocks
+  pub few : n ≤ maxBlocks
   pub within : count ≤ n
-  pub placing : Placing (targetsIn edges starts) (placeIn edges starts (membersIn states k) 64 []) (take count blocks) (left n blocks count) counts (64 - count)
+  pub placing : Placing (targetsIn edges starts) (placeIn edges starts (membersIn states k) maxBlocks []) (take count blocks) (left n blocks count) counts (maxBlocks - count)
 
-pub placing-begins : (edges starts states : List ℕ) (k n : ℕ) (blocks counts : List ℕ) → n ≤ 64 → length blocks ≡ 64 → take n blocks ≡ membersIn states k → length counts ≡ 64
+pub placing-begins : (edges starts states : List ℕ) (k n : ℕ) (blocks counts : List ℕ) → n ≤ maxBlocks → length blocks ≡ maxBlocks → take n blocks ≡ membersIn states k → length counts ≡ maxBlocks
     → countsIn counts ≡ waits (targetsIn edges starts) (take n blocks) → PlacingIn edges starts states k n blocks counts 0
 unfolding placeIn
 placing-begins edges starts states k n blocks counts f b e c w = record {
@@ -184,7 +184,7 @@ placing-begins edges starts states k n blocks counts f b e c w = record {
   placing = record {
     distinct = rw (all, e) distinct;
     exact = rw all w;
-    rest = rw (all, e) (sym (run-places (edgesIn edges) (marked starts) (membersIn states k) distinct (placeIn edges starts (membersIn states k)) (λ placed. refl) (λ n placed. refl) 64));
+    rest = rw (all, e) (sym (run-places (edgesIn edges) (marked starts) (membersIn states k) distinct (placeIn edges starts (membersIn states k)) (λ placed. refl) (λ n placed. refl) maxBlocks));
   };
 }
   where
@@ -192,16 +192,16 @@ placing-begins edges starts states k n blocks counts f b e c w = record {
     all = omega arith
 
     distinct : Distinct (membersIn states k)
-    distinct = distinct-only (ofState states k) (upFrom 0 64) (distinct-upFrom 0 64)
+    distinct = distinct-only (ofState states k) (upFrom 0 maxBlocks) (distinct-upFrom 0 maxBlocks)
 
 module _ {edges starts states : List ℕ} {k n : ℕ} {blocks counts : List ℕ} {count : ℕ} (p : PlacingIn edges starts states k n blocks counts count) where
   pub left-length : length (left n blocks count) ≡ n - count
   left-length = length-take-le (n - count) (drop count blocks) (omega (arith, length-drop count blocks, p .blocks-64, p .few))
 
-  pub stops-in : first (λ x. eqb (countsIn counts x) 0) (left n blocks count) ≡ Option.none → take count blocks ≡ placeIn edges starts (membersIn states k) 64 []
+  pub stops-in : first (λ x. eqb (countsIn counts x) 0) (left n blocks count) ≡ Option.none → take count blocks ≡ placeIn edges starts (membersIn states k) maxBlocks []
   stops-in = placing-stops (p .placing)
 
-  pub full-in : n ≤ count → take count blocks ≡ placeIn edges starts (membersIn states k) 64 []
+  pub full-in : n ≤ count → take count blocks ≡ placeIn edges starts (membersIn states k) maxBlocks []
   full-in h = stops-in (let z : n - count ≡ 0 = omega arith in rw z refl)
 
   -- the block at i of those left is chosen, and brought to their front
@@ -235,7 +235,7 @@ module _ {edges starts states : List ℕ} {k n : ℕ} {blocks counts : List ℕ}
     pub enough-in : (x : ℕ) → waiting (targetsIn edges starts u) x ≤ countsIn counts x
     enough-in = rw chosen (placing-enough (p .placing) i below)
 
-    pub on-in : Chosen old counts i → (lower : List ℕ) → length lower ≡ 64 → countsIn lower ≡ lowered (targetsIn edges starts u) (countsIn counts)
+    pub on-in : Chosen old counts i → (lower : List ℕ) → length lower ≡ maxBlocks → countsIn lower ≡ lowered (targetsIn edges starts u) (countsIn counts)
         → PlacingIn edges starts states k n (putMid count (n - count) blocks part) lower (count + 1)
     on-in e lower z w = record {
       blocks-64 = same-len-mid count (n - count) blocks part (omega (arith, ap length moved, others-length, left-length)) ∙ p .blocks-64;
@@ -243,7 +243,7 @@ module _ {edges starts states : List ℕ} {k n : ℕ} {blocks counts : List ℕ}
       few = p .few;
       within = omega arith;
       placing = rw (new-front, new-left)
-          (placing-on (p .placing) i below (e .block below) lower (rw chosen at w) (64 - (count + 1)) (omega (arith, p .few)));
+          (placing-on (p .placing) i below (e .block below) lower (rw chosen at w) (maxBlocks - (count + 1)) (omega (arith, p .few)));
     }
       where
         front : List ℕ

@@ -13,7 +13,7 @@ ghost use Rattle.placement.specs.PlacementBytes.{marked, membersIn, plac
 // A number that no block has.
 const PAST: u8 = Graph::BLOCKS as u8;
 
-// Whether a mark stands at x; none does past the end.
+// Whether the byte at x is other than 0, as the mark of a starter is, and the count of a block that waits; past the end it is not.
 fn mark(marks: &[u8], x: usize) -> bool
     ensures { λ r. ⌜ r ≡ marked (now (marks .entry)) x ⌝ }
 {

@@ -7,6 +7,7 @@ use denote.Ref.{now}
 use lib.ListN.{length, take}
 use lib.Seq.{length-take-le}
 use borrow.Author.Needs.{needs}
+use Rattle.fsmd.specs.Layout.{maxBlocks}
 use Rattle.placement.proofs.CountSteps.{zeros}
 use Rattle.placement.proofs.PlacementSteps.{PlacingIn, placing-begins, left-length, stops-in, full-in, enough-in, on-in}
 use Rattle.placement.proofs.place.Statement.{statement}
@@ -26,7 +27,7 @@ module _ (c : tie.After-members Inv-loop μ-loop) where
   abbrev n : ℕ
   n = c .members .result
 
-  blocks-64 : length blocks ≡ 64
+  blocks-64 : length blocks ≡ maxBlocks
   blocks-64 = c .members .kept .1 .1 .0 ∙ c .before .before .before .before .before .before .pre .2
 
   all-there : length (take n blocks) ≡ n

@@ -8,7 +8,7 @@ use lib.ListN.{length, getD, drop}
 use lib.Seq.{drop-cons, drop-length}
 use lib.Dec.{eqb}
 use borrow.Author.Tests.{eq-eqb, ne-eqb}
-use Rattle.listing.specs.Words.{occurrences}
+use Rattle.runs.specs.Lists.{occurrences}
 
 -- n of the first i words are k
 pub record Counted (k : ℕ) (words : List ℕ) (n i : ℕ) : Type 0 where

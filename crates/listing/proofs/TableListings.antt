@@ -2,31 +2,23 @@
 use Prim.Native.Nat.{ℕ, zero, suc, _+_, _-_, _≤_, _<_}
 use native.Mathlib.Omega.{arith}
 use mathlib.Core.Path.{_≡_, refl, sym, ap, ap₂, _∙_}
-use mathlib.Core.Bool.{Bool, true, false}
+use mathlib.Core.Bool.{false}
 use mathlib.Core.List.{List, [], _∷_, _++_, append-nil}
 use lib.ListN.{length, getD, drop, replicate, length-append}
 use lib.Seq.{getD-take, getD-drop}
 use lib.Dec.{eqb}
 use borrow.Author.Tests.{ne-eqb}
-use Rattle.runs.specs.Lists.{upFrom, keep, only, padded, concatMap}
-use Rattle.runs.proofs.ListLaws.{padded-append}
+use Rattle.runs.specs.Lists.{upFrom, only, padded, concatMap, occurrences}
+use Rattle.runs.proofs.ListLaws.{only-append, padded-append}
 use Rattle.fsmd.specs.Layout.{maxStates, maxBlocks, startersOffset, none}
 use Rattle.fsmd.specs.Machine.{State, wireCount, FSMD, stateOf, emptyState}
 use Rattle.fsmd.specs.Table.{tableOf, wireCountAt}
 use Rattle.fsmd.proofs.WrittenTable.{wiresBefore, count-is, back-starters, back-blocks, back-first, back-count, table-length}
 use Rattle.synthesis.proofs.SynthesisedMachine.{MachineFits}
 use Rattle.listing.specs.Listing.{blocksIn, wiresIn, headLine, stateLine, machineListing}
-use Rattle.listing.specs.Words.{occurrences, starterAt, blocksAt, wiresAt, headLineAt, stateLineAt, stateLinesAt, tableListing, Listable}
+use Rattle.listing.specs.Words.{starterAt, blocksAt, wiresAt, headLineAt, stateLineAt, stateLinesAt, tableListing, Listable}
 
 -- ---- counting
-
-only-append : (p : ℕ → Bool) (xs ys : List ℕ) → only p (xs ++ ys) ≡ only p xs ++ only p ys
-only-append p [] ys = refl
-only-append p (x ∷ xs) ys = kept (p x) (only-append p xs ys)
-  where
-    kept : (b : Bool) → only p (xs ++ ys) ≡ only p xs ++ only p ys → keep b x (only p (xs ++ ys)) ≡ keep b x (only p xs) ++ only p ys
-    kept true e = ap (λ (l : List ℕ). x ∷ l) e
-    kept false e = e
 
 -- no word of a list of one word that is another
 no-other : (k n x : ℕ) → eqb k x ≡ false → only (eqb k) (replicate n x) ≡ []

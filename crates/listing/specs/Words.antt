@@ -2,17 +2,12 @@
 use Prim.Native.Nat.{ℕ, _+_, _-_, _≤_}
 use mathlib.Core.List.{List, [], _∷_, _++_}
 use lib.ListN.{length, getD, take, drop}
-use lib.Dec.{eqb}
-use Rattle.runs.specs.Lists.{upFrom, only, concatMap}
+use Rattle.runs.specs.Lists.{upFrom, concatMap, occurrences}
 use Rattle.decimal.specs.Decimal.{decimalOf}
 use Rattle.cfg_line.specs.Name.{bytes}
 use Rattle.fsmd.specs.Layout.{maxStates, maxBlocks, maxWires, startersOffset, blockStatesOffset, machineWords}
 use Rattle.fsmd.specs.Table.{firstWireAt, wireCountAt}
 use Rattle.listing.specs.Listing.{lineOf}
-
--- how often k stands in a list
-abbrev pub occurrences : ℕ → List ℕ → ℕ
-occurrences k l = length (only (eqb k) l)
 
 abbrev pub starterAt : List ℕ → ℕ → ℕ
 starterAt t k = getD t (startersOffset + k) 0

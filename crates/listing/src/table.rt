@@ -4,11 +4,12 @@ use fsmd::Machine;
 ghost use mathlib.Core.Path.{_≡_};
 ghost use Prim.Native.Nat.{_+_, _≤_, _<_};
 ghost use lib.ListN.{length, getD};
+ghost use Rattle.runs.specs.Lists.{occurrences};
 ghost use Rattle.fsmd.specs.Layout.{maxBlocks};
 ghost use Rattle.fsmd.specs.Table.{wireCountAt};
 ghost use Rattle.cfg_write.specs.Put.{Put};
 ghost use Rattle.listing.specs.Listing.{maxListing};
-ghost use Rattle.listing.specs.Words.{occurrences, starterAt, blocksAt, wiresAt, stateLineAt, stateLinesAt, tableListing, Listable};
+ghost use Rattle.listing.specs.Words.{starterAt, blocksAt, wiresAt, stateLineAt, stateLinesAt, tableListing, Listable};
 
 // How often k stands in some words.
 fn count_of(words: &[u32], k: u32) -> u32

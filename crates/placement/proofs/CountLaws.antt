@@ -6,11 +6,12 @@ use mathlib.Core.Logic.{_⊎_, inl, inr}
 use mathlib.Core.Path.{_≡_, refl, sym, _∙_, ap, subst, fun-ext}
 use mathlib.Core.List.{List, [], _∷_, _++_}
 use mathlib.Core.Option.{Option, none, some}
-use lib.ListN.{length, getD, take, drop}
+use lib.ListN.{length, getD, take, drop, length-append}
 use lib.Dec.{eqb}
 use borrow.Author.Tests.{eq-eqb, ne-eqb}
 use Rattle.runs.specs.Lists.{mem, only, keep, orElse, every, first, concatMap}
 use Rattle.runs.proofs.Tests.{Compared, same, other, compared}
+use Rattle.runs.proofs.ListLaws.{only-append}
 use Rattle.runs.proofs.Sets.{In, Distinct, Subset, getD-in}
 use Rattle.runs.proofs.MembershipLaws.{only-in, in-only, distinct-only, first-some}
 use Rattle.word.specs.Word.{choose}
@@ -26,13 +27,7 @@ without-other x (y ∷ l) f =
 
 module _ {A : Type 0} (p : A → Bool) where
   pub number-append : (xs ys : List A) → length (only p (xs ++ ys)) ≡ length (only p xs) + length (only p ys)
-  number-append [] ys = omega arith
-  number-append (x ∷ xs) ys = go (p x) (number-append xs ys)
-    where
-      go : (b : Bool) → length (only p (xs ++ ys)) ≡ length (only p xs) + length (only p ys)
-          → length (keep b x (only p (xs ++ ys))) ≡ length (keep b x (only p xs)) + length (only p ys)
-      go true h = omega arith
-      go false h = h
+  number-append xs ys = ap length (only-append p xs ys) ∙ length-append (only p xs) (only p ys)
 
 -- the block at i taken out
 pub without-at : (l : List ℕ) (i : ℕ) → Distinct l → i < length l → without (getD l i 0) l ≡ take i l ++ drop (suc i) l

@@ -20,7 +20,7 @@ use Rattle.grouping.specs.Grouping.{Groups, groups}
 use Rattle.grouping.proofs.Reach.{Closed, admitted-closed}
 use Rattle.grouping.proofs.GroupingLaws.{grouped}
 use Rattle.placement.specs.Placement.{members, place, order}
-use Rattle.placement.specs.Counts.{Choice, blocksOf, run, Exact, Each, Edge, edgesTo, edgesOut, inState, choicesOf, edgesOf, lowerings, occurrences, isInState, PlacedByCounts}
+use Rattle.placement.specs.Counts.{Choice, blocksOf, run, Exact, Each, Edge, edgesTo, edgesOut, inState, choicesOf, edgesOf, lowerings, isEdge, timesIn, isInState, PlacedByCounts}
 use Rattle.placement.proofs.PlacementLaws.{Placed, placed-states, member-state, state-member, inside}
 use Rattle.placement.proofs.CountLaws.{targetsOf, number, number-cons, number-alike, run-exact, run-places}
 
@@ -45,27 +45,27 @@ module _ (starter : ℕ → Bool) where
 
   module _ (u way : ℕ) where
     -- one more edge: how often the edge looked for stands there
-    one-more : (e : Edge) (l : List Edge) (n : ℕ) → (eqb (e .source) u && eqb (e .way) way) ≡ false → occurrences u way l ≡ n → (b : Bool) → occurrences u way (keep b e l) ≡ n
+    one-more : (e : Edge) (l : List Edge) (n : ℕ) → isEdge u way e ≡ false → timesIn l u way ≡ n → (b : Bool) → timesIn (keep b e l) u way ≡ n
     one-more e l n h ih true = rw h ih
     one-more e l n h ih false = ih
 
-    other-block : (y : ℕ) → (y ≡ u → ⊥) → (i : ℕ) (l : List ℕ) → occurrences u way (only inner (edgesTo y i l)) ≡ 0
+    other-block : (y : ℕ) → (y ≡ u → ⊥) → (i : ℕ) (l : List ℕ) → timesIn (only inner (edgesTo y i l)) u way ≡ 0
     other-block y f i [] = refl
     other-block y f i (t ∷ l) =
         one-more (record { source = y; way = i; target = t }) (only inner (edgesTo y (suc i) l)) 0 (rw (ne-eqb y u f) refl) (other-block y f (suc i) l) (not (starter t))
 
     -- those after it
-    later-edges : (i : ℕ) → way < i → (l : List ℕ) → occurrences u way (only inner (edgesTo u i l)) ≡ 0
+    later-edges : (i : ℕ) → way < i → (l : List ℕ) → timesIn (only inner (edgesTo u i l)) u way ≡ 0
     later-edges i h [] = refl
     later-edges i h (t ∷ l) =
         one-more (record { source = u; way = i; target = t }) (only inner (edgesTo u (suc i) l)) 0
         (rw (eq-eqb u u refl, ne-eqb i way (λ (q : i ≡ way). omega arith)) refl) (later-edges (suc i) (omega arith) l) (not (starter t))
 
-    own-edge : (i d : ℕ) → way ≡ i + d → (l : List ℕ) → occurrences u way (only inner (edgesTo u i l)) ≡ choose (ltb d (length l) && not (starter (getD l d nowhere))) 1 0
+    own-edge : (i d : ℕ) → way ≡ i + d → (l : List ℕ) → timesIn (only inner (edgesTo u i l)) u way ≡ choose (ltb d (length l) && not (starter (getD l d nowhere))) 1 0
     own-edge i d e [] = rw (le-ltb d 0 (omega arith)) refl
     own-edge i zero e (t ∷ l) = rw (lt-ltb 0 (suc (length l)) (omega arith)) (go (not (starter t)))
       where
-        go : (b : Bool) → occurrences u way (keep b (record { source = u; way = i; target = t }) (only inner (edgesTo u (suc i) l))) ≡ choose b 1 0
+        go : (b : Bool) → timesIn (keep b (record { source = u; way = i; target = t }) (only inner (edgesTo u (suc i) l))) u way ≡ choose b 1 0
         go true = rw (eq-eqb u u refl, eq-eqb i way (omega arith), later-edges (suc i) (omega arith) l) refl
         go false = later-edges (suc i) (omega arith) l
     own-edge i (suc d) e (t ∷ l) = rw (ltb-suc d (length l)) (
@@ -108,27 +108,24 @@ module _ (g : CFG) (s : Groups) (k : ℕ) where
   lowerings-in-order = sym (concat-map (edgesOut g s) (λ (c : Choice). c .block) (choicesOf g s k)) ∙ ap (concatMap (edgesOut g s)) order-by-counts
 
   -- each in-state edge of the state stands once in the list of them, and no other edge does
-  pub edges-once : (u way : ℕ) → occurrences u way (edgesOf g s k) ≡ choose (isInState g s k u way) 1 0
+  pub edges-once : (u way : ℕ) → timesIn (edgesOf g s k) u way ≡ choose (isInState g s k u way) 1 0
   unfolding edgesOf concatMap
   edges-once u way = go (members g s k) members-distinct
     where
-      p : Edge → Bool
-      p e = eqb (e .source) u && eqb (e .way) way
-
       c : Bool
       c = ltb way (length (successors g u)) && not (starter (getD (successors g u) way nowhere))
 
       none-there : (l : List ℕ) → (In u l → ⊥) → _≡_ {A = ℕ} (choose (mem u l && c) 1 0) 0
       none-there l f = rw (Out→mem u l f) refl
 
-      go : (l : List ℕ) → Distinct l → number p (edgesOut g s) l ≡ choose (mem u l && c) 1 0
+      go : (l : List ℕ) → Distinct l → number (isEdge u way) (edgesOut g s) l ≡ choose (mem u l && c) 1 0
       go [] d = refl
-      go (y ∷ l) d = number-cons p (edgesOut g s) y l ∙ at (compared u y) (go l (d .1))
+      go (y ∷ l) d = number-cons (isEdge u way) (edgesOut g s) y l ∙ at (compared u y) (go l (d .1))
         where
-          at : Compared u y → number p (edgesOut g s) l ≡ choose (mem u l && c) 1 0
-              → length (only p (edgesOut g s y)) + number p (edgesOut g s) l ≡ choose ((eqb u y || mem u l) && c) 1 0
+          at : Compared u y → number (isEdge u way) (edgesOut g s) l ≡ choose (mem u l && c) 1 0
+              → length (only (isEdge u way) (edgesOut g s y)) + number (isEdge u way) (edgesOut g s) l ≡ choose ((eqb u y || mem u l) && c) 1 0
           at (same e q) ih =
-              let n : number p (edgesOut g s) l ≡ 0 = ih ∙ none-there l (subst (λ z. In z l → ⊥) (sym q) (d .0)) in
+              let n : number (isEdge u way) (edgesOut g s) l ≡ 0 = ih ∙ none-there l (subst (λ z. In z l → ⊥) (sym q) (d .0)) in
               rw (e, ← q) (omega (arith, n, own-edge starter u way 0 way (omega arith) (successors g u)))
           at (other e q) ih = rw e (omega (arith, ih, other-block starter u way y (λ z. q (sym z)) 0 (successors g y)))
 
@@ -155,7 +152,7 @@ module _ (g : CFG) (a : Closed g) (k : ℕ) (h : k < length (groups g .starters)
   placed-by-counts = record {
     same-order = order-by-counts g (groups g) k;
     exact = counts-exact g (groups g) k;
-    once = λ u way. lowerings-alike (λ (e : Edge). eqb (e .source) u && eqb (e .way) way) ∙ edges-once g (groups g) k u way;
+    once = λ u way. lowerings-alike (isEdge u way) ∙ edges-once g (groups g) k u way;
     alike = lowerings-alike;
     inside = edges-inside;
   }

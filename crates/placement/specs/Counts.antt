@@ -7,7 +7,7 @@ use mathlib.Core.Option.{Option, none, some}
 use lib.ListN.{length, getD}
 use lib.Dec.{eqb, ltb}
 use Rattle.word.specs.Word.{choose}
-use Rattle.runs.specs.Lists.{mem, only, first, concatMap}
+use Rattle.runs.specs.Lists.{mem, only, first, concatMap, occurrences}
 use Rattle.cfg.specs.Graph.{CFG, successors}
 use Rattle.fsmd.specs.Layout.{none as nowhere}
 use Rattle.grouping.specs.Grouping.{Groups}
@@ -15,7 +15,7 @@ use Rattle.placement.specs.Placement.{members, order}
 
 -- how many edges lead to x, where `targets` has one target for each
 abbrev pub waiting : List ℕ → ℕ → ℕ
-waiting targets x = length (only (eqb x) targets)
+waiting targets x = occurrences x targets
 
 -- each edge lowers the count of its target by one
 unfoldable pub lowered : List ℕ → (ℕ → ℕ) → ℕ → ℕ
@@ -96,8 +96,11 @@ unfolding choicesOf
 lowerings g s k = concatMap (λ (c : Choice). edgesOut g s (c .block)) (choicesOf g s k)
 
 -- how often edge `way` of u stands in a list
-abbrev pub occurrences : ℕ → ℕ → List Edge → ℕ
-occurrences u way edges = length (only (λ (e : Edge). eqb (e .source) u && eqb (e .way) way) edges)
+abbrev pub isEdge : ℕ → ℕ → Edge → Bool
+isEdge u way e = eqb (e .source) u && eqb (e .way) way
+
+abbrev pub timesIn : List Edge → ℕ → ℕ → ℕ
+timesIn edges u way = length (only (isEdge u way) edges)
 
 -- edge `way` of u is an in-state edge of state k: u is a block of the state, and the edge leads to a non-starter
 abbrev pub isInState : CFG → Groups → ℕ → ℕ → ℕ → Bool
@@ -109,7 +112,7 @@ pub record PlacedByCounts (g : CFG) (s : Groups) (k : ℕ) : Type 0 where
   pub same-order : blocksOf (choicesOf g s k) ≡ order g s k
   pub exact : Each (Exact (inState g s)) (choicesOf g s k)
   -- each in-state edge of the state lowers a count exactly once, and no other edge lowers one
-  pub once : (u way : ℕ) → occurrences u way (lowerings g s k) ≡ choose (isInState g s k u way) 1 0
+  pub once : (u way : ℕ) → timesIn (lowerings g s k) u way ≡ choose (isInState g s k u way) 1 0
   -- whichever edges are looked for, as many lower a count as there are
   pub alike : (p : Edge → Bool) → length (only p (lowerings g s k)) ≡ length (only p (edgesOf g s k))
   -- an in-state edge stays in the state

@@ -128,6 +128,14 @@ module _ {A : Type 0} where
 
   -- ---- only
 
+  keep-append : (b : Bool) (x : A) (l m : List A) → keep b x (l ++ m) ≡ keep b x l ++ m
+  keep-append true x l m = refl
+  keep-append false x l m = refl
+
+  pub only-append : (p : A → Bool) (l m : List A) → only p (l ++ m) ≡ only p l ++ only p m
+  only-append p [] m = refl
+  only-append p (x ∷ l) m = ap (keep (p x) x) (only-append p l m) ∙ keep-append (p x) x (only p l) (only p m)
+
   pub length-only : (p : A → Bool) (l : List A) → length (only p l) ≤ length l
   length-only p [] = omega arith
   length-only p (x ∷ l) = go (p x) (length-only p l)

@@ -1,9 +1,10 @@
--- Lists: counting up, selecting, testing, padding. Assumes nothing.
+-- Lists: counting up, selecting, counting, testing, padding. Assumes nothing.
 use Prim.Native.Nat.{ℕ, zero, suc}
 use mathlib.Core.Bool.{Bool, true, false, _&&_, _||_}
 use mathlib.Core.List.{List, [], _∷_, _++_}
 use mathlib.Core.Option.{Option, none, some}
 use lib.Dec.{eqb}
+use lib.ListN.{length}
 
 -- n numbers from k up
 abbrev pub upFrom : ℕ → ℕ → List ℕ
@@ -56,3 +57,7 @@ module _ {A : Type 0} where
   unfoldable pub concatMap {κ} : {B : Type κ} → (B → List A) → List B → List A
   concatMap f [] = []
   concatMap f (x ∷ xs) = f x ++ concatMap f xs
+
+-- how often x stands in the list
+abbrev pub occurrences : ℕ → List ℕ → ℕ
+occurrences x l = length (only (eqb x) l)

@@ -13,6 +13,7 @@ use borrow.Author.Tests.{ne-eqb}
 use Rattle.word.specs.Word.{choose}
 use Rattle.runs.specs.Lists.{keep, only, upFrom}
 use Rattle.runs.specs.Runs.{Place, standing, halted}
+use Rattle.runs.proofs.ListLaws.{only-append}
 use Rattle.fsmd.specs.Layout.{maxRegisters, none}
 use Rattle.state.specs.Wires.{Edge, leadsTo, towards}
 use Rattle.state.specs.Making.{used, placeOf, edgeTo, edgeIn, edgesIn, pending, rowWords, maxEdges, Edged}
@@ -35,14 +36,6 @@ map-same f g k zero h = refl
 map-same {B} f g k (suc n) h =
     ap (λ (y : B). y ∷ map f (upFrom (suc k) n)) (h k (omega arith) (omega arith))
     ∙ ap (λ (r : List B). g k ∷ r) (map-same f g (suc k) n (λ i lo hi. h i (omega arith) (omega arith)))
-
-keep-append : {A : Type 0} (b : Bool) (x : A) (l m : List A) → keep b x (l ++ m) ≡ keep b x l ++ m
-keep-append true x l m = refl
-keep-append false x l m = refl
-
-pub only-append : {A : Type 0} (p : A → Bool) (l m : List A) → only p (l ++ m) ≡ only p l ++ only p m
-only-append p [] m = refl
-only-append p (x ∷ l) m = ap (keep (p x) x) (only-append p l m) ∙ keep-append (p x) x (only p l) (only p m)
 
 -- ---- an edge depends on its target and its row alone
 

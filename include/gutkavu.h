@@ -1,4 +1,4 @@
-/* A compiler of control-flow graphs into state machines: seven operations on buffers that the caller lends.
+/* A compiler of control-flow graphs into state machines: eight operations on buffers that the caller lends.
  *
  * Every function returns the number of a refusal, or 0. On a refusal no buffer is changed, and every other field is
  * set to 0 unless its comment says otherwise. Words of a buffer past the length of its table are neither read nor
@@ -13,6 +13,8 @@
  *   5  target not below B                  10  no machine table
  *  11  starter list without block 0 or the start block, or with a block not below B
  *  12  a table that holds code 20, in a run without words
+ *  17  a recording's line not of its form, or R not 1 to 16
+ *  18  a recording's cycle not above that of the line before
  *
  * A run with words is given a list of input words, of any length. The start of the run is arrival 0, and arrival k
  * uses word k: every `in` (code 20) gives that word until the next arrival. In a machine each cycle begins with an
@@ -93,6 +95,18 @@ uint32_t gutkavu_run_graph_with_words(const uint32_t *graph, size_t graph_len, u
 uint32_t gutkavu_run_machine_with_words(const uint32_t *machine, size_t machine_len, uint32_t *registers,
                                         size_t registers_len, uint32_t start, uint32_t budget, const uint32_t *words,
                                         size_t words_len, uint32_t *outcome, uint32_t *count, uint32_t *next);
+
+/* Compares two recordings of one voyage, the first an array's capture, say, and the second a model's run; either may
+ * lack cycles, and both may be of any length. A line is `cycle,state,` and as many register words as registers (R)
+ * says, parted by commas, each 0 to 4294967295 without leading zeros, with a line feed behind it. The cycles of a
+ * recording rise from line to line.
+ * Sets shared to the number of cycles that both hold; differs to 1 and cycle to the first of them where state or
+ * registers differ, or both to 0.
+ * Refusals 17, 18 of the first faulty line, the first recording's lines before the second's; recording (1 or 2) and
+ * line, counted from 1, say where it is, and are 0 where R is not 1 to 16. */
+uint32_t gutkavu_compare_captures(uint32_t registers, const uint8_t *first, size_t first_len, const uint8_t *second,
+                                  size_t second_len, uint32_t *recording, uint64_t *line, uint64_t *shared,
+                                  uint32_t *differs, uint32_t *cycle);
 
 #ifdef __cplusplus
 }

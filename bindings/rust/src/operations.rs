@@ -1,4 +1,4 @@
-//! The seven operations on lent buffers. On a refusal every buffer is left as it was.
+//! The eight operations on lent buffers. On a refusal every buffer is left as it was.
 
 use crate::raw;
 
@@ -30,6 +30,18 @@ pub struct RunWithWordsFields {
     pub outcome: u32,
     pub count: u32,
     pub next: u32,
+}
+
+/// The fields of a comparison of two recordings. The recording, 1 or 2, and the line, counted from
+/// 1, are those of a fault; `differs` is 1 where a cycle differs, and `cycle` is then the first.
+#[derive(Clone, Copy, Debug, PartialEq, Eq)]
+pub struct CaptureFields {
+    pub number: u32,
+    pub recording: u32,
+    pub line: u64,
+    pub shared: u64,
+    pub differs: u32,
+    pub cycle: u32,
 }
 
 /// What a field holds before a call, so that one that is not set would show.
@@ -150,4 +162,26 @@ pub fn run_machine_with_words(
         )
     };
     RunWithWordsFields { number, outcome, count, next }
+}
+
+/// Compares two recordings of one voyage, of `registers` registers each.
+pub fn compare_captures(registers: u32, first: &[u8], second: &[u8]) -> CaptureFields {
+    let (mut recording, mut differs, mut cycle) = (UNSET, UNSET, UNSET);
+    let (mut line, mut shared) = (u64::from(UNSET), u64::from(UNSET));
+    // SAFETY: as in `read`.
+    let number = unsafe {
+        raw::gutkavu_compare_captures(
+            registers,
+            first.as_ptr(),
+            first.len(),
+            second.as_ptr(),
+            second.len(),
+            &mut recording,
+            &mut line,
+            &mut shared,
+            &mut differs,
+            &mut cycle,
+        )
+    };
+    CaptureFields { number, recording, line, shared, differs, cycle }
 }

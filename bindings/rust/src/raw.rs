@@ -84,4 +84,16 @@ extern "C" {
         count: *mut u32,
         next: *mut u32,
     ) -> u32;
+    pub fn gutkavu_compare_captures(
+        registers: u32,
+        first: *const u8,
+        first_len: usize,
+        second: *const u8,
+        second_len: usize,
+        recording: *mut u32,
+        line: *mut u64,
+        shared: *mut u64,
+        differs: *mut u32,
+        cycle: *mut u32,
+    ) -> u32;
 }

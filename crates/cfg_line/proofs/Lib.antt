@@ -1,6 +1,5 @@
-pub mod Split
-pub mod Cursors
-pub mod Numbers
+pub mod Forms
+pub mod Literals
 pub mod Packing
 pub mod Names
 pub mod Otherwise

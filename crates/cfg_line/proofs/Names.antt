@@ -13,13 +13,16 @@ use borrow.Author.Tests.{ltb-true, ltb-false, lt-ltb}
 use Rattle.word.specs.Word.{choose}
 use Rattle.runs.proofs.Tests.{and-true as both}
 use Rattle.runs.specs.Lists.{every, same}
-use Rattle.cfg_line.specs.declared.Field.the-variants as field
+use Rattle.delimited.specs.declared.Field.the-variants as field
 use Rattle.cfg_line.specs.declared.Name.the-variants.{Packed, Bad}
 use Rattle.cfg_line.specs.declared.Keyword.the-variants as keyword
-use Rattle.cfg_line.specs.Name.{comparisonOf, comparisonNames, keywordOf, instructionNames, bytes, codeIn}
+use Rattle.delimited.specs.Parts.{bytes}
+use Rattle.delimited.specs.Cursor.{stops, fieldAt, valued}
+use Rattle.delimited.proofs.Cursors.{whole, Front, comma, feed, unended, front, up-to, stop-of, stop-none, field-at, field-none, behind}
+use Rattle.cfg_line.specs.Name.{comparisonOf, comparisonNames, keywordOf, instructionNames, codeIn}
 use Rattle.cfg_line.specs.Form.{formOf, byName}
-use Rattle.cfg_line.specs.Cursor.{stops, byte, packed, nameAt, fieldAt, valued, parsed, noForm, parsedAt}
-use Rattle.cfg_line.proofs.Cursors.{whole, Front, comma, feed, unended, front, up-to, stop-of, stop-none, field-at, field-none, form-comma, form-feed, form-open, form-none, behind}
+use Rattle.cfg_line.specs.Cursor.{byte, packed, nameAt, parsed, noForm, parsedAt}
+use Rattle.cfg_line.proofs.Forms.{form-comma, form-feed, form-open, form-none}
 use Rattle.cfg_line.proofs.Packing.{other}
 
 -- ---- the bytes of a text are bytes

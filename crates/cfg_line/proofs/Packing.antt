@@ -13,7 +13,8 @@ use Rattle.runs.proofs.Tests.{and-true as both}
 use Rattle.runs.specs.Lists.{every, same}
 use Rattle.cfg_line.specs.declared.Name.{Name}
 use Rattle.cfg_line.specs.declared.Name.the-variants.{Packed, Bad}
-use Rattle.cfg_line.specs.Cursor.{stops, upTo, stopOf, byte, packed, nameAt}
+use Rattle.delimited.specs.Cursor.{stops, upTo, stopOf}
+use Rattle.cfg_line.specs.Cursor.{byte, packed, nameAt}
 use Rattle.cfg_line.specs.Name.{keywordOf}
 
 pub packed-grows : (k : ℕ) (f : List ℕ) → k ≤ packed k f

@@ -1,15 +1,15 @@
--- A field and a line at the front of a text: what the steps of reading a line hand on. Assumes nothing.
+-- A name and a graph's line at the front of a text: what the steps of reading a line hand on. Assumes nothing.
 use Prim.Native.Nat.{ℕ, _+_, _*_, _^_}
-use mathlib.Core.Bool.{Bool, true, false, _&&_, _||_}
+use mathlib.Core.Bool.{Bool, _&&_}
 use mathlib.Core.List.{List, [], _∷_}
-use mathlib.Core.Option.{Option, none, some}
-use lib.ListN.{length, getD}
-use lib.Dec.{eqb, leb, ltb}
+use lib.ListN.{length}
+use lib.Dec.{ltb}
 use Rattle.word.specs.Word.{choose}
-use Rattle.runs.specs.Lists.{every}
 use Rattle.cfg.specs.Table.{comparisonAt}
-use Rattle.cfg_line.specs.declared.Field.{Field}
-use Rattle.cfg_line.specs.declared.Field.the-variants as field
+use Rattle.delimited.specs.declared.Field.{Field}
+use Rattle.delimited.specs.declared.Field.the-variants as field
+use Rattle.delimited.specs.Parts.{Fields}
+use Rattle.delimited.specs.Cursor.{stops, upTo, stopOf, fieldAt, frontLine}
 use Rattle.cfg_line.specs.declared.Name.{Name}
 use Rattle.cfg_line.specs.declared.Name.the-variants as name
 use Rattle.cfg_line.specs.declared.Comparing.{Comparing}
@@ -17,38 +17,9 @@ use Rattle.cfg_line.specs.declared.Comparing.the-variants as comparing
 use Rattle.cfg_line.specs.declared.Line.{Line}
 use Rattle.cfg_line.specs.declared.Line.the-variants as line
 use Rattle.cfg_line.specs.declared.Parsed.{Parsed}
-use Rattle.cfg_line.specs.Number.{digit, valueFrom}
 use Rattle.cfg_line.specs.Name.{comparisonOf}
-use Rattle.cfg_line.specs.Form.{Fields, splitAt}
 
--- a comma or a line feed ends a field
-abbrev pub stops : ℕ → Bool
-stops b = eqb b 44 || eqb b 10
-
--- the field at the front, and the byte that ends it: 0 where the text ends first
-unfoldable pub upTo : List ℕ → List ℕ
-upTo [] = []
-upTo (x ∷ xs) = choose (stops x) [] (x ∷ upTo xs)
-
-unfoldable pub stopOf : List ℕ → ℕ
-stopOf [] = 0
-stopOf (x ∷ xs) = choose (stops x) x (stopOf xs)
-
--- ---- fields; the text stands at `at`
-
-abbrev pub valued : Option ℕ → ℕ → Field
-valued none next = field.Bad
-valued (some v) next = field.Value v next
-
--- the field's value, where the byte `end` ends it
-unfoldable pub fieldAt : (List ℕ → Option ℕ) → ℕ → ℕ → List ℕ → Field
-unfolding upTo stopOf
-fieldAt read end at s = choose (eqb (stopOf s) end) (valued (read (upTo s)) (at + length (upTo s) + 1)) field.Bad
-
--- digits behind the value v, or none
-unfoldable pub digitsAtMost : ℕ → ℕ → List ℕ → Option ℕ
-unfolding valueFrom
-digitsAtMost most v f = choose (every digit f && leb (valueFrom v f) most) (some (valueFrom v f)) none
+-- ---- names; the text stands at `at`
 
 abbrev pub byte : ℕ → Bool
 byte b = ltb b 256
@@ -88,12 +59,7 @@ parsed (line.Ite c t f) next = record { line = line.Ite c t f; next = next }
 parsed line.Halt next = record { line = line.Halt; next = next }
 parsed line.NoForm next = noForm
 
--- the first of a text's lines as `form` takes its fields; without a line feed it has no form
-abbrev pub firstLine : (Fields → Line) → ℕ → List (List ℕ) → Parsed
-firstLine form at [] = noForm
-firstLine form at (l ∷ []) = noForm
-firstLine form at (l ∷ m ∷ ms) = parsed (form (splitAt 44 l)) (at + length l + 1)
-
+-- the first line of a text as `form` takes its fields; without a line feed it has no form
 unfoldable pub parsedAt : (Fields → Line) → ℕ → List ℕ → Parsed
-unfolding splitAt
-parsedAt form at s = firstLine form at (splitAt 10 s)
+unfolding frontLine
+parsedAt form at s = frontLine noForm (λ fs. parsed (form fs)) at s

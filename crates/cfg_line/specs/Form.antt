@@ -3,12 +3,13 @@ use Prim.Native.Nat.{ℕ}
 use mathlib.Core.Bool.{Bool, true, false, _&&_}
 use mathlib.Core.List.{List, [], _∷_}
 use mathlib.Core.Option.{Option, none, some}
-use lib.Dec.{eqb, leb}
+use lib.Dec.{leb}
 use Rattle.word.specs.Word.{choose}
 use Rattle.cfg.specs.Layout.{maxBlocks, maxRegisters}
 use Rattle.cfg.specs.Table.{comparisonAt}
 use Rattle.cfg.specs.declared.Instruction.{Instruction}
 use Rattle.cfg.specs.declared.Condition.{Condition}
+use Rattle.delimited.specs.Parts.{Fields, splitAt}
 use Rattle.cfg_line.specs.declared.Keyword.{Keyword}
 use Rattle.cfg_line.specs.declared.Keyword.the-variants as keyword
 use Rattle.cfg_line.specs.declared.Line.{Line}
@@ -16,20 +17,7 @@ use Rattle.cfg_line.specs.declared.Line.the-variants as line
 use Rattle.cfg_line.specs.Number.{numberOf, literalOf}
 use Rattle.cfg_line.specs.Name.{comparisonOf, keywordOf}
 
--- a byte in front of the first part
-abbrev pub onto : ℕ → List (List ℕ) → List (List ℕ)
-onto x [] = (x ∷ []) ∷ []
-onto x (f ∷ fs) = (x ∷ f) ∷ fs
-
--- the parts that a byte parts: always one more than there are such bytes
-unfoldable pub splitAt : ℕ → List ℕ → List (List ℕ)
-splitAt c [] = [] ∷ []
-splitAt c (x ∷ xs) = choose (eqb x c) ([] ∷ splitAt c xs) (onto x (splitAt c xs))
-
 -- ---- forms, by a line's fields behind the first
-
-abbrev pub Fields : Type 0
-Fields = List (List ℕ)
 
 abbrev pub withValue : Option ℕ → (ℕ → Line) → Line
 withValue none k = line.NoForm

@@ -3,18 +3,12 @@ use Prim.Native.Nat.{ℕ, suc}
 use mathlib.Core.Bool.{Bool, true, false}
 use mathlib.Core.List.{List, [], _∷_}
 use mathlib.Core.Option.{Option, none, some}
-use Prim.Native.Char.{code}
-use Prim.Native.String.{String, [] as empty, _∷_ as _then_}
 use lib.Dec.{eqb}
 use Rattle.word.specs.Word.{choose, arity}
 use Rattle.runs.specs.Lists.{same, orElse}
+use Rattle.delimited.specs.Parts.{bytes}
 use Rattle.cfg_line.specs.declared.Keyword.{Keyword}
 use Rattle.cfg_line.specs.declared.Keyword.the-variants.{Graph, Block, Goto, Ite, Halt, Set, In, Unary, Binary, Nothing}
-
--- a text's bytes
-abbrev pub bytes : String → List ℕ
-bytes empty = []
-bytes (c then s) = code c ∷ bytes s
 
 -- the names of codes 1 to 11
 unfoldable pub instructionNames : List (List ℕ)

@@ -3,6 +3,7 @@
 use cfg::Condition;
 use cfg::Graph;
 use cfg::Instruction;
+use delimited::Field;
 use word::Comparison;
 ghost use mathlib.Core.Path.{_≡_};
 ghost use mathlib.Core.Bool.{true};
@@ -10,10 +11,11 @@ ghost use mathlib.Core.List.{List};
 ghost use Prim.Native.Nat.{ℕ, _^_};
 ghost use lib.ListN.{drop};
 ghost use Rattle.runs.specs.Lists.{every};
-ghost use Rattle.cfg_line.specs.Number.{numberOf, literalOf, atMost};
+ghost use Rattle.delimited.specs.Cursor.{stops, fieldAt};
+ghost use Rattle.cfg_line.specs.Number.{numberOf, literalOf};
 ghost use Rattle.cfg_line.specs.Name.{keywordOf};
 ghost use Rattle.cfg_line.specs.Form.{formOf, byName};
-ghost use Rattle.cfg_line.specs.Cursor.{stops, byte, digitsAtMost, fieldAt, packed, nameAt, comparingAt, noForm, parsedAt};
+ghost use Rattle.cfg_line.specs.Cursor.{byte, packed, nameAt, comparingAt, noForm, parsedAt};
 
 pub enum Line {
     // B and R.
@@ -50,12 +52,6 @@ pub enum Keyword {
     Nothing,
 }
 
-// A field's value, and where the next field or line begins.
-enum Field {
-    Value(u32, usize),
-    Bad,
-}
-
 // A field's bytes as a number, where the next field or line begins, and the byte between.
 enum Name {
     Packed(u64, usize, u8),
@@ -67,64 +63,12 @@ enum Comparing {
     Bad,
 }
 
-// The digits from `at` up to the byte `end`, of a value of at most `most`.
-fn digits(text: &[u8], at: usize, end: u8, most: u32) -> Field
-    requires { ⌜ stops end ≡ true ⌝ }
-    ensures { λ r. ⌜ r ≡ fieldAt (digitsAtMost most 0) end at (drop at (now (text .entry))) ⌝ }
-{
-    let mut v: u32 = 0;
-    let mut i = at;
-    while i < text.len() {
-        let b = text[i];
-        if b == end {
-            return Field::Value(v, i + 1);
-        }
-        if b < b'0' {
-            return Field::Bad;
-        }
-        if b'9' < b {
-            return Field::Bad;
-        }
-        let w = (v as u64) * 10 + ((b - b'0') as u64);
-        if (most as u64) < w {
-            return Field::Bad;
-        }
-        v = w as u32;
-        i += 1;
-    }
-    Field::Bad
-}
-
-// At least one digit, and no leading zero.
-fn decimal(text: &[u8], at: usize, end: u8, most: u32) -> Field
-    requires { ⌜ stops end ≡ true ⌝ }
-    ensures { λ r. ⌜ r ≡ fieldAt (atMost most) end at (drop at (now (text .entry))) ⌝ }
-{
-    if text.len() <= at {
-        return Field::Bad;
-    }
-    if text[at] == end {
-        return Field::Bad;
-    }
-    if text[at] == b'0' {
-        let i = at + 1;
-        if text.len() <= i {
-            return Field::Bad;
-        }
-        if text[i] == end {
-            return Field::Value(0, i + 1);
-        }
-        return Field::Bad;
-    }
-    digits(text, at, end, most)
-}
-
 // 0 to 255.
 fn number(text: &[u8], at: usize, end: u8) -> Field
     requires { ⌜ stops end ≡ true ⌝ }
     ensures { λ r. ⌜ r ≡ fieldAt numberOf end at (drop at (now (text .entry))) ⌝ }
 {
-    decimal(text, at, end, 255)
+    delimited::at_most(text, at, end, 255)
 }
 
 // -2147483648 to 2147483647, as a word.
@@ -137,7 +81,7 @@ fn literal(text: &[u8], at: usize, end: u8) -> Field
     }
     if text[at] == b'-' {
         let i = at + 1;
-        let Field::Value(v, next) = decimal(text, i, end, 0x8000_0000) else {
+        let Field::Value(v, next) = delimited::at_most(text, i, end, 0x8000_0000) else {
             return Field::Bad;
         };
         if v == 0 {
@@ -145,7 +89,7 @@ fn literal(text: &[u8], at: usize, end: u8) -> Field
         }
         return Field::Value(u32::MAX - (v - 1), next);
     }
-    decimal(text, at, end, 0x7fff_ffff)
+    delimited::at_most(text, at, end, 0x7fff_ffff)
 }
 
 // A one and the bytes up to a comma or line feed, as digits to base 256; five bytes at most.

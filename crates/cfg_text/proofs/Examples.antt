@@ -7,7 +7,7 @@ use Prim.Native.String.{String}
 use lib.Dec.{T, eqb}
 use Rattle.runs.specs.Lists.{every, same, concatMap}
 use Rattle.cfg.specs.Graph.{CFG, validGraph}
-use Rattle.cfg_line.specs.Name.{bytes}
+use Rattle.delimited.specs.Parts.{bytes}
 use Rattle.cfg_text.specs.Walk.{Reading, refused, read}
 use Rattle.cfg_text.specs.Read.{readText}
 

@@ -11,7 +11,8 @@ use Rattle.cfg.specs.Graph.{CFG}
 use Rattle.cfg.specs.Table.{tableOf}
 use Rattle.cfg_line.specs.declared.Line.{Line}
 use Rattle.cfg_line.specs.declared.Parsed.{Parsed}
-use Rattle.cfg_line.specs.Form.{splitAt, byName}
+use Rattle.delimited.specs.Parts.{splitAt}
+use Rattle.cfg_line.specs.Form.{byName}
 use Rattle.cfg_line.specs.Cursor.{parsedAt}
 use Rattle.cfg_text.specs.declared.Due.the-variants as due
 use Rattle.cfg_text.specs.declared.Place.{Place}

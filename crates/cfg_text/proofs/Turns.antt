@@ -22,9 +22,11 @@ use Rattle.cfg_line.specs.declared.Keyword.the-variants as keyword
 use Rattle.cfg_line.specs.declared.Line.{Line}
 use Rattle.cfg_line.specs.declared.Line.the-variants as line
 use Rattle.cfg_line.specs.Name.{keywordOf}
-use Rattle.cfg_line.specs.Form.{Fields, splitAt, withValue, field, end, graphLine, formOf, byName, lineOf}
-use Rattle.cfg_line.specs.Cursor.{parsed, firstLine, parsedAt}
-use Rattle.cfg_line.proofs.Split.{parts, split-rest, split-alone}
+use Rattle.delimited.specs.Parts.{Fields, splitAt}
+use Rattle.delimited.specs.Cursor.{firstLine, frontLine}
+use Rattle.delimited.proofs.Split.{parts, split-rest, split-alone}
+use Rattle.cfg_line.specs.Form.{withValue, field, end, graphLine, formOf, byName, lineOf}
+use Rattle.cfg_line.specs.Cursor.{noForm, parsed, parsedAt}
 use Rattle.cfg_text.specs.Walk.{Progress, start, between, inside, Next, go, refuse, Reading, allBelow, instructionRegisters, endingRegisters, opened, joined, closed, blockWith, next, finish, proceed, walk}
 
 -- ---- one line
@@ -82,7 +84,7 @@ no-go e =
     absurd (omega arith)
 
 pub ahead : (q p : Progress) (text : List ℕ) (at : ℕ) → next q (parsedAt byName at (drop at text) .line) ≡ go p → at < parsedAt byName at (drop at text) .next
-unfolding parsedAt next
+unfolding parsedAt frontLine next
 ahead q p text at h = by (splitAt 10 (drop at text)) h
   where
     by-form : (y : Line) (from : ℕ) → at < from → next q (parsed y from .line) ≡ go p → at < parsed y from .next
@@ -94,7 +96,7 @@ ahead q p text at h = by (splitAt 10 (drop at text)) h
     by-form line.Halt from l e = l
     by-form line.NoForm from l e = no-go e
 
-    by : (ps : List (List ℕ)) → next q (firstLine byName at ps .line) ≡ go p → at < firstLine byName at ps .next
+    by : (ps : List (List ℕ)) → next q (firstLine noForm (λ fs. parsed (byName fs)) at ps .line) ≡ go p → at < firstLine noForm (λ fs. parsed (byName fs)) at ps .next
     by [] e = no-go e
     by (l ∷ []) e = no-go e
     by (l ∷ m ∷ ms) e = by-form (byName (splitAt 44 l)) (at + length l + 1) (omega arith) e
@@ -146,7 +148,7 @@ few-form (keyword.Binary k) = few-field _ _ (λ d. few-field _ _ (λ a. few-fiel
 few-form keyword.Nothing = λ fs. tt
 
 pub few-line : (at : ℕ) (s : List ℕ) → FewBlocks (parsedAt byName at s .line)
-unfolding parsedAt byName
+unfolding parsedAt frontLine byName
 few-line at s = by (splitAt 10 s)
   where
     same-form : (y : Line) (from : ℕ) → FewBlocks y → FewBlocks (parsed y from .line)
@@ -162,7 +164,7 @@ few-line at s = by (splitAt 10 s)
     few-name [] = tt
     few-name (f ∷ fs) = few-form (keywordOf f) fs
 
-    by : (ps : List (List ℕ)) → FewBlocks (firstLine byName at ps .line)
+    by : (ps : List (List ℕ)) → FewBlocks (firstLine noForm (λ fs. parsed (byName fs)) at ps .line)
     by [] = tt
     by (l ∷ []) = tt
     by (l ∷ m ∷ ms) = same-form (byName (splitAt 44 l)) (at + length l + 1) (few-name (splitAt 44 l))

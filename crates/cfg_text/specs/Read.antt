@@ -8,7 +8,7 @@ use lib.Dec.{ltb}
 use Rattle.word.specs.Word.{choose}
 use Rattle.cfg.specs.Layout.{graphWords}
 use Rattle.cfg.specs.Table.{tableOf}
-use Rattle.cfg_line.specs.Form.{splitAt}
+use Rattle.delimited.specs.Parts.{splitAt}
 use Rattle.cfg_text.specs.declared.ReadAnswer.{ReadAnswer}
 use Rattle.cfg_text.specs.declared.ReadAnswer.the-variants.{Refused, Read}
 use Rattle.cfg_text.specs.Walk.{Reading, refused, read, start, walk}

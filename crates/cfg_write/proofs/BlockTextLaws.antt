@@ -12,7 +12,7 @@ use Rattle.cfg.specs.Graph.{codeOf}
 use Rattle.cfg.specs.Table.{instructionAt, endingAt, blockAt, graphOf}
 use Rattle.cfg.proofs.Blocks.{ending-of}
 use Rattle.cfg.proofs.Admitted.{blocks-length, registers-are}
-use Rattle.cfg_line.specs.Name.{bytes}
+use Rattle.delimited.specs.Parts.{bytes}
 use Rattle.cfg_line.specs.declared.Line.{Line}
 use Rattle.cfg_line.specs.declared.Line.the-variants as line
 use Rattle.cfg_write.specs.Write.{endingLine, blockLines, linesFrom, lineText, textOf}

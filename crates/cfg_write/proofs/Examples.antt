@@ -11,7 +11,7 @@ use Rattle.cfg.specs.declared.Ending.the-variants.{Goto, Ite, Halt}
 use Rattle.cfg.specs.declared.Ending.{Ending}
 use Rattle.cfg.specs.declared.Block.{Block}
 use Rattle.cfg.specs.Graph.{CFG, noInstruction}
-use Rattle.cfg_line.specs.Name.{bytes}
+use Rattle.delimited.specs.Parts.{bytes}
 use Rattle.cfg_write.specs.Write.{textOf}
 
 -- lines, each with its line feed

@@ -12,12 +12,12 @@ use Rattle.runs.proofs.ListLaws.{and-right}
 use Rattle.cfg.specs.Layout.{maxBlocks, maxRegisters}
 use Rattle.cfg.specs.Graph.{CFG, validBlock, validGraph}
 use Rattle.cfg.proofs.Admitted.{valid-graph}
-use Rattle.cfg_line.specs.Form.{splitAt}
+use Rattle.delimited.specs.Parts.{splitAt, parted}
+use Rattle.delimited.proofs.Split.{parted-split}
 use Rattle.cfg_text.specs.Walk.{read, start, between, next, walk}
 use Rattle.cfg_text.specs.Read.{maxText, readText}
-use Rattle.cfg_write.specs.Write.{linesOf, lineText, parted, textOf}
+use Rattle.cfg_write.specs.Write.{linesOf, lineText, textOf}
 use Rattle.cfg_write.proofs.Whole.{Whole}
-use Rattle.cfg_write.proofs.SplitLaws.{parted-split}
 use Rattle.cfg_write.proofs.TextLaws.{AllFormed, lines-split, lines-parted, lines-length}
 use Rattle.cfg_write.proofs.WalkLaws.{Goes, step, walk-goes, blocks-go, formed-lines, lines-count}
 use Rattle.cfg_write.proofs.AcceptedLaws.{accepted}

@@ -1,7 +1,6 @@
 pub mod Examples
 pub mod Whole
-pub mod NumberLaws
-pub mod SplitLaws
+pub mod LiteralLaws
 pub mod NameLaws
 pub mod LineLaws
 pub mod TextLaws

@@ -20,11 +20,13 @@ use Rattle.cfg_line.specs.declared.Keyword.{Keyword}
 use Rattle.cfg_line.specs.declared.Keyword.the-variants as keyword
 use Rattle.cfg_line.specs.declared.Line.{Line}
 use Rattle.cfg_line.specs.declared.Line.the-variants as line
-use Rattle.cfg_line.specs.Name.{bytes, comparisonOf, keywordOf}
+use Rattle.delimited.specs.Parts.{bytes, Fields}
+use Rattle.delimited.proofs.Written.{number-read, number-written}
+use Rattle.cfg_line.specs.Name.{comparisonOf, keywordOf}
 use Rattle.cfg_line.specs.Number.{numberOf, literalOf}
-use Rattle.cfg_line.specs.Form.{Fields, field, withValue, number, end, graphLine, instruction, iteLine, formOf, byName}
+use Rattle.cfg_line.specs.Form.{field, withValue, number, end, graphLine, instruction, iteLine, formOf, byName}
 use Rattle.cfg_write.specs.Write.{instructionName, comparisonName, literalText, operandsOf, fieldsOf}
-use Rattle.cfg_write.proofs.NumberLaws.{number-read, number-written, literal-read, literal-written}
+use Rattle.cfg_write.proofs.LiteralLaws.{literal-read, literal-written}
 use Rattle.cfg_write.proofs.NameLaws.{Code, Named, Shape, literal, nothing, one, two, shape, not-one, keyword-named, comparison-read, comparison-back, comparison-written}
 
 -- ---- the numbers that a line can hold

@@ -18,9 +18,10 @@ use Rattle.runs.proofs.ListLaws.{same-eq, every-at}
 use Rattle.cfg.specs.Table.{comparisonAt}
 use Rattle.cfg_line.specs.declared.Keyword.{Keyword}
 use Rattle.cfg_line.specs.declared.Keyword.the-variants.{Graph, Block, Goto, Ite, Halt, Set, In, Unary, Binary, Nothing}
-use Rattle.cfg_line.specs.Name.{bytes, instructionNames, comparisonNames, codeIn, comparisonOf, operation, keywordOf}
+use Rattle.delimited.specs.Parts.{bytes}
+use Rattle.cfg_line.specs.Name.{instructionNames, comparisonNames, codeIn, comparisonOf, operation, keywordOf}
 use Rattle.cfg_write.specs.Write.{instructionName, comparisonName}
-use Rattle.cfg_write.proofs.NumberLaws.{none-some}
+use Rattle.delimited.proofs.Written.{none-some}
 
 -- what is known of a field that names code j, the first name being that of code k
 record InNames (k : ℕ) (ns : List (List ℕ)) (f : List ℕ) (j : ℕ) : Type 0 where

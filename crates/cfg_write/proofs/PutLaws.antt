@@ -13,10 +13,10 @@ use Rattle.runs.specs.Lists.{concatMap}
 use Rattle.decimal.specs.Decimal.{decimalOf}
 use Rattle.decimal.proofs.Laws.{decimal-word}
 use Rattle.cfg.specs.declared.Condition.{Condition}
-use Rattle.cfg_line.specs.Name.{bytes}
+use Rattle.delimited.specs.Parts.{bytes, parted}
 use Rattle.cfg_line.specs.declared.Line.{Line}
 use Rattle.cfg_line.specs.declared.Line.the-variants as line
-use Rattle.cfg_write.specs.Write.{instructionName, comparisonName, literalText, operandsOf, fieldsOf, parted, lineText}
+use Rattle.cfg_write.specs.Write.{instructionName, comparisonName, literalText, operandsOf, fieldsOf, lineText}
 use Rattle.cfg_write.specs.Put.{Put, commas, numbered}
 use Rattle.cfg_write.proofs.LineLaws.{operands-set, operands-none, operands-one, operands-two}
 

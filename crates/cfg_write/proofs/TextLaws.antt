@@ -13,15 +13,16 @@ use Rattle.runs.specs.Lists.{every, concatMap}
 use Rattle.runs.proofs.ListLaws.{and-left, and-right, and-both}
 use Rattle.decimal.specs.Decimal.{decimalOf}
 use Rattle.cfg.specs.declared.Instruction.{Instruction}
-use Rattle.cfg_line.proofs.Split.{apart, split-part}
+use Rattle.delimited.specs.Number.{digit}
+use Rattle.delimited.specs.Parts.{Fields, splitAt, parted}
+use Rattle.delimited.proofs.Split.{apart, split-part, split-parted, parted-split, parted-more, apart-parted}
+use Rattle.delimited.proofs.Written.{decimal-digits}
 use Rattle.cfg_line.specs.declared.Line.{Line}
 use Rattle.cfg_line.specs.declared.Line.the-variants as line
 use Rattle.cfg_line.specs.Name.{instructionNames, comparisonNames}
-use Rattle.cfg_line.specs.Number.{digit}
-use Rattle.cfg_line.specs.Form.{Fields, splitAt, byName, lineOf}
-use Rattle.cfg_write.specs.Write.{instructionName, comparisonName, literalText, operandsOf, fieldsOf, parted, lineText}
-use Rattle.cfg_write.proofs.NumberLaws.{decimal-digits, number-length, literal-length}
-use Rattle.cfg_write.proofs.SplitLaws.{split-parted, parted-split, parted-more, apart-parted}
+use Rattle.cfg_line.specs.Form.{byName, lineOf}
+use Rattle.cfg_write.specs.Write.{instructionName, comparisonName, literalText, operandsOf, fieldsOf, lineText}
+use Rattle.cfg_write.proofs.LiteralLaws.{number-length, literal-length}
 use Rattle.cfg_write.proofs.NameLaws.{Shape, literal, nothing, one, two, shape, not-one, name-test, comparison-test}
 use Rattle.cfg_write.proofs.LineLaws.{Formed, FormedInstruction, operands-set, operands-none, operands-one, operands-two, first-small, second-small, fields-read, fields-back}
 

@@ -17,7 +17,8 @@ use Rattle.cfg.specs.declared.Ending.the-variants as ending
 use Rattle.cfg.specs.declared.Block.{Block}
 use Rattle.cfg_line.specs.declared.Line.{Line}
 use Rattle.cfg_line.specs.declared.Line.the-variants as line
-use Rattle.cfg_line.specs.Name.{bytes, instructionNames, comparisonNames}
+use Rattle.delimited.specs.Parts.{bytes, parted}
+use Rattle.cfg_line.specs.Name.{instructionNames, comparisonNames}
 use Rattle.cfg_write.specs.declared.WriteAnswer.{WriteAnswer}
 use Rattle.cfg_write.specs.declared.WriteAnswer.the-variants.{Refused, Written}
 
@@ -72,12 +73,6 @@ fieldsOf (line.Ite c t f) =
     bytes "ite" ∷ comparisonName (c .comparison) ∷ decimalOf (c .a) ∷ decimalOf (c .b) ∷ decimalOf t ∷ decimalOf f ∷ []
 fieldsOf line.Halt = bytes "halt" ∷ []
 fieldsOf line.NoForm = []
-
--- parts with the byte c between them
-unfoldable pub parted : ℕ → List (List ℕ) → List ℕ
-parted c [] = []
-parted c (f ∷ []) = f
-parted c (f ∷ g ∷ fs) = f ++ (c ∷ parted c (g ∷ fs))
 
 -- fields parted by commas, then a line feed
 unfoldable pub lineText : Line → List ℕ

@@ -8,7 +8,7 @@ use mathlib.Core.List.{List, [], _∷_, _++_, append-assoc, append-nil}
 use lib.ListN.{length, take, drop}
 use lib.Seq.{sets-eq, length-take-le, take-at}
 use Rattle.runs.specs.Lists.{upFrom, concatMap}
-use Rattle.cfg_write.specs.Write.{parted}
+use Rattle.delimited.specs.Parts.{parted}
 use Rattle.cfg_write.specs.Put.{Put}
 use Rattle.cfg_write.proofs.PutLaws.{put-then, put-as, put-length}
 use Rattle.listing.specs.Listing.{lineOf}

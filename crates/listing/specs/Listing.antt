@@ -6,10 +6,9 @@ use lib.Dec.{eqb, ltb}
 use Rattle.word.specs.Word.{choose}
 use Rattle.runs.specs.Lists.{upFrom, only, concatMap}
 use Rattle.decimal.specs.Decimal.{decimalOf}
-use Rattle.cfg_line.specs.Name.{bytes}
+use Rattle.delimited.specs.Parts.{bytes, parted}
 use Rattle.cfg_text.specs.Walk.{Reading, refused, read}
 use Rattle.cfg_text.specs.Read.{maxText, readText}
-use Rattle.cfg_write.specs.Write.{parted}
 use Rattle.fsmd.specs.Machine.{FSMD, stateOf, wireCount}
 use Rattle.synthesis.specs.Synthesis.{machine}
 use Rattle.listing.specs.declared.ListAnswer.{ListAnswer}

@@ -4,7 +4,7 @@ use mathlib.Core.List.{List, [], _∷_, _++_}
 use lib.ListN.{length, getD, take, drop}
 use Rattle.runs.specs.Lists.{upFrom, concatMap, occurrences}
 use Rattle.decimal.specs.Decimal.{decimalOf}
-use Rattle.cfg_line.specs.Name.{bytes}
+use Rattle.delimited.specs.Parts.{bytes}
 use Rattle.fsmd.specs.Layout.{maxStates, maxBlocks, maxWires, startersOffset, blockStatesOffset, machineWords}
 use Rattle.fsmd.specs.Table.{firstWireAt, wireCountAt}
 use Rattle.listing.specs.Listing.{lineOf}

@@ -2,7 +2,7 @@
 use Prim.Native.Nat.{ℕ}
 use mathlib.Core.List.{List, [], _∷_, _++_}
 use Prim.Native.String.{String}
-use Rattle.cfg_line.specs.Name.{bytes}
+use Rattle.delimited.specs.Parts.{bytes}
 
 -- lines, each with its line feed
 abbrev pub lines : List String → List ℕ

@@ -4,15 +4,19 @@ use Prim.Native.Nat.{ℕ, _+_, _-_, _^_}
 use native.Mathlib.Omega.{arith}
 use lib.ListN.{drop, getD, drop-of-length-le}
 use denote.Ref.{now}
-use Rattle.cfg_line.specs.Number.{numberOf, literalOf, atMost}
+use Rattle.delimited.specs.Number.{atMost}
+use Rattle.cfg_line.specs.Number.{numberOf, literalOf}
 use Rattle.cfg_line.specs.Form.{number, field, end, graphLine, instruction, iteLine, formOf}
-use Rattle.cfg_line.specs.Cursor.{fieldAt, parsed}
+use Rattle.delimited.specs.Cursor.{fieldAt}
+use Rattle.cfg_line.specs.Cursor.{parsed}
 use Rattle.cfg_line.specs.declared.Line.{Line}
-use Rattle.cfg_line.proofs.Cursors.{on, last, not-on, not-last}
+use Rattle.cfg_line.proofs.Forms.{on, last, not-on, not-last}
 use mathlib.Core.List.{List, [], _∷_}
 use mathlib.Core.Option.{Option, none}
-use Rattle.cfg_line.specs.Name.{comparisonOf, comparisonNames, bytes}
-use Rattle.cfg_line.specs.Cursor.{comparingAt, compared, packed, valued}
+use Rattle.delimited.specs.Parts.{bytes}
+use Rattle.cfg_line.specs.Name.{comparisonOf, comparisonNames}
+use Rattle.delimited.specs.Cursor.{valued}
+use Rattle.cfg_line.specs.Cursor.{comparingAt, compared, packed}
 use Rattle.cfg_line.proofs.Packing.{unpacked, other}
 use Rattle.cfg_line.proofs.Names.{named, field-bytes, unnamed-field, compared-field, compared-none}
 use borrow.Author.Needs.{needs}

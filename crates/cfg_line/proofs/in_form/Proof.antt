@@ -4,7 +4,7 @@ use lib.ListN.{drop}
 use denote.Ref.{now}
 use Rattle.cfg_line.specs.Number.{numberOf}
 use Rattle.cfg_line.specs.Form.{instruction, formOf}
-use Rattle.cfg_line.proofs.Cursors.{last, not-last}
+use Rattle.cfg_line.proofs.Forms.{last, not-last}
 use borrow.Author.Needs.{needs}
 use Rattle.cfg_line.proofs.in_form.Statement.{statement}
 use Rattle.cfg_line.proofs.in_form.Tie as tie

@@ -1,5 +1,6 @@
 -- `cfg_line::keyword_of` meets its contract. Assumes nothing.
-use Rattle.cfg_line.specs.Name.{keywordOf, bytes}
+use Rattle.delimited.specs.Parts.{bytes}
+use Rattle.cfg_line.specs.Name.{keywordOf}
 use Rattle.cfg_line.specs.Cursor.{packed}
 use Rattle.cfg_line.proofs.Packing.{found, other}
 use mathlib.Core.Path.{_≡_, refl}

@@ -4,16 +4,19 @@ use Prim.Native.Nat.{ℕ, _+_, _-_, _^_}
 use native.Mathlib.Omega.{arith}
 use lib.ListN.{drop, getD, drop-of-length-le}
 use denote.Ref.{now}
-use Rattle.cfg_line.specs.Number.{numberOf, literalOf, atMost}
+use Rattle.delimited.specs.Number.{atMost}
+use Rattle.cfg_line.specs.Number.{numberOf, literalOf}
 use Rattle.cfg_line.specs.Form.{number, field, end, graphLine, instruction, iteLine, formOf}
-use Rattle.cfg_line.specs.Cursor.{fieldAt, parsed}
+use Rattle.delimited.specs.Cursor.{fieldAt}
+use Rattle.cfg_line.specs.Cursor.{parsed}
 use Rattle.cfg_line.specs.declared.Line.{Line}
-use Rattle.cfg_line.proofs.Cursors.{on, last, not-on, not-last}
-use Rattle.cfg_line.proofs.Numbers.{drop-more, no-byte, negated, literal-minus, literal-plain}
-use Rattle.cfg_line.specs.declared.Field.{Field}
+use Rattle.cfg_line.proofs.Forms.{on, last, not-on, not-last}
+use Rattle.delimited.proofs.Numbers.{drop-more, no-byte}
+use Rattle.cfg_line.proofs.Literals.{negated, literal-minus, literal-plain}
+use Rattle.delimited.specs.declared.Field.{Field}
 use borrow.Author.Tests.{eq-eqb, ne-eqb}
 use mathlib.Core.List.{List, [], _∷_}
-use Rattle.cfg_line.specs.declared.Field.the-variants.{Value}
+use Rattle.delimited.specs.declared.Field.the-variants.{Value}
 use borrow.Author.Needs.{needs}
 use Rattle.cfg_line.proofs.literal.Statement.{statement}
 use Rattle.cfg_line.proofs.literal.Tie as tie
@@ -30,8 +33,8 @@ returns-2 c =
     let t = now (a .text) in
     let d = drop-more t (a .at) (omega arith) in
     let u = drop (a .at + 1) t in
-    let m : fieldAt literalOf (a .end) (a .at) (drop (a .at) t) ≡ negated (c .before .before .decimal .result) =
-    ap (fieldAt literalOf (a .end) (a .at)) d ∙ rw (c .before .before .before .if2 .taken) (literal-minus (a .end) (a .at) u) ∙ ap negated (sym (c .before .before .decimal .ensures)) in
+    let m : fieldAt literalOf (a .end) (a .at) (drop (a .at) t) ≡ negated (c .before .before .at-most .result) =
+    ap (fieldAt literalOf (a .end) (a .at)) d ∙ rw (c .before .before .before .if2 .taken) (literal-minus (a .end) (a .at) u) ∙ ap negated (sym (c .before .before .at-most .ensures)) in
     sym (m ∙ ap negated (c .enum-told .given .1))
 
 returns-3 : tie.Need-returns-3
@@ -40,8 +43,8 @@ returns-3 c =
     let t = now (a .text) in
     let d = drop-more t (a .at) (omega arith) in
     let u = drop (a .at + 1) t in
-    let m : fieldAt literalOf (a .end) (a .at) (drop (a .at) t) ≡ negated (c .before .before .before .before .decimal .result) =
-    ap (fieldAt literalOf (a .end) (a .at)) d ∙ rw (c .before .before .before .before .before .if2 .taken) (literal-minus (a .end) (a .at) u) ∙ ap negated (sym (c .before .before .before .before .decimal .ensures)) in
+    let m : fieldAt literalOf (a .end) (a .at) (drop (a .at) t) ≡ negated (c .before .before .before .before .at-most .result) =
+    ap (fieldAt literalOf (a .end) (a .at)) d ∙ rw (c .before .before .before .before .before .if2 .taken) (literal-minus (a .end) (a .at) u) ∙ ap negated (sym (c .before .before .before .before .at-most .ensures)) in
     sym (m ∙ ap negated (c .before .before .v .given .1) ∙ rw (eq-eqb (c .before .before .v .given .0 .0) 0 (c .if3 .taken)))
 
 returns-4 : tie.Need-returns-4
@@ -50,8 +53,8 @@ returns-4 c =
     let t = now (a .text) in
     let d = drop-more t (a .at) (omega arith) in
     let u = drop (a .at + 1) t in
-    let m : fieldAt literalOf (a .end) (a .at) (drop (a .at) t) ≡ negated (c .before .before .before .before .decimal .result) =
-    ap (fieldAt literalOf (a .end) (a .at)) d ∙ rw (c .before .before .before .before .before .if2 .taken) (literal-minus (a .end) (a .at) u) ∙ ap negated (sym (c .before .before .before .before .decimal .ensures)) in
+    let m : fieldAt literalOf (a .end) (a .at) (drop (a .at) t) ≡ negated (c .before .before .before .before .at-most .result) =
+    ap (fieldAt literalOf (a .end) (a .at)) d ∙ rw (c .before .before .before .before .before .if2 .taken) (literal-minus (a .end) (a .at) u) ∙ ap negated (sym (c .before .before .before .before .at-most .ensures)) in
     let x = c .before .before .v .given .0 .0 in
     let z : 2 ^ 32 - 1 - (x - 1) ≡ 2 ^ 32 - x = omega arith in
     sym (m ∙ ap negated (c .before .before .v .given .1) ∙ rw (ne-eqb x 0 (c .if3 .left)) (ap (λ (y : ℕ). Value y (c .before .before .v .given .0 .1 .0)) (sym z)))
@@ -62,7 +65,7 @@ returns-5 c =
     let t = now (a .text) in
     let d = drop-more t (a .at) (omega arith) in
     let u = drop (a .at + 1) t in
-    c .decimal2 .ensures ∙ sym (ap (fieldAt literalOf (a .end) (a .at)) d ∙ literal-plain (a .end) (a .at) u (getD t (a .at) 0) (c .before .if2 .left) ∙ sym (ap (fieldAt (atMost (2 ^ 31 - 1)) (a .end) (a .at)) d))
+    c .at-most2 .ensures ∙ sym (ap (fieldAt literalOf (a .end) (a .at)) d ∙ literal-plain (a .end) (a .at) u (getD t (a .at) 0) (c .before .if2 .left) ∙ sym (ap (fieldAt (atMost (2 ^ 31 - 1)) (a .end) (a .at)) d))
 
 pub literal-spec : {M : Type 1} → statement M
 literal-spec =

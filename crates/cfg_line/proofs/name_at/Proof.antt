@@ -5,7 +5,7 @@ use mathlib.Core.Path.{_≡_, _∙_, refl, sym, ap}
 use Prim.Native.Nat.{ℕ, _+_, _-_, _*_, _^_, _≤_, _<_}
 use native.Mathlib.Omega.{arith}
 use lib.ListN.{length, drop, getD, drop-of-length-le}
-use Rattle.cfg_line.proofs.Numbers.{drop-more}
+use Rattle.delimited.proofs.Numbers.{drop-more}
 use Rattle.cfg_line.proofs.Packing.{nameFrom, name-from, name-end, name-more, name-long, name-none, comma-stops, feed-stops, none-stops}
 use borrow.Author.Needs.{needs}
 use Rattle.cfg_line.proofs.name_at.Statement.{statement}

@@ -1,20 +1,16 @@
--- `cfg_line::decimal` meets its contract. Assumes nothing.
+-- `delimited::at_most` meets its contract. Assumes nothing.
 use mathlib.Core.Path.{_≡_, _∙_, refl, sym, ap}
 use Prim.Native.Nat.{ℕ, _+_, _-_, _^_}
 use native.Mathlib.Omega.{arith}
 use lib.ListN.{drop, getD, drop-of-length-le}
 use denote.Ref.{now}
-use Rattle.cfg_line.specs.Number.{numberOf, literalOf, atMost}
-use Rattle.cfg_line.specs.Form.{number, field, end, graphLine, instruction, iteLine, formOf}
-use Rattle.cfg_line.specs.Cursor.{fieldAt, parsed}
-use Rattle.cfg_line.specs.declared.Line.{Line}
-use Rattle.cfg_line.proofs.Cursors.{on, last, not-on, not-last}
-use Rattle.cfg_line.proofs.Numbers.{drop-more, no-byte, number-none, number-digits, number-zero, number-zero-alone, number-zero-leads}
+use Rattle.delimited.specs.Number.{atMost}
+use Rattle.delimited.specs.Cursor.{fieldAt, digitsAtMost}
+use Rattle.delimited.proofs.Numbers.{drop-more, no-byte, number-none, number-digits, number-zero, number-zero-alone, number-zero-leads}
 use mathlib.Core.List.{List, [], _∷_}
-use Rattle.cfg_line.specs.Cursor.{digitsAtMost}
 use borrow.Author.Needs.{needs}
-use Rattle.cfg_line.proofs.decimal.Statement.{statement}
-use Rattle.cfg_line.proofs.decimal.Tie as tie
+use Rattle.delimited.proofs.at_most.Statement.{statement}
+use Rattle.delimited.proofs.at_most.Tie as tie
 
 returns : tie.Need-returns
 returns c =
@@ -64,8 +60,8 @@ returns-6 c =
     let u = drop (a .at + 1) t in
     c .digits .ensures ∙ sym (ap (fieldAt (atMost (a .most)) (a .end) (a .at)) d ∙ number-digits (a .most) (a .end) (a .at) u (c .before .before .before .before .before .before .before .pre) (getD t (a .at) 0) (c .before .before .before .if2 .left) (c .before .if3 .left) ∙ sym (ap (fieldAt (digitsAtMost (a .most) 0) (a .end) (a .at)) d))
 
-pub decimal-spec : {M : Type 1} → statement M
-decimal-spec =
+pub at-most-spec : {M : Type 1} → statement M
+at-most-spec =
     tie.close
     (tie.spec
     returns

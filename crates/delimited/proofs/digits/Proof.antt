@@ -1,14 +1,14 @@
--- `cfg_line::digits` meets its contract. Assumes nothing.
+-- `delimited::digits` meets its contract. Assumes nothing.
 use denote.Ref.{now}
 use mathlib.Core.Path.{_≡_, _∙_, refl, sym, ap}
 use Prim.Native.Nat.{ℕ, _+_, _-_, _*_, _≤_, _<_}
 use native.Mathlib.Omega.{arith}
 use lib.ListN.{length, drop, getD, drop-of-length-le}
-use Rattle.cfg_line.specs.Cursor.{fieldAt, digitsAtMost}
-use Rattle.cfg_line.proofs.Numbers.{drop-more, no-byte, digits-end, digits-bad, digits-over, digits-more}
+use Rattle.delimited.specs.Cursor.{fieldAt, digitsAtMost}
+use Rattle.delimited.proofs.Numbers.{drop-more, no-byte, digits-end, digits-bad, digits-over, digits-more}
 use borrow.Author.Needs.{needs}
-use Rattle.cfg_line.proofs.digits.Statement.{statement}
-use Rattle.cfg_line.proofs.digits.Tie as tie
+use Rattle.delimited.proofs.digits.Statement.{statement}
+use Rattle.delimited.proofs.digits.Tie as tie
 
 abbrev Inv-loop : tie.InvT-loop
 Inv-loop text at end most v₀ i₀ v i =

@@ -12,11 +12,10 @@ use lib.Dec.{eqb, leb, ltb}
 use borrow.Author.Tests.{eqb-true, eqb-false, ne-eqb, eq-eqb, le-leb, lt-leb, leb-true}
 use Rattle.word.specs.Word.{choose}
 use Rattle.runs.specs.Lists.{every}
-use Rattle.cfg_line.specs.declared.Field.{Field}
-use Rattle.cfg_line.specs.declared.Field.the-variants.{Value, Bad}
-use Rattle.cfg_line.specs.Number.{digit, decimal, valueFrom, atMost, literalOf, negative}
-use Rattle.cfg_line.specs.Cursor.{stops, upTo, stopOf, valued, fieldAt, digitsAtMost}
-use Rattle.cfg_line.proofs.Cursors.{field-none}
+use Rattle.delimited.specs.declared.Field.the-variants.{Value, Bad}
+use Rattle.delimited.specs.Number.{digit, decimal, valueFrom, atMost}
+use Rattle.delimited.specs.Cursor.{stops, upTo, stopOf, valued, fieldAt, digitsAtMost}
+use Rattle.delimited.proofs.Cursors.{field-none}
 
 pub drop-more : (f : List ℕ) (i : ℕ) → i < length f → drop i f ≡ getD f i 0 ∷ drop (i + 1) f
 drop-more f i h = rw add-one (drop-cons f i 0 h)
@@ -155,36 +154,3 @@ module _ (most end at : ℕ) (s : List ℕ) (e : stops end ≡ true) where
       go : (t : Bool) → stops b ≡ t → fieldAt (λ f. atMost most (48 ∷ f)) end (at + 1) (b ∷ s) ≡ Bad
       go true h = first-other (λ f. atMost most (48 ∷ f)) end (at + 1) s b h o
       go false h = first-bad (λ f. atMost most (48 ∷ f)) end (at + 1) s b h (λ f. refl)
-
--- ---- literals
-
--- a number with a minus before it
-abbrev pub negated : Field → Field
-negated Bad = Bad
-negated (Value v n) = choose (eqb v 0) Bad (Value (2 ^ 32 - v) n)
-
-negated-valued : (o : Option ℕ) (n : ℕ) → valued (negative o) n ≡ negated (valued o n)
-negated-valued none n = refl
-negated-valued (some v) n = go (eqb v 0)
-  where
-    go : (t : Bool) → valued (choose t none (some (2 ^ 32 - v))) n ≡ choose t Bad (Value (2 ^ 32 - v) n)
-    go true = refl
-    go false = refl
-
-pub literal-minus : (end at : ℕ) (s : List ℕ) → fieldAt literalOf end at (45 ∷ s) ≡ negated (fieldAt (atMost (2 ^ 31)) end (at + 1) s)
-unfolding literalOf fieldAt
-literal-minus end at s = first-in literalOf end at s 45 refl ∙ go (eqb (stopOf s) end) (atMost (2 ^ 31) (upTo s))
-  where
-    go :
-        (t : Bool) (o : Option ℕ)
-        → choose t (valued (negative o) (at + 1 + length (upTo s) + 1)) Bad ≡ negated (choose t (valued o (at + 1 + length (upTo s) + 1)) Bad)
-    go true o = negated-valued o (at + 1 + length (upTo s) + 1)
-    go false o = refl
-
-pub literal-plain : (end at : ℕ) (s : List ℕ) (b : ℕ) → (b ≡ 45 → ⊥) → fieldAt literalOf end at (b ∷ s) ≡ fieldAt (atMost (2 ^ 31 - 1)) end at (b ∷ s)
-unfolding literalOf fieldAt upTo stopOf atMost decimal
-literal-plain end at s b n = go (stops b) refl
-  where
-    go : (t : Bool) → stops b ≡ t → fieldAt literalOf end at (b ∷ s) ≡ fieldAt (atMost (2 ^ 31 - 1)) end at (b ∷ s)
-    go true h = rw h
-    go false h = rw (h, ne-eqb b 45 n)

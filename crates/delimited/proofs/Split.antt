@@ -1,4 +1,4 @@
--- Parts of a list of bytes that a byte parts. Assumes nothing.
+-- Parts of a list of bytes that a byte parts: split, and put together again, both ways. Assumes nothing.
 use mathlib.Core.Path.{_≡_, _∙_, refl, sym, ap}
 use mathlib.Core.List.{List, [], _∷_, _++_, append-nil}
 use mathlib.Core.Bool.{Bool, true, false, not}
@@ -6,11 +6,12 @@ use Prim.Native.Nat.{ℕ, suc}
 use lib.Dec.{eqb}
 use lib.ListN.{length, drop}
 use native.Mathlib.Omega.{arith}
-use borrow.Author.Tests.{not-true, eq-eqb}
+use borrow.Author.Tests.{not-true, eq-eqb, eqb-true}
 use Rattle.word.specs.Word.{choose}
 use Rattle.runs.proofs.Tests.{and-true as both}
 use Rattle.runs.specs.Lists.{every}
-use Rattle.cfg_line.specs.Form.{splitAt, onto}
+use Rattle.runs.proofs.ListLaws.{and-left, and-right, and-both, every-append}
+use Rattle.delimited.specs.Parts.{splitAt, onto, parted}
 
 -- the byte c stands nowhere in the list
 abbrev pub apart : ℕ → List ℕ → Bool
@@ -109,3 +110,50 @@ module _ (c : ℕ) where
           let a : x ∷ p .one ≡ l = cc in
           let b : p .others ≡ [] = cc in
           sym a ∙ ap (λ (y : List ℕ). x ∷ y) (r (p .one) (p .split ∙ ap (λ (y : List (List ℕ)). p .one ∷ y) b))
+
+-- ---- put together
+
+pub split-parted : (c : ℕ) (f : List ℕ) (fs : List (List ℕ)) → every (apart c) (f ∷ fs) ≡ true → splitAt c (parted c (f ∷ fs)) ≡ f ∷ fs
+unfolding parted
+split-parted c f [] h = split-last c f (and-left (apart c f) true h)
+split-parted c f (g ∷ fs) h =
+    split-part c f (parted c (g ∷ fs)) (and-left (apart c f) (every (apart c) (g ∷ fs)) h)
+    ∙ ap (λ (l : List (List ℕ)). f ∷ l) (split-parted c g fs (and-right (apart c f) (every (apart c) (g ∷ fs)) h))
+
+-- ---- put together what was split
+
+parted-onto : (c x : ℕ) (fs : List (List ℕ)) → parted c (onto x fs) ≡ x ∷ parted c fs
+unfolding parted
+parted-onto c x [] = refl
+parted-onto c x (f ∷ []) = refl
+parted-onto c x (f ∷ g ∷ fs) = refl
+
+parted-empty : (c : ℕ) (s : List ℕ) → parted c ([] ∷ splitAt c s) ≡ c ∷ parted c (splitAt c s)
+unfolding parted
+parted-empty c s = let p = parts c s in rw (p .split)
+
+pub parted-split : (c : ℕ) (s : List ℕ) → parted c (splitAt c s) ≡ s
+unfolding parted splitAt
+parted-split c [] = refl
+parted-split c (x ∷ xs) = go (eqb x c) refl (parted-split c xs)
+  where
+    go : (t : Bool) → eqb x c ≡ t → parted c (splitAt c xs) ≡ xs → parted c (choose t ([] ∷ splitAt c xs) (onto x (splitAt c xs))) ≡ x ∷ xs
+    go true e i = let q = eqb-true x c e in parted-empty c xs ∙ cc
+    go false e i = parted-onto c x (splitAt c xs) ∙ ap (λ (l : List ℕ). x ∷ l) i
+
+-- ---- one part in front
+
+pub parted-more : (c : ℕ) (f : List ℕ) (fs : List (List ℕ)) (g : List ℕ) → parted c (f ∷ (fs ++ (g ∷ []))) ≡ f ++ (c ∷ parted c (fs ++ (g ∷ [])))
+unfolding parted
+parted-more c f [] g = refl
+parted-more c f (h ∷ fs) g = refl
+
+pub apart-parted : (c d : ℕ) (fs : List (List ℕ)) → not (eqb d c) ≡ true → every (apart c) fs ≡ true → apart c (parted d fs) ≡ true
+unfolding parted
+apart-parted c d [] n h = refl
+apart-parted c d (f ∷ []) n h = and-left (apart c f) true h
+apart-parted c d (f ∷ g ∷ fs) n h =
+    every-append (λ (x : ℕ). not (eqb x c)) f (d ∷ parted d (g ∷ fs))
+    ∙ and-both (apart c f) (apart c (d ∷ parted d (g ∷ fs))) (and-left (apart c f) (every (apart c) (g ∷ fs)) h)
+    (and-both (not (eqb d c)) (apart c (parted d (g ∷ fs))) n
+    (apart-parted c d (g ∷ fs) n (and-right (apart c f) (every (apart c) (g ∷ fs)) h)))

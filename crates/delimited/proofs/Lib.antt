@@ -1,0 +1,5 @@
+pub mod Split
+pub mod Cursors
+pub mod Lines
+pub mod Numbers
+pub mod Written

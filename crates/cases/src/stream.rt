@@ -27,8 +27,20 @@ pub struct Taken {
     pub next: Cursor,
 }
 
-// The text's bytes, sizes of buffers, pairs of index and word, register words, the words and starters of runs with words, and the place
-// behind the case.
+// Two recordings of so many registers: their bytes.
+pub struct Captures {
+    pub registers: u32,
+    pub first: Region,
+    pub second: Region,
+}
+
+pub struct TakenCaptures {
+    pub captures: Captures,
+    pub next: Cursor,
+}
+
+// The text's bytes, sizes of buffers, pairs of index and word, register words, the words and starters of runs with words, two recordings,
+// and the place behind the case.
 pub struct Case {
     pub text: Region,
     pub graph: u32,
@@ -43,6 +55,7 @@ pub struct Case {
     pub cycle_budget: u32,
     pub words: Region,
     pub starters: Region,
+    pub captures: Captures,
     pub next: Cursor,
 }
 
@@ -63,8 +76,10 @@ impl Case {
     pub const WORDS: u32 = 64;
 
     pub const STARTERS: u32 = 70;
+
+    pub const CAPTURE: u32 = 4000;
     // The bytes of a case, at most.
-    pub const BYTES: usize = 21692;
+    pub const BYTES: usize = 29704;
 }
 
 fn wide(b: u8) -> u32
@@ -163,6 +178,23 @@ pub fn part(s: &[u8], at: usize, n: usize) -> &[u8] {
     &s[at..at + n]
 }
 
+fn captures_at(s: &[u8], c: Cursor) -> TakenCaptures {
+    let registers = word(s, c);
+    let first = take(s, registers.next, Case::CAPTURE, 1);
+    let second = take(s, first.next, Case::CAPTURE, 1);
+    let first_region = first.region;
+    let second_region = second.region;
+    let next = second.next;
+    TakenCaptures {
+        captures: Captures {
+            registers: registers.value,
+            first: first_region,
+            second: second_region,
+        },
+        next,
+    }
+}
+
 // The case at a place; `next` says whether it is whole.
 pub fn case_at(s: &[u8], at: usize) -> Case
     ensures { λ r. ⌜ Within r ⌝ }
@@ -180,13 +212,15 @@ pub fn case_at(s: &[u8], at: usize) -> Case
     let cycle_budget = word(s, start_state.next);
     let words = take(s, cycle_budget.next, Case::WORDS, 4);
     let starters = take(s, words.next, Case::STARTERS, 4);
+    let recordings = captures_at(s, starters.next);
     let text_region = text.region;
     let graph_region = graph_patches.region;
     let machine_region = machine_patches.region;
     let register_region = registers.region;
     let word_region = words.region;
     let starter_region = starters.region;
-    let next = starters.next;
+    let captures = recordings.captures;
+    let next = recordings.next;
     Case {
         text: text_region,
         graph: graph.value,
@@ -201,6 +235,7 @@ pub fn case_at(s: &[u8], at: usize) -> Case
         cycle_budget: cycle_budget.value,
         words: word_region,
         starters: starter_region,
+        captures,
         next,
     }
 }

@@ -1,10 +1,13 @@
 // The numbers that an answer stands for: the refusal's number, 0 for success, and its other values.
 ghost use mathlib.Core.Path.{_≡_};
 ghost use Rattle.runs.specs.Runs.{numberOf as runNumber, outcomeOf, countOf, nextOf};
+use capture::CaptureAnswer;
+use capture::Difference;
 use cfg_text::ReadAnswer;
 use cfg_write::WriteAnswer;
 use runs::RunAnswer;
 use synthesis::SynthesisAnswer;
+ghost use Rattle.capture.specs.Capture.{refusalNumber, faultyRecording, faultyLine, sharedCount, differsFlag, differingCycle};
 ghost use Rattle.cfg_text.specs.Read.{numberOf as readNumber, lineOf};
 ghost use Rattle.cfg_write.specs.Write.{numberOf as writeNumber, lengthOf};
 ghost use Rattle.compiler.specs.Answers.{synthesisNumber};
@@ -97,5 +100,67 @@ pub fn run_next(answer: RunAnswer) -> u32
         RunAnswer::Halted(_) => 255,
         RunAnswer::Spent(_, next) => next,
         RunAnswer::Dry(_, next) => next,
+    }
+}
+
+pub fn capture_number(answer: CaptureAnswer) -> u32
+    ensures { λ r. ⌜ r ≡ refusalNumber answer ⌝ }
+{
+    match answer {
+        CaptureAnswer::Refused(number, _, _) => number,
+        CaptureAnswer::Compared(_, _) => 0,
+    }
+}
+
+pub fn capture_recording(answer: CaptureAnswer) -> u32
+    ensures { λ r. ⌜ r ≡ faultyRecording answer ⌝ }
+{
+    match answer {
+        CaptureAnswer::Refused(_, recording, _) => recording,
+        CaptureAnswer::Compared(_, _) => 0,
+    }
+}
+
+pub fn capture_line(answer: CaptureAnswer) -> u64
+    ensures { λ r. ⌜ r ≡ faultyLine answer ⌝ }
+{
+    match answer {
+        CaptureAnswer::Refused(_, _, line) => line,
+        CaptureAnswer::Compared(_, _) => 0,
+    }
+}
+
+pub fn capture_shared(answer: CaptureAnswer) -> u64
+    ensures { λ r. ⌜ r ≡ sharedCount answer ⌝ }
+{
+    match answer {
+        CaptureAnswer::Refused(_, _, _) => 0,
+        CaptureAnswer::Compared(shared, _) => shared,
+    }
+}
+
+// 1 where a cycle differs, else 0.
+pub fn capture_differs(answer: CaptureAnswer) -> u32
+    ensures { λ r. ⌜ r ≡ differsFlag answer ⌝ }
+{
+    let CaptureAnswer::Compared(_, difference) = answer else {
+        return 0;
+    };
+    match difference {
+        Difference::Nowhere => 0,
+        Difference::At(_) => 1,
+    }
+}
+
+// The first cycle that differs; 0 where none does.
+pub fn capture_cycle(answer: CaptureAnswer) -> u32
+    ensures { λ r. ⌜ r ≡ differingCycle answer ⌝ }
+{
+    let CaptureAnswer::Compared(_, difference) = answer else {
+        return 0;
+    };
+    match difference {
+        Difference::Nowhere => 0,
+        Difference::At(cycle) => cycle,
     }
 }

@@ -1,4 +1,4 @@
-// The seven operations, on buffers that the caller lends. Each contract says the whole of what an operation does, on all inputs: its
+// The eight operations, on buffers that the caller lends. Each contract says the whole of what an operation does, on all inputs: its
 // answer, and what every buffer holds at the end. A refused operation leaves its buffers as they were.
 pub mod fields; // fields.rt: the numbers and values of an answer
 
@@ -7,6 +7,8 @@ ghost use mathlib.Core.List.{List};
 ghost use Prim.Native.Nat.{ℕ, _≤_};
 ghost use lib.ListN.{length, take};
 ghost use Rattle.cfg.specs.Layout.{graphWords};
+ghost use Rattle.capture.specs.Capture.{compareCaptures};
+ghost use Rattle.capture.specs.Meaning.{Means};
 ghost use Rattle.cfg_text.specs.Read.{readAnswer, readWords};
 ghost use Rattle.cfg_text.specs.declared.ReadAnswer.«the-variants».{Read};
 ghost use Rattle.cfg_write.specs.Write.{writeAnswer, writeBytes};
@@ -17,6 +19,7 @@ ghost use Rattle.synthesis.specs.declared.SynthesisAnswer.«the-variants».{Mad
 ghost use Rattle.agreement.specs.Agreement.{Agreement};
 ghost use Rattle.cfg.specs.Run.{runAnswer as graphAnswer, runRegisters as graphRegisters, wordsAnswer as graphWordsAnswer, wordsRegisters as graphWordsRegisters};
 ghost use Rattle.fsmd.specs.Run.{runAnswer as machineAnswer, runRegisters as machineRegisters, wordsAnswer as machineWordsAnswer, wordsRegisters as machineWordsRegisters};
+use capture::CaptureAnswer;
 use cfg_text::ReadAnswer;
 use cfg_write::WriteAnswer;
 use runs::RunAnswer;
@@ -92,4 +95,13 @@ pub fn run_machine_with_words(
     ensures { λ _. ⌜ now (registers .exit) ≡ machineWordsRegisters (now (machine .entry)) (now (registers .entry)) start budget (now (words .entry)) ⌝ }
 {
     fsmd::run::run_machine_with_words(machine, registers, start, budget, words)
+}
+
+// "The array's capture against the model's": two recordings of one voyage, of so many registers. The answer says which line is the first
+// faulty one, or how many cycles both hold and the lowest of them where they differ.
+pub fn compare_captures(registers: u32, first: &[u8], second: &[u8]) -> CaptureAnswer
+    ensures { λ r. ⌜ r ≡ compareCaptures registers (now (first .entry)) (now (second .entry)) ⌝ }
+    ensures { λ r. ⌜ Means registers (now (first .entry)) (now (second .entry)) r ⌝ }
+{
+    capture::compare_captures(registers, first, second)
 }

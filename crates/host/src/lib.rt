@@ -1,15 +1,17 @@
-// The seven operations as C functions: include/gutkavu.h declares them. Each returns the refusal's number, 0 for success, and sets every
+// The eight operations as C functions: include/gutkavu.h declares them. Each returns the refusal's number, 0 for success, and sets every
 // other field on every call.
+use capture::CaptureAnswer;
 use compiler::fields;
 use runs::RunAnswer;
 ghost use mathlib.Core.Path.{_≡_};
+ghost use Rattle.capture.specs.Capture.{compareCaptures};
 ghost use Rattle.cfg_text.specs.Read.{readAnswer, readWords, numberOf as readNumber, lineOf};
 ghost use Rattle.cfg_write.specs.Write.{writeAnswer, writeBytes, numberOf as writeNumber, lengthOf};
 ghost use Rattle.synthesis.specs.Synthesis.{synthesisAnswer, synthesisWords};
 ghost use Rattle.compiler.specs.Answers.{synthesisNumber};
 ghost use Rattle.cfg.specs.Run.{runAnswer as graphAnswer, runRegisters as graphRegisters, wordsAnswer as graphWordsAnswer, wordsRegisters as graphWordsRegisters};
 ghost use Rattle.fsmd.specs.Run.{runAnswer as machineAnswer, runRegisters as machineRegisters, wordsAnswer as machineWordsAnswer, wordsRegisters as machineWordsRegisters};
-ghost use Rattle.host.specs.Fields.{RunFields};
+ghost use Rattle.host.specs.Fields.{RunFields, CaptureFields};
 
 #[no_mangle]
 pub extern "C" fn gutkavu_read(text: &[u8], table: &mut [u32], line: &mut u32) -> u32
@@ -121,4 +123,40 @@ pub extern "C" fn gutkavu_run_machine_with_words(
 {
     let answer = compiler::run_machine_with_words(machine, registers, start, budget, words);
     set_run(answer, outcome, count, next)
+}
+
+// The fields of a comparison's answer.
+fn set_capture(
+    answer: CaptureAnswer,
+    recording: &mut u32,
+    line: &mut u64,
+    shared: &mut u64,
+    differs: &mut u32,
+    cycle: &mut u32,
+) -> u32
+    ensures { λ r. ⌜ CaptureFields answer r (now (recording .exit)) (now (line .exit)) (now (shared .exit)) (now (differs .exit)) (now (cycle .exit)) ⌝ }
+{
+    *recording = fields::capture_recording(answer);
+    *line = fields::capture_line(answer);
+    *shared = fields::capture_shared(answer);
+    *differs = fields::capture_differs(answer);
+    *cycle = fields::capture_cycle(answer);
+    fields::capture_number(answer)
+}
+
+#[no_mangle]
+pub extern "C" fn gutkavu_compare_captures(
+    registers: u32,
+    first: &[u8],
+    second: &[u8],
+    recording: &mut u32,
+    line: &mut u64,
+    shared: &mut u64,
+    differs: &mut u32,
+    cycle: &mut u32,
+) -> u32
+    ensures { λ r. ⌜ CaptureFields (compareCaptures registers (now (first .entry)) (now (second .entry))) r (now (recording .exit)) (now (line .exit)) (now (shared .exit)) (now (differs .exit)) (now (cycle .exit)) ⌝ }
+{
+    let answer = compiler::compare_captures(registers, first, second);
+    set_capture(answer, recording, line, shared, differs, cycle)
 }

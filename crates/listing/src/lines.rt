@@ -6,7 +6,7 @@ ghost use mathlib.Core.List.{[], _∷_};
 ghost use Prim.Native.Nat.{_≤_, _<_, _^_};
 ghost use lib.ListN.{length};
 ghost use Rattle.decimal.specs.Decimal.{decimalOf};
-ghost use Rattle.cfg_line.specs.Name.{bytes};
+ghost use Rattle.delimited.specs.Parts.{bytes};
 ghost use Rattle.cfg_write.specs.Put.{Put};
 ghost use Rattle.listing.specs.Listing.{lineOf, refusedLine};
 

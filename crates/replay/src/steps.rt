@@ -2,7 +2,9 @@
 use cases::buffers;
 use cases::buffers::store;
 use cases::digest;
+use capture::CaptureAnswer;
 use cases::stream;
+use cases::stream::Captures;
 use cases::stream::Case;
 use cases::stream::Region;
 use compiler::fields;
@@ -184,6 +186,25 @@ fn list(text: &[u8], line: &mut [u32]) {
     }
 }
 
+// Line and count are as small as the recordings.
+fn put_comparison(answer: CaptureAnswer, line: &mut [u32]) {
+    store(line, 30, fields::capture_number(answer));
+    store(line, 31, fields::capture_recording(answer));
+    store(line, 32, (fields::capture_line(answer) % 0x1_0000_0000) as u32);
+    store(line, 33, (fields::capture_shared(answer) % 0x1_0000_0000) as u32);
+    store(line, 34, fields::capture_differs(answer));
+    store(line, 35, fields::capture_cycle(answer));
+}
+
+fn compare_captures(s: &[u8], captures: Captures, line: &mut [u32]) {
+    let one = captures.first;
+    let two = captures.second;
+    let first = stream::part(s, one.at, one.count as usize);
+    let second = stream::part(s, two.at, two.count as usize);
+    let answer = compiler::compare_captures(captures.registers, first, second);
+    put_comparison(answer, line);
+}
+
 fn patch(w: &mut [u32], s: &[u8], patches: Region) {
     buffers::patch(w, s, patches.at, patches.count);
 }
@@ -207,6 +228,7 @@ fn answer_on(s: &[u8], c: Case, graph: &mut [u32], machine: &mut [u32], line: &m
     run_both(s, c, graph, machine, line);
     run_both_with_words(s, c, graph, machine, line);
     list(text_of(s, c), line);
+    compare_captures(s, c.captures, line);
 }
 
 pub fn answer(s: &[u8], c: Case, line: &mut [u32])

@@ -1,4 +1,4 @@
--- The texts of the worked examples on reading. Assumes nothing.
+-- The texts of the worked examples: graphs and recordings. Assumes nothing.
 use Prim.Native.Nat.{ℕ}
 use mathlib.Core.List.{List, [], _∷_, _++_}
 use Prim.Native.String.{String}
@@ -47,3 +47,10 @@ p7Text =
     ∷ "block,5"
     ∷ "halt"
     ∷ [])
+
+-- R-12: a recording of one register, and one of sixteen
+unfoldable pub voyage : List ℕ
+voyage = lines ("0,0,7" ∷ "2,1,8" ∷ "5,0,9" ∷ [])
+
+unfoldable pub sixteen : List ℕ
+sixteen = lines ("0,1,0,1,2,3,4,5,6,7,8,9,10,11,12,13,14,15" ∷ [])

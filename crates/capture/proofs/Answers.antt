@@ -20,7 +20,7 @@ use Rattle.capture.specs.declared.recording.Step.{Step}
 use Rattle.capture.specs.declared.recording.Step.the-variants as step
 use Rattle.capture.specs.declared.Merge.{Merge}
 use Rattle.capture.specs.Capture.{Entry, recording, faultFrom, entriesOf, Shared, shared, differs, cycleOf, judged, comparison, compareLines, compareCaptures}
-use Rattle.capture.specs.Steps.{through, linesFrom, faultAt, Within, Passed, Advanced, firstOf, noted, Ready, found, judgedAt, answerFrom, Progress}
+use Rattle.capture.specs.Steps.{through, linesFrom, start, faultAt, Within, Passed, Advanced, firstOf, noted, Ready, found, judgedAt, answerFrom, Progress}
 use Rattle.capture.proofs.Bytes.{same-words}
 use Rattle.capture.proofs.Merging.{at-fault, first-alone, second-alone, both, none-shared}
 
@@ -171,9 +171,6 @@ module _ (r : ℕ) (one two : List ℕ) (m : Merge) where
 -- the answer from here on is that of the whole
 abbrev pub Reached : ℕ → List ℕ → List ℕ → Merge → Type 0
 Reached r one two m = Ready r one two m × (answerFrom r one two m ≡ compareLines (recording r one) (recording r two))
-
-abbrev pub start : Position
-start = record { at = 0; line = 1; least = 0 }
 
 pub within-start : (text : List ℕ) → Within text start
 within-start text = record { inside = omega arith; line = omega arith }

@@ -12,11 +12,9 @@ use Rattle.runs.proofs.Tests.{and-true as both}
 use Rattle.runs.proofs.ListLaws.{same-test, same-eq, same-refl}
 use Rattle.decimal.specs.Decimal.{decimalOf}
 use Rattle.delimited.specs.Parts.{Fields, splitAt}
-use Rattle.delimited.proofs.Split.{apart}
+use Rattle.delimited.proofs.Split.{apart, same-split}
 use Rattle.delimited.proofs.Numbers.{drop-more}
-use Rattle.delimited.specs.Parts.{parted}
 use Rattle.delimited.proofs.Written.{none-some, number-written}
-use Rattle.delimited.proofs.Split.{parted-split}
 use Rattle.capture.specs.Capture.{asWord, inFront, wordsOf, Entry, asEntry, lineEntry}
 use Rattle.capture.specs.Steps.{through}
 
@@ -92,9 +90,6 @@ same-fields (suc n) (f ∷ fs) (g ∷ gs) ws e h =
     let i = same-fields n fs gs (a .rest) (a .others) (b .others ∙ ap some vs) in
     let j : f ≡ g = f-is ∙ ap decimalOf v ∙ sym g-is in
     cc
-
-same-split : (c : ℕ) (s t : List ℕ) → splitAt c s ≡ splitAt c t → s ≡ t
-same-split c s t e = sym (parted-split c s) ∙ ap (parted c) e ∙ parted-split c t
 
 entry-words : (o : Option (List ℕ)) (e : Entry) → asEntry o ≡ some e → o ≡ some (e .cycle ∷ e .words)
 entry-words none e h = none-some e h

@@ -49,6 +49,10 @@ linesFrom r text p = recording r (drop (p .at) text)
 abbrev pub faultAt : ℕ → List ℕ → Position → Fault
 faultAt r text p = faultFrom (p .least) (p .line) (linesFrom r text p)
 
+-- before the first line
+abbrev pub start : Position
+start = record { at = 0; line = 1; least = 0 }
+
 pub record Within (text : List ℕ) (p : Position) : Type 0 where
   pub inside : p .at ≤ length text
   pub line : p .line ≤ p .at + 1

@@ -141,6 +141,9 @@ parted-split c (x ∷ xs) = go (eqb x c) refl (parted-split c xs)
     go true e i = let q = eqb-true x c e in parted-empty c xs ∙ cc
     go false e i = parted-onto c x (splitAt c xs) ∙ ap (λ (l : List ℕ). x ∷ l) i
 
+pub same-split : (c : ℕ) (s t : List ℕ) → splitAt c s ≡ splitAt c t → s ≡ t
+same-split c s t e = sym (parted-split c s) ∙ ap (parted c) e ∙ parted-split c t
+
 -- ---- one part in front
 
 pub parted-more : (c : ℕ) (f : List ℕ) (fs : List (List ℕ)) (g : List ℕ) → parted c (f ∷ (fs ++ (g ∷ []))) ≡ f ++ (c ∷ parted c (fs ++ (g ∷ [])))

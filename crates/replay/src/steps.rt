@@ -1,8 +1,8 @@
 // The operations of a case in order, each with its fields of the answer line.
+use capture::CaptureAnswer;
 use cases::buffers;
 use cases::buffers::store;
 use cases::digest;
-use capture::CaptureAnswer;
 use cases::stream;
 use cases::stream::Captures;
 use cases::stream::Case;
@@ -190,8 +190,16 @@ fn list(text: &[u8], line: &mut [u32]) {
 fn put_comparison(answer: CaptureAnswer, line: &mut [u32]) {
     store(line, 30, fields::capture_number(answer));
     store(line, 31, fields::capture_recording(answer));
-    store(line, 32, (fields::capture_line(answer) % 0x1_0000_0000) as u32);
-    store(line, 33, (fields::capture_shared(answer) % 0x1_0000_0000) as u32);
+    store(
+        line,
+        32,
+        (fields::capture_line(answer) % 0x1_0000_0000) as u32,
+    );
+    store(
+        line,
+        33,
+        (fields::capture_shared(answer) % 0x1_0000_0000) as u32,
+    );
     store(line, 34, fields::capture_differs(answer));
     store(line, 35, fields::capture_cycle(answer));
 }

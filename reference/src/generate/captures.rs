@@ -18,7 +18,7 @@ fn length(random: &mut Random) -> usize {
 
 fn register_count(random: &mut Random) -> usize {
     let any = random.between(1, 16);
-    random.pick(&[1, 1, 1, 2, 2, 2, 3, 4, 15, 16, any])
+    random.pick(&[1, 1, 1, 2, 2, 2, 3, 4, 15, 16, any, any, any])
 }
 
 /// The run of the case's own machine, where it has one, or an invented voyage.

@@ -55,6 +55,11 @@ fn every_refusal_is_hit() {
             assert_eq!(hits > 4, numbers.contains(&number), "{counted:?} {number}: {hits}");
         }
     }
+}
+
+#[test]
+fn what_matters_most_is_hit_often() {
+    let stats = Stats::of(&cases(1, 4_500));
     let many = [
         (Counted::RunGraph, 0, 1_000),
         (Counted::RunMachine, 0, 1_000),

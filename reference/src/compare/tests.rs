@@ -2,7 +2,7 @@
 
 use super::check::{capture_fields, check, run_fields, words_fields};
 use super::lent::{Differing, Element, Lent};
-use super::library::{padded, Fields, Library, Operation};
+use super::library::{padded, Fields, Library, Operation, Proved};
 use super::{compare, named, outcome, tally_all};
 use crate::tally::MOST_REPORTS;
 use reference::case::{Captures, Case};
@@ -290,6 +290,21 @@ fn differences_of_captures_are_reported() {
     assert_eq!(answers.count(), MOST_REPORTS + 1);
     for name in ["recording", "line", "shared", "differs", "cycle"] {
         assert!(text.contains(&format!(", {name} ")), "{name}");
+    }
+}
+
+/// Recordings have any length; those of a stream are short.
+#[test]
+fn long_captures_are_the_same() {
+    let lines = |step: usize| -> Vec<u8> {
+        let line = |cycle: usize| format!("{cycle},{},5\n", cycle % 9);
+        (0..100_000).step_by(step).map(line).collect::<String>().into_bytes()
+    };
+    let mut case = p7();
+    for end in ["", "99999,0,6\n", "5,0,5\n", "100000,0,05\n", "100000"] {
+        let second = [&lines(3)[..], end.as_bytes()].concat();
+        case.captures = Captures { registers: 1, first: lines(1), second };
+        assert!(check(&case, &Proved).iter().all(|one| one.same()), "{end}");
     }
 }
 

@@ -148,9 +148,8 @@ pub fn captures(random: &mut Random, case: &Case) -> Captures {
     let rows = voyage(random, case);
     let right = rows.first().map_or(1, |row| row.len() as u32 - 2);
     let pair = rows_of_pair(random, &rows);
-    let faulty = random.percent(25);
     let mut texts = pair.map(|rows| voyages::text_of(&rows));
-    if faulty {
+    if random.percent(25) {
         capture_damage::damage(random, &mut texts);
     }
     let registers = match random.below(100) {

@@ -1,10 +1,10 @@
-//! The answer to a case: ten steps, and one line of numbers.
+//! The answer to a case: eleven steps, and one line of numbers.
 
-use crate::case::{Case, Patch};
+use crate::case::{Captures, Case, Patch};
 use crate::listing::listing;
 use crate::operations::{
-    read, run_graph, run_graph_with_words, run_machine, run_machine_with_words, synthesise, write,
-    ReadAnswer, RunAnswer, WordsRunAnswer, WriteAnswer,
+    compare_captures, read, run_graph, run_graph_with_words, run_machine, run_machine_with_words,
+    synthesise, write, CaptureAnswer, ReadAnswer, RunAnswer, WordsRunAnswer, WriteAnswer,
 };
 
 /// What a run answered, and the digest of its registers after.
@@ -28,6 +28,7 @@ pub struct Answer {
     pub run_machine_with_words: Ran<WordsRunAnswer>,
     pub listing_length: usize,
     pub listing_digest: u64,
+    pub captures: CaptureAnswer,
 }
 
 /// A number that depends on every number of a sequence and on its length.
@@ -72,6 +73,11 @@ fn ran<A>(case: &Case, run: impl FnOnce(&mut [u32]) -> A) -> Ran<A> {
     Ran { answer, registers: digest(&registers) }
 }
 
+fn captures(case: &Case) -> CaptureAnswer {
+    let Captures { registers, first, second } = &case.captures;
+    compare_captures(*registers, first, second)
+}
+
 pub fn answer(case: &Case) -> Answer {
     let mut graph = fresh_words(case.graph_length);
     let read = read(&case.text, &mut graph);
@@ -104,6 +110,7 @@ pub fn answer(case: &Case) -> Answer {
         }),
         listing_length: listing.len(),
         listing_digest: digest(listing.as_bytes()),
+        captures: captures(case),
     }
 }
 
@@ -115,6 +122,11 @@ fn run_fields(ran: &Ran<RunAnswer>) -> [u64; 5] {
 fn words_run_fields(ran: &Ran<WordsRunAnswer>) -> [u64; 5] {
     let WordsRunAnswer { number, outcome, count, next } = ran.answer;
     [number.into(), outcome.into(), count.into(), next.into(), ran.registers]
+}
+
+fn capture_fields(answer: CaptureAnswer) -> [u64; 6] {
+    let CaptureAnswer { number, recording, line, shared, differs, cycle } = answer;
+    [number.into(), recording.into(), line, shared, differs.into(), cycle.into()]
 }
 
 impl Answer {
@@ -135,6 +147,7 @@ impl Answer {
         fields.extend(words_run_fields(&self.run_graph_with_words));
         fields.extend(words_run_fields(&self.run_machine_with_words));
         fields.extend([self.listing_length as u64, self.listing_digest]);
+        fields.extend(capture_fields(self.captures));
         let printed: Vec<String> = fields.iter().map(u64::to_string).collect();
         printed.join(",")
     }

@@ -8,9 +8,18 @@ pub const MAX_REGISTER_BUFFER: usize = 20;
 pub const MAX_PATCHES: usize = 64;
 pub const MAX_WORDS: usize = 64;
 pub const MAX_STARTERS: usize = 70;
+pub const MAX_RECORDING: usize = 4_000;
 
 /// A place in a buffer and the word put there.
 pub type Patch = (u32, u32);
+
+/// Two recordings that are compared, and the number of registers given with them.
+#[derive(Clone, Debug, PartialEq, Eq)]
+pub struct Captures {
+    pub registers: u32,
+    pub first: Vec<u8>,
+    pub second: Vec<u8>,
+}
 
 #[derive(Clone, Debug, PartialEq, Eq)]
 pub struct Case {
@@ -27,10 +36,12 @@ pub struct Case {
     pub cycle_budget: u32,
     pub words: Vec<u32>,
     pub starters: Vec<u32>,
+    pub captures: Captures,
 }
 
 impl Case {
-    /// A case with exact buffers, no damage, small budgets and a word for each cycle.
+    /// A case with exact buffers, no damage, small budgets, a word for each cycle and recordings
+    /// of nothing.
     pub fn plain(text: &[u8]) -> Case {
         Case {
             text: text.to_vec(),
@@ -46,12 +57,12 @@ impl Case {
             cycle_budget: 20,
             words: (1..=20).collect(),
             starters: vec![0],
+            captures: Captures { registers: 1, first: Vec::new(), second: Vec::new() },
         }
     }
 
     pub fn append_to(&self, stream: &mut Vec<u8>) {
-        put(stream, self.text.len() as u32);
-        stream.extend(&self.text);
+        put_bytes(stream, &self.text);
         put(stream, self.graph_length);
         put_patches(stream, &self.graph_patches);
         put(stream, self.output_length);
@@ -64,11 +75,19 @@ impl Case {
         put(stream, self.cycle_budget);
         put_list(stream, &self.words);
         put_list(stream, &self.starters);
+        put(stream, self.captures.registers);
+        put_bytes(stream, &self.captures.first);
+        put_bytes(stream, &self.captures.second);
     }
 }
 
 fn put(stream: &mut Vec<u8>, word: u32) {
     stream.extend(word.to_le_bytes());
+}
+
+fn put_bytes(stream: &mut Vec<u8>, bytes: &[u8]) {
+    put(stream, bytes.len() as u32);
+    stream.extend(bytes);
 }
 
 fn put_list(stream: &mut Vec<u8>, words: &[u32]) {
@@ -90,20 +109,25 @@ pub struct Stream<'a> {
 }
 
 impl<'a> Stream<'a> {
-    fn bytes(&mut self, length: usize) -> Option<&'a [u8]> {
+    fn take(&mut self, length: usize) -> Option<&'a [u8]> {
         let taken = self.rest.get(..length)?;
         self.rest = &self.rest[length..];
         Some(taken)
     }
 
     fn word(&mut self) -> Option<u32> {
-        let bytes: [u8; 4] = self.bytes(4)?.try_into().ok()?;
+        let bytes: [u8; 4] = self.take(4)?.try_into().ok()?;
         Some(u32::from_le_bytes(bytes))
     }
 
     /// A word that counts something and has a limit.
     fn count(&mut self, limit: usize) -> Option<u32> {
         self.word().filter(|&count| count as usize <= limit)
+    }
+
+    fn bytes(&mut self, limit: usize) -> Option<Vec<u8>> {
+        let count = self.count(limit)?;
+        Some(self.take(count as usize)?.to_vec())
     }
 
     fn patches(&mut self) -> Option<Vec<Patch>> {
@@ -116,10 +140,17 @@ impl<'a> Stream<'a> {
         (0..count).map(|_| self.word()).collect()
     }
 
+    fn captures(&mut self) -> Option<Captures> {
+        Some(Captures {
+            registers: self.word()?,
+            first: self.bytes(MAX_RECORDING)?,
+            second: self.bytes(MAX_RECORDING)?,
+        })
+    }
+
     fn case(&mut self) -> Option<Case> {
-        let length = self.count(MAX_CASE_TEXT)?;
         Some(Case {
-            text: self.bytes(length as usize)?.to_vec(),
+            text: self.bytes(MAX_CASE_TEXT)?,
             graph_length: self.count(MAX_GRAPH_BUFFER)?,
             graph_patches: self.patches()?,
             output_length: self.count(MAX_OUTPUT_BUFFER)?,
@@ -132,6 +163,7 @@ impl<'a> Stream<'a> {
             cycle_budget: self.word()?,
             words: self.list(MAX_WORDS)?,
             starters: self.list(MAX_STARTERS)?,
+            captures: self.captures()?,
         })
     }
 }

@@ -15,11 +15,12 @@ use reference::generate::Cases;
 /// So many cases hit every number that the papers name, and every outcome.
 const CASES_FOR_ALL: usize = 2_000;
 
-/// What a case hits: a number that an operation answers, 0 included, or how a run with words ends.
+/// What a case hits: a number that an operation answers, 0 included, or an outcome: how a run with
+/// words ends, or what a comparison of captures finds.
 #[derive(Clone, Copy, Debug, PartialEq, Eq, PartialOrd, Ord)]
 enum Hit {
-    Number(Operation, u32),
-    Outcome(Operation, u32),
+    Number(Operation, u64),
+    Outcome(Operation, u64),
 }
 
 impl Hit {
@@ -34,9 +35,9 @@ impl Hit {
 }
 
 fn count_hits(tally: &mut Tally<Hit>, compared: &Compared) {
-    let (operation, [number, outcome, ..]) = (compared.operation, compared.found);
-    tally.count(Hit::Number(operation, number), 1);
-    if number == 0 && !operation.outcomes().is_empty() {
+    let operation = compared.operation;
+    tally.count(Hit::Number(operation, compared.found[0]), 1);
+    if let Some(outcome) = operation.outcome(compared.found) {
         tally.count(Hit::Outcome(operation, outcome), 1);
     }
 }

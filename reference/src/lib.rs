@@ -1,7 +1,8 @@
-//! The second program: graph text, synthesis, two interpreters and a listing.
+//! The second program: graph text, synthesis, two interpreters, a listing, captures compared.
 
 pub mod answer;
 pub mod block_set;
+pub mod capture;
 pub mod case;
 pub mod fit;
 pub mod generate;

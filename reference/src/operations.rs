@@ -1,6 +1,7 @@
-//! The seven operations on lent buffers, with their refusal numbers.
+//! The eight operations on lent buffers, with their refusal numbers.
 
 use crate::block_set::BlockSet;
+use crate::capture::{self, Fault, Findings};
 use crate::graph::{Graph, MAX_REGISTERS};
 use crate::graph_table::{self, GRAPH_WORDS};
 use crate::machine::Machine;
@@ -61,6 +62,30 @@ impl WordsRunAnswer {
             }
             Err(number) => WordsRunAnswer { number, outcome: 0, count: 0, next: 0 },
         }
+    }
+}
+
+/// The fields that a comparison of two recordings answers; the cycle is 0 where none differs.
+#[derive(Clone, Copy, Debug, PartialEq, Eq)]
+pub struct CaptureAnswer {
+    pub number: u32,
+    pub recording: u32,
+    pub line: u64,
+    pub shared: u64,
+    pub differs: bool,
+    pub cycle: u32,
+}
+
+impl CaptureAnswer {
+    fn compared(findings: Findings) -> CaptureAnswer {
+        let Findings { shared, differs_at } = findings;
+        let (differs, cycle) = (differs_at.is_some(), differs_at.unwrap_or(0));
+        CaptureAnswer { number: 0, recording: 0, line: 0, shared, differs, cycle }
+    }
+
+    fn refused(fault: Fault) -> CaptureAnswer {
+        let Fault { recording, line, number } = fault;
+        CaptureAnswer { number, recording, line, shared: 0, differs: false, cycle: 0 }
     }
 }
 
@@ -223,4 +248,11 @@ pub fn run_machine_with_words(
     words: &[u32],
 ) -> WordsRunAnswer {
     WordsRunAnswer::of(machine_with_words(table, registers, start, budget, words))
+}
+
+pub fn compare_captures(registers: u32, first: &[u8], second: &[u8]) -> CaptureAnswer {
+    match capture::compare(registers, first, second) {
+        Ok(findings) => CaptureAnswer::compared(findings),
+        Err(fault) => CaptureAnswer::refused(fault),
+    }
 }

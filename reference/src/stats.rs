@@ -1,7 +1,9 @@
-//! How many cases hit each refusal number of each operation, and each outcome of a run.
+//! How many cases hit each refusal number of each operation, each outcome of a run, and each of a
+//! comparison of captures.
 
 use crate::answer::{answer, Answer};
 use crate::case::Case;
+use crate::operations::CaptureAnswer;
 use std::collections::BTreeMap;
 
 /// What is counted, in the order of printing.
@@ -14,10 +16,12 @@ pub enum Counted {
     RunMachine,
     RunGraphWithWords,
     RunMachineWithWords,
+    CompareCaptures,
     GraphHalted,
     MachineHalted,
     GraphOutcome,
     MachineOutcome,
+    CaptureOutcome,
     WriteOfPatched,
     RunOfPatched,
     WordsRunOfPatched,
@@ -33,15 +37,22 @@ impl Counted {
             Counted::RunMachine => "run machine",
             Counted::RunGraphWithWords => "run graph with words",
             Counted::RunMachineWithWords => "run machine with words",
+            Counted::CompareCaptures => "compare captures",
             Counted::GraphHalted => "graph halted",
             Counted::MachineHalted => "machine halted",
             Counted::GraphOutcome => "graph outcome with words",
             Counted::MachineOutcome => "machine outcome with words",
+            Counted::CaptureOutcome => "outcome of captures",
             Counted::WriteOfPatched => "write of a patched graph",
             Counted::RunOfPatched => "run of a patched machine",
             Counted::WordsRunOfPatched => "run with words of a patched machine",
         }
     }
+}
+
+/// 0 where two captures share no cycle, 1 where no shared one differs, 2 where one does.
+fn capture_outcome(answer: CaptureAnswer) -> u32 {
+    u32::from(answer.shared > 0) + u32::from(answer.differs)
 }
 
 /// Counts by what is counted and its number or outcome.
@@ -59,6 +70,7 @@ impl Stats {
         let (graph, machine) = (answer.run_graph.answer, answer.run_machine.answer);
         let graph_words = answer.run_graph_with_words.answer;
         let machine_words = answer.run_machine_with_words.answer;
+        let captures = answer.captures;
         self.count(Counted::Read, answer.read.number);
         self.count(Counted::Write, answer.write.number);
         self.count(Counted::Synthesise, answer.synthesise);
@@ -66,11 +78,13 @@ impl Stats {
         self.count(Counted::RunMachine, machine.number);
         self.count(Counted::RunGraphWithWords, graph_words.number);
         self.count(Counted::RunMachineWithWords, machine_words.number);
+        self.count(Counted::CompareCaptures, captures.number);
         let outcomes = [
             (Counted::GraphHalted, graph.number, u32::from(graph.halted)),
             (Counted::MachineHalted, machine.number, u32::from(machine.halted)),
             (Counted::GraphOutcome, graph_words.number, graph_words.outcome),
             (Counted::MachineOutcome, machine_words.number, machine_words.outcome),
+            (Counted::CaptureOutcome, captures.number, capture_outcome(captures)),
         ];
         for (counted, _, outcome) in outcomes.into_iter().filter(|&(_, number, _)| number == 0) {
             self.count(counted, outcome);

@@ -1,7 +1,7 @@
 //! The case stream: its form, its size, and what its cases hit.
 
 use reference::answer::{answer, digest, Answer};
-use reference::case::{read_cases, Case};
+use reference::case::{read_cases, Captures, Case};
 use reference::generate::cases;
 use reference::grouping::group;
 use reference::operations::WordsRunAnswer;
@@ -39,7 +39,7 @@ fn the_same_seed_makes_the_same_cases() {
 #[test]
 fn every_refusal_is_hit() {
     let stats = Stats::of(&cases(1, 4_500));
-    let expected: [(Counted, &[u32]); 7] = [
+    let expected: [(Counted, &[u32]); 8] = [
         (Counted::Read, &[0, 1, 2, 3, 4, 5, 7]),
         (Counted::Write, &[0, 6, 7, 8]),
         (Counted::Synthesise, &[0, 6, 7]),
@@ -47,13 +47,19 @@ fn every_refusal_is_hit() {
         (Counted::RunMachine, &[0, 7, 9, 10, 12]),
         (Counted::RunGraphWithWords, &[0, 6, 7, 9, 11]),
         (Counted::RunMachineWithWords, &[0, 7, 9, 10]),
+        (Counted::CompareCaptures, &[0, 17, 18]),
     ];
     for (counted, numbers) in expected {
-        for number in 0..16 {
+        for number in 0..20 {
             let hits = stats.get(counted, number);
             assert_eq!(hits > 4, numbers.contains(&number), "{counted:?} {number}: {hits}");
         }
     }
+}
+
+#[test]
+fn what_matters_most_is_hit_often() {
+    let stats = Stats::of(&cases(1, 4_500));
     let many = [
         (Counted::RunGraph, 0, 1_000),
         (Counted::RunMachine, 0, 1_000),
@@ -63,11 +69,14 @@ fn every_refusal_is_hit() {
         (Counted::WordsRunOfPatched, 0, 100),
         (Counted::WriteOfPatched, 0, 30),
         (Counted::WriteOfPatched, 6, 100),
+        (Counted::CompareCaptures, 0, 2_500),
+        (Counted::CompareCaptures, 17, 500),
+        (Counted::CompareCaptures, 18, 200),
     ];
     for (counted, number, least) in many {
         assert!(stats.get(counted, number) > least, "{counted:?} {number}");
     }
-    for counted in [Counted::GraphOutcome, Counted::MachineOutcome] {
+    for counted in [Counted::GraphOutcome, Counted::MachineOutcome, Counted::CaptureOutcome] {
         for outcome in 0..3 {
             assert!(stats.get(counted, outcome) > 400, "{counted:?} {outcome}");
         }
@@ -117,7 +126,7 @@ fn many_cases_go_dry_together() {
 fn stored_cases_stay_small() {
     let mut stream = Vec::new();
     stored().iter().for_each(|(case, _)| case.append_to(&mut stream));
-    assert!(stream.len() < 3_500_000, "{}", stream.len());
+    assert!(stream.len() < 4_300_000, "{}", stream.len());
 }
 
 #[test]
@@ -128,9 +137,57 @@ fn digests() {
 }
 
 #[test]
-fn answer_lines_have_thirty_fields() {
+fn answer_lines_have_thirty_six_fields() {
     for case in cases(8, 40) {
-        assert_eq!(answer(&case).line().split(',').count(), 30);
+        assert_eq!(answer(&case).line().split(',').count(), 36);
+    }
+}
+
+/// The last six fields are those of the captures, behind the listing's two.
+#[test]
+fn captures_end_the_line() {
+    let mut case = Case::plain(b"");
+    let end = |case: &Case| {
+        let line = answer(case).line();
+        let fields: Vec<&str> = line.split(',').collect();
+        fields[28..].join(",")
+    };
+    let listed = format!("12,{}", digest(b"refused,3,1\n"));
+    assert_eq!(end(&case), format!("{listed},0,0,0,0,0,0"));
+    let recorded = |first: &[u8], second: &[u8]| Captures {
+        registers: 1,
+        first: first.to_vec(),
+        second: second.to_vec(),
+    };
+    case.captures = recorded(b"1,0,5\n7,0,5\n", b"1,0,5\n7,0,6\n");
+    assert_eq!(end(&case), format!("{listed},0,0,0,2,1,7"));
+    case.captures = recorded(b"1,0,5\n", b"1,0,5\n1,0,5\n");
+    assert_eq!(end(&case), format!("{listed},18,2,2,0,0,0"));
+}
+
+/// Behind the lists stand R and both recordings, of at most 4,000 bytes each.
+#[test]
+fn recordings_end_the_case() {
+    let mut case = Case::plain(b"");
+    let (first, second) = (vec![7; 4_000], vec![8; 4_000]);
+    case.captures = Captures { registers: u32::MAX, first, second };
+    let mut stream = Vec::new();
+    case.append_to(&mut stream);
+    let end: Vec<u8> = [255; 4]
+        .into_iter()
+        .chain([160, 15, 0, 0])
+        .chain([7; 4_000])
+        .chain([160, 15, 0, 0])
+        .chain([8; 4_000])
+        .collect();
+    assert!(stream.ends_with(&end));
+    assert_eq!(read_cases(&stream), Ok(vec![case.clone()]));
+    for long in [0, 1] {
+        let mut case = case.clone();
+        [&mut case.captures.first, &mut case.captures.second][long].push(9);
+        let mut stream = Vec::new();
+        case.append_to(&mut stream);
+        assert_eq!(read_cases(&stream), Err(0));
     }
 }
 

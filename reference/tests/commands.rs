@@ -60,6 +60,8 @@ fn compare() {
     assert!(text.ends_with("seed 3: 2000 cases, 0 differ\n"), "{text}");
     assert!(text.contains("run machine,10,"), "{text}");
     assert!(text.contains("outcome of run graph with words,2,"), "{text}");
+    assert!(text.contains("compare captures,18,"), "{text}");
+    assert!(text.contains("outcome of compare captures,2,"), "{text}");
 }
 
 /// The proved library's starters are the least fit set, and every count is above 0.

@@ -1,10 +1,10 @@
 //! One case by this program and by a library, operation for operation.
 
 use super::lent::{Differing, Lent};
-use super::library::{Fields, Library, Operation};
+use super::library::{padded, Fields, Library, Operation};
 use reference::answer::{fresh_bytes, fresh_words, patch};
-use reference::case::Case;
-use reference::operations::{self, RunAnswer, WordsRunAnswer};
+use reference::case::{Captures, Case};
+use reference::operations::{self, CaptureAnswer, RunAnswer, WordsRunAnswer};
 
 /// What an operation answered, and the first place of its buffers that differs. The buffers have
 /// the same words before it in both programs, so one difference does not bring about others.
@@ -27,7 +27,7 @@ fn read(library: &impl Library, text: &[u8], graph: &mut [u32]) -> Compared {
     let answer = operations::read(text, graph);
     Compared {
         operation: Operation::Read,
-        expected: [answer.number, answer.line, 0, 0],
+        expected: padded(&[answer.number, answer.line]),
         found,
         differing: (lent_text.differing("text", text))
             .or_else(|| lent_graph.differing("graph table", graph)),
@@ -40,7 +40,7 @@ fn write(library: &impl Library, graph: &[u32], output: &mut [u8]) -> Compared {
     let answer = operations::write(graph, output);
     Compared {
         operation: Operation::Write,
-        expected: [answer.number, answer.length, 0, 0],
+        expected: padded(&[answer.number, answer.length]),
         found,
         differing: (lent_graph.differing("graph table", graph))
             .or_else(|| lent_output.differing("output", output)),
@@ -52,15 +52,15 @@ fn synthesise(library: &impl Library, graph: &[u32], machine: &mut [u32]) -> Com
     let found = library.synthesise(&mut lent_graph, &mut lent_machine);
     Compared {
         operation: Operation::Synthesise,
-        expected: [operations::synthesise(graph, machine), 0, 0, 0],
+        expected: padded(&[operations::synthesise(graph, machine)]),
         found,
         differing: (lent_graph.differing("graph table", graph))
             .or_else(|| lent_machine.differing("machine table", machine)),
     }
 }
 
-fn run_fields(answer: RunAnswer) -> Fields {
-    [answer.number, u32::from(answer.halted), answer.count, answer.next]
+pub fn run_fields(answer: RunAnswer) -> Fields {
+    padded(&[answer.number, u32::from(answer.halted), answer.count, answer.next])
 }
 
 fn run_graph(library: &impl Library, graph: &[u32], case: &Case) -> Compared {
@@ -91,8 +91,8 @@ fn run_machine(library: &impl Library, machine: &[u32], case: &Case) -> Compared
     }
 }
 
-fn words_fields(answer: WordsRunAnswer) -> Fields {
-    [answer.number, answer.outcome, answer.count, answer.next]
+pub fn words_fields(answer: WordsRunAnswer) -> Fields {
+    padded(&[answer.number, answer.outcome, answer.count, answer.next])
 }
 
 fn run_graph_with_words(library: &impl Library, graph: &[u32], case: &Case) -> Compared {
@@ -136,8 +136,26 @@ fn run_machine_with_words(library: &impl Library, machine: &[u32], case: &Case) 
     }
 }
 
-/// The seven operations on a case, each on the buffers that this program made so far.
-pub fn check(case: &Case, library: &impl Library) -> [Compared; 7] {
+pub fn capture_fields(answer: CaptureAnswer) -> Fields {
+    let CaptureAnswer { number, recording, line, shared, differs, cycle } = answer;
+    [number.into(), recording.into(), line, shared, differs.into(), cycle.into()]
+}
+
+fn compare_captures(library: &impl Library, captures: &Captures) -> Compared {
+    let Captures { registers, first, second } = captures;
+    let (mut lent_first, mut lent_second) = (Lent::new(first), Lent::new(second));
+    let found = library.compare_captures(*registers, &mut lent_first, &mut lent_second);
+    Compared {
+        operation: Operation::CompareCaptures,
+        expected: capture_fields(operations::compare_captures(*registers, first, second)),
+        found,
+        differing: (lent_first.differing("first recording", first))
+            .or_else(|| lent_second.differing("second recording", second)),
+    }
+}
+
+/// The eight operations on a case, each on the buffers that this program made so far.
+pub fn check(case: &Case, library: &impl Library) -> [Compared; 8] {
     let mut graph = fresh_words(case.graph_length);
     let read = read(library, &case.text, &mut graph);
     patch(&mut graph, &case.graph_patches);
@@ -153,5 +171,6 @@ pub fn check(case: &Case, library: &impl Library) -> [Compared; 7] {
         run_machine(library, &machine, case),
         run_graph_with_words(library, &graph, case),
         run_machine_with_words(library, &machine, case),
+        compare_captures(library, &case.captures),
     ]
 }

@@ -1,7 +1,7 @@
 //! The operations of a library that is compared with this program.
 
 use super::lent::Lent;
-use gutkavu::operations::{self, RunFields, RunWithWordsFields};
+use gutkavu::operations::{self, CaptureFields, RunFields, RunWithWordsFields};
 
 #[derive(Clone, Copy, Debug, PartialEq, Eq, PartialOrd, Ord)]
 pub enum Operation {
@@ -12,10 +12,11 @@ pub enum Operation {
     RunMachine,
     RunGraphWithWords,
     RunMachineWithWords,
+    CompareCaptures,
 }
 
 impl Operation {
-    pub const ALL: [Operation; 7] = [
+    pub const ALL: [Operation; 8] = [
         Operation::Read,
         Operation::Write,
         Operation::Synthesise,
@@ -23,6 +24,7 @@ impl Operation {
         Operation::RunMachine,
         Operation::RunGraphWithWords,
         Operation::RunMachineWithWords,
+        Operation::CompareCaptures,
     ];
 
     pub fn name(self) -> &'static str {
@@ -34,6 +36,7 @@ impl Operation {
             Operation::RunMachine => "run machine",
             Operation::RunGraphWithWords => "run graph with words",
             Operation::RunMachineWithWords => "run machine with words",
+            Operation::CompareCaptures => "compare captures",
         }
     }
 
@@ -47,11 +50,14 @@ impl Operation {
             Operation::RunGraphWithWords | Operation::RunMachineWithWords => {
                 &["number", "outcome", "count", "next"]
             }
+            Operation::CompareCaptures => {
+                &["number", "recording", "line", "shared", "differs", "cycle"]
+            }
         }
     }
 
     /// The numbers that the papers name for it, 0 being success.
-    pub fn numbers(self) -> &'static [u32] {
+    pub fn numbers(self) -> &'static [u64] {
         match self {
             Operation::Read => &[0, 1, 2, 3, 4, 5, 7],
             Operation::Write => &[0, 6, 7, 8],
@@ -60,20 +66,40 @@ impl Operation {
             Operation::RunMachine => &[0, 7, 9, 10, 12],
             Operation::RunGraphWithWords => &[0, 6, 7, 9, 11],
             Operation::RunMachineWithWords => &[0, 7, 9, 10],
+            Operation::CompareCaptures => &[0, 17, 18],
         }
     }
 
-    /// The outcomes that it tells apart: spent, halted, dry.
-    pub fn outcomes(self) -> &'static [u32] {
+    /// The outcomes that it tells apart: spent, halted, dry; or nothing shared, no shared cycle
+    /// differing, one differing.
+    pub fn outcomes(self) -> &'static [u64] {
         match self {
-            Operation::RunGraphWithWords | Operation::RunMachineWithWords => &[0, 1, 2],
+            Operation::RunGraphWithWords
+            | Operation::RunMachineWithWords
+            | Operation::CompareCaptures => &[0, 1, 2],
             _ => &[],
+        }
+    }
+
+    /// Which of them an answer gives that is no refusal.
+    pub fn outcome(self, fields: Fields) -> Option<u64> {
+        let [number, outcome, _, shared, differs, _] = fields;
+        match self {
+            _ if number != 0 => None,
+            Operation::RunGraphWithWords | Operation::RunMachineWithWords => Some(outcome),
+            Operation::CompareCaptures => Some(shared.min(1) + differs),
+            _ => None,
         }
     }
 }
 
 /// The fields of an answer, in their order; 0 where an operation has fewer.
-pub type Fields = [u32; 4];
+pub type Fields = [u64; 6];
+
+/// Up to six fields of 32 bits.
+pub fn padded(words: &[u32]) -> Fields {
+    std::array::from_fn(|index| words.get(index).map_or(0, |&word| word.into()))
+}
 
 /// Every buffer is lent with its guards, so that a test can change what should be left alone.
 pub trait Library: Sync {
@@ -111,32 +137,43 @@ pub trait Library: Sync {
         budget: u32,
         words: &mut Lent<u32>,
     ) -> Fields;
+    fn compare_captures(
+        &self,
+        registers: u32,
+        first: &mut Lent<u8>,
+        second: &mut Lent<u8>,
+    ) -> Fields;
 }
 
 /// The proved library.
 pub struct Proved;
 
 fn run_fields(fields: RunFields) -> Fields {
-    [fields.number, fields.halted, fields.count, fields.next]
+    padded(&[fields.number, fields.halted, fields.count, fields.next])
 }
 
 fn words_fields(fields: RunWithWordsFields) -> Fields {
-    [fields.number, fields.outcome, fields.count, fields.next]
+    padded(&[fields.number, fields.outcome, fields.count, fields.next])
+}
+
+fn capture_fields(fields: CaptureFields) -> Fields {
+    let CaptureFields { number, recording, line, shared, differs, cycle } = fields;
+    [number.into(), recording.into(), line, shared, differs.into(), cycle.into()]
 }
 
 impl Library for Proved {
     fn read(&self, text: &mut Lent<u8>, graph: &mut Lent<u32>) -> Fields {
         let fields = operations::read(text.body(), graph.body_mut());
-        [fields.number, fields.line, 0, 0]
+        padded(&[fields.number, fields.line])
     }
 
     fn write(&self, graph: &mut Lent<u32>, output: &mut Lent<u8>) -> Fields {
         let fields = operations::write(graph.body(), output.body_mut());
-        [fields.number, fields.length, 0, 0]
+        padded(&[fields.number, fields.length])
     }
 
     fn synthesise(&self, graph: &mut Lent<u32>, machine: &mut Lent<u32>) -> Fields {
-        [operations::synthesise(graph.body(), machine.body_mut()), 0, 0, 0]
+        padded(&[operations::synthesise(graph.body(), machine.body_mut())])
     }
 
     fn run_graph(
@@ -183,5 +220,13 @@ impl Library for Proved {
     ) -> Fields {
         let (table, copy) = (machine.body(), registers.body_mut());
         words_fields(operations::run_machine_with_words(table, copy, start, budget, words.body()))
+    }
+    fn compare_captures(
+        &self,
+        registers: u32,
+        first: &mut Lent<u8>,
+        second: &mut Lent<u8>,
+    ) -> Fields {
+        capture_fields(operations::compare_captures(registers, first.body(), second.body()))
     }
 }

@@ -2,7 +2,7 @@
 
 use super::check::Compared;
 use super::library::{Fields, Operation};
-use reference::case::{Case, Patch};
+use reference::case::{Captures, Case, Patch};
 
 fn fields(operation: Operation, fields: Fields) -> String {
     let named = operation.fields().iter().zip(fields);
@@ -31,13 +31,22 @@ fn patches(patches: &[Patch]) -> String {
     printed.join(", ")
 }
 
+fn captures(captures: &Captures) -> String {
+    let Captures { registers, first, second } = captures;
+    let recording = |name: &str, text: &[u8]| {
+        format!("  {name} recording of {} bytes: \"{}\"\n", text.len(), text.escape_ascii())
+    };
+    let (first, second) = (recording("first", first), recording("second", second));
+    format!("  recordings of {registers} registers\n{first}{second}")
+}
+
 fn in_full(case: &Case) -> String {
     format!(
         "  text of {} bytes: \"{}\"\n  graph buffer: {} words; patches: [{}]\n  \
          output buffer: {} bytes\n  machine buffer: {} words; patches: [{}]\n  \
          register buffer: {} words: {:?}\n  \
          start block {}, block budget {}, start state {}, cycle budget {}\n  \
-         {} words: {:?}\n  {} starters: {:?}\n",
+         {} words: {:?}\n  {} starters: {:?}\n{}",
         case.text.len(),
         case.text.escape_ascii(),
         case.graph_length,
@@ -55,6 +64,7 @@ fn in_full(case: &Case) -> String {
         case.words,
         case.starters.len(),
         case.starters,
+        captures(&case.captures),
     )
 }
 

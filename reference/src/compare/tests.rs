@@ -1,11 +1,11 @@
 //! The comparison finds every kind of difference: it is tried on libraries that are made to differ.
 
-use super::check::check;
+use super::check::{capture_fields, check, run_fields, words_fields};
 use super::lent::{Differing, Element, Lent};
-use super::library::{Fields, Library, Operation};
+use super::library::{padded, Fields, Library, Operation, Proved};
 use super::{compare, named, outcome, tally_all};
 use crate::tally::MOST_REPORTS;
-use reference::case::Case;
+use reference::case::{Captures, Case};
 use reference::generate::examples::P7;
 use reference::generate::Cases;
 use reference::operations;
@@ -14,8 +14,8 @@ use reference::operations;
 #[derive(Clone, Copy)]
 enum Change {
     Nothing,
-    /// A field of its answer.
-    Field(usize),
+    /// A bit of a field of its answer.
+    Field(usize, u32),
     /// An element of one of its buffers, counted from that buffer's start.
     Place(usize, isize),
     /// The element just after one of its buffers.
@@ -61,7 +61,7 @@ impl Changed {
         match self.1 {
             _ if operation != self.0 => (),
             Change::Nothing => (),
-            Change::Field(index) => fields[index] ^= 1,
+            Change::Field(index, bit) => fields[index] ^= 1 << bit,
             Change::Place(buffer, index) => lent[buffer].change_at(index),
             Change::End(buffer) => lent[buffer].change_end(),
         }
@@ -69,28 +69,22 @@ impl Changed {
     }
 }
 
-fn run_fields(answer: operations::RunAnswer) -> Fields {
-    [answer.number, u32::from(answer.halted), answer.count, answer.next]
-}
-
-fn words_fields(answer: operations::WordsRunAnswer) -> Fields {
-    [answer.number, answer.outcome, answer.count, answer.next]
-}
-
 impl Library for Changed {
     fn read(&self, text: &mut Lent<u8>, graph: &mut Lent<u32>) -> Fields {
         let answer = operations::read(text.body(), graph.body_mut());
-        self.apply(Operation::Read, [answer.number, answer.line, 0, 0], &mut [text, graph])
+        let fields = padded(&[answer.number, answer.line]);
+        self.apply(Operation::Read, fields, &mut [text, graph])
     }
 
     fn write(&self, graph: &mut Lent<u32>, output: &mut Lent<u8>) -> Fields {
         let answer = operations::write(graph.body(), output.body_mut());
-        self.apply(Operation::Write, [answer.number, answer.length, 0, 0], &mut [graph, output])
+        let fields = padded(&[answer.number, answer.length]);
+        self.apply(Operation::Write, fields, &mut [graph, output])
     }
 
     fn synthesise(&self, graph: &mut Lent<u32>, machine: &mut Lent<u32>) -> Fields {
         let number = operations::synthesise(graph.body(), machine.body_mut());
-        self.apply(Operation::Synthesise, [number, 0, 0, 0], &mut [graph, machine])
+        self.apply(Operation::Synthesise, padded(&[number]), &mut [graph, machine])
     }
 
     fn run_graph(
@@ -144,12 +138,24 @@ impl Library for Changed {
         let lent: &mut [&mut dyn Buffer] = &mut [machine, registers, words];
         self.apply(Operation::RunMachineWithWords, words_fields(answer), lent)
     }
+
+    fn compare_captures(
+        &self,
+        registers: u32,
+        first: &mut Lent<u8>,
+        second: &mut Lent<u8>,
+    ) -> Fields {
+        let answer = operations::compare_captures(registers, first.body(), second.body());
+        self.apply(Operation::CompareCaptures, capture_fields(answer), &mut [first, second])
+    }
 }
 
-/// P7 with lists that have a place 15.
+/// P7 with lists and recordings that have a place 15.
 fn p7() -> Case {
     let mut case = Case::plain(P7.as_bytes());
     case.starters = [0, 1].repeat(10);
+    let (first, second) = (b"1,0,12,18\n2,1,12,6\n".to_vec(), b"2,1,12,6\n3,1,6,6\n".to_vec());
+    case.captures = Captures { registers: 2, first, second };
     case
 }
 
@@ -171,11 +177,12 @@ fn nothing_changed_is_no_difference() {
     assert!((0..200).all(|index| differing(&cases.get(index), &same).is_empty()));
 }
 
+/// Two fields have 64 bits, so a high bit is changed too.
 #[test]
 fn every_changed_field_is_a_difference() {
     for operation in Operation::ALL {
-        for field in 0..operation.fields().len() {
-            let library = Changed(operation, Change::Field(field));
+        for (field, bit) in (0..operation.fields().len()).flat_map(|one| [(one, 0), (one, 32)]) {
+            let library = Changed(operation, Change::Field(field, bit));
             assert_eq!(differing(&p7(), &library), [operation], "field {field}");
         }
     }
@@ -229,6 +236,14 @@ fn places_are_printed() {
         printed(Operation::RunGraphWithWords, Change::Place(3, 19)),
         "starters of length 20, index 19: 1 expected, 3235774464 found"
     );
+    assert_eq!(
+        printed(Operation::CompareCaptures, Change::Place(0, 2)),
+        "first recording of length 19, index 2: 48 expected, 10 found"
+    );
+    assert_eq!(
+        printed(Operation::CompareCaptures, Change::End(1)),
+        "second recording of length 17, index 17 in the guard after it: 10 expected, 13 found"
+    );
 }
 
 /// A difference fails the command, with the case in full.
@@ -240,6 +255,8 @@ fn differences_are_reported() {
     let shown = text.lines().filter(|line| line.starts_with("difference: seed 11, case "));
     assert_eq!(shown.count(), MOST_REPORTS);
     let case = Cases::of(11).get(1);
+    let captures = &case.captures;
+    let (first, second) = (&captures.first, &captures.second);
     let parts = [
         String::from(
             "difference: seed 11, case 1\n  synthesise differs\n    second program: number ",
@@ -254,10 +271,51 @@ fn differences_are_reported() {
         format!("start state {}, cycle budget {}\n", case.start_state, case.cycle_budget),
         format!("  {} words: {:?}\n", case.words.len(), case.words),
         format!("  {} starters: {:?}\n", case.starters.len(), case.starters),
+        format!("  recordings of {} registers\n", captures.registers),
+        format!("  first recording of {} bytes: \"{}\"\n", first.len(), first.escape_ascii()),
+        format!("  second recording of {} bytes: \"{}\"\n", second.len(), second.escape_ascii()),
     ];
     for part in parts {
         assert!(text.contains(&part), "{part}");
     }
+}
+
+/// A library that differs in the captures alone is found, with all six fields printed.
+#[test]
+fn differences_of_captures_are_reported() {
+    let library = Changed(Operation::CompareCaptures, Change::Field(3, 0));
+    let text = compare(11, 40, &library).expect_err("a difference");
+    assert!(text.ends_with("seed 11: 40 cases, 40 differ\n"), "{text}");
+    let answers = text.split("  compare captures differs\n    second program: number ");
+    assert_eq!(answers.count(), MOST_REPORTS + 1);
+    for name in ["recording", "line", "shared", "differs", "cycle"] {
+        assert!(text.contains(&format!(", {name} ")), "{name}");
+    }
+}
+
+/// Recordings have any length; those of a stream are short.
+#[test]
+fn long_captures_are_the_same() {
+    let lines = |step: usize| -> Vec<u8> {
+        let line = |cycle: usize| format!("{cycle},{},5\n", cycle % 9);
+        (0..100_000).step_by(step).map(line).collect::<String>().into_bytes()
+    };
+    let mut case = p7();
+    for end in ["", "99999,0,6\n", "5,0,5\n", "100000,0,05\n", "100000"] {
+        let second = [&lines(3)[..], end.as_bytes()].concat();
+        case.captures = Captures { registers: 1, first: lines(1), second };
+        assert!(check(&case, &Proved).iter().all(|one| one.same()), "{end}");
+    }
+}
+
+/// Four outcomes of a comparison: nothing shared, no cycle differing, one differing, a refusal.
+#[test]
+fn outcomes_of_captures() {
+    let outcome = |fields| Operation::CompareCaptures.outcome(fields);
+    assert_eq!(outcome([0, 0, 0, 0, 0, 0]), Some(0));
+    assert_eq!(outcome([0, 0, 0, 7, 0, 0]), Some(1));
+    assert_eq!(outcome([0, 0, 0, 7, 1, 0]), Some(2));
+    assert_eq!(outcome([17, 1, 1, 0, 0, 0]), None);
 }
 
 /// A number or an outcome that no case hits fails a long run, and not a short one.
@@ -266,7 +324,7 @@ fn numbers_that_are_not_hit_are_reported() {
     let same = Changed(Operation::Read, Change::Nothing);
     let mut tally = tally_all(&Cases::of(1), 2_000, &same);
     assert!(outcome(1, 2_000, &tally).is_ok());
-    assert_eq!(named().count(), 39);
+    assert_eq!(named().count(), 45);
     for hit in named() {
         let cases = tally.counts.remove(&hit).expect("a hit");
         let text = outcome(1, 2_000, &tally).expect_err("one is missing");

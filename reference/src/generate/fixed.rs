@@ -1,7 +1,7 @@
 //! Cases that do not depend on the seed: examples, each named fault, sweeps.
 
-use super::examples::{self, P7};
-use super::word_cases;
+use super::examples::{self, P12, P7};
+use super::{capture_cases, word_cases};
 use crate::case::Case;
 use crate::graph::{Block, Comparison, Ending, Graph, Instruction, MAX_BLOCKS, MAX_REGISTERS};
 use crate::grouping::group;
@@ -111,6 +111,18 @@ pub fn own_starters(text: &[u8]) -> Vec<u32> {
     starters.iter().map(|&block| block as u32).collect()
 }
 
+/// A pair of recordings for each case, and further cases for those that are left.
+fn with_captures(mut cases: Vec<Case>) -> Vec<Case> {
+    let pairs = capture_cases::pairs();
+    while cases.len() < pairs.len() {
+        cases.push(Case::plain(P12.as_bytes()));
+    }
+    for (case, captures) in cases.iter_mut().zip(pairs.iter().cycle()) {
+        case.captures = captures.clone();
+    }
+    cases
+}
+
 pub fn cases() -> Vec<Case> {
     let largest = largest_graphs().map(|graph| Case::plain(print(&graph).as_bytes()));
     let mut cases = examples::cases();
@@ -122,5 +134,5 @@ pub fn cases() -> Vec<Case> {
         case.starters = own_starters(&case.text);
     }
     cases.extend(word_cases::cases());
-    cases
+    with_captures(cases)
 }

@@ -1,5 +1,8 @@
-//! Cases from a seed: which texts, which damage, which buffers.
+//! Cases from a seed: which texts, which damage, which buffers, which recordings.
 
+mod capture_cases;
+mod capture_damage;
+mod captures;
 pub mod examples;
 pub mod fixed;
 pub mod graph_damage;
@@ -9,6 +12,7 @@ pub mod machine_damage;
 mod runs;
 pub mod shapes;
 pub mod texts;
+mod voyages;
 pub mod word_cases;
 pub mod words;
 
@@ -122,6 +126,7 @@ pub fn case(seed: u64, index: u64) -> Case {
     buffers(random, aim, &mut case);
     damage(random, aim, &mut case);
     runs::choose(random, aim == Aim::Starts, &mut case);
+    case.captures = captures::captures(random, &case);
     case
 }
 

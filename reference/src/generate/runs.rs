@@ -137,6 +137,11 @@ impl Found {
     }
 }
 
+/// The machine that the case's runs of a machine are run on, where they are not refused 7, 10 or 9.
+pub fn started_machine(case: &Case) -> Option<Machine> {
+    Found::of(case).started(case).machine
+}
+
 pub fn choose(random: &mut Random, about_starts: bool, case: &mut Case) {
     let found = Found::of(case);
     let own = found.graph.as_ref().map_or(vec![0], |graph| group(graph).starters);

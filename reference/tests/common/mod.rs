@@ -2,6 +2,8 @@
 
 #![allow(dead_code)]
 
+pub mod recordings;
+
 use reference::generate::graphs;
 use reference::graph::{Block, Comparison, Ending, Graph};
 use reference::graph_table::GRAPH_WORDS;

@@ -76,6 +76,13 @@ pub enum Recording {
     Second = 2,
 }
 
+impl Recording {
+    /// 1 or 2.
+    pub fn number(self) -> u32 {
+        self as u32
+    }
+}
+
 impl fmt::Display for Recording {
     fn fmt(&self, f: &mut fmt::Formatter) -> fmt::Result {
         f.write_str(match self {

@@ -26,7 +26,7 @@ fn refusal(registers: u32, first: &str, second: &str) -> (u32, Option<Recording>
     let (first, second) = (first.as_bytes(), second.as_bytes());
     let refused = compare(registers, first, second).expect_err("a faulty recording");
     let (number, line) = (refused.number(), refused.line());
-    let recording = refused.recording().map_or(0, |recording| recording as u32);
+    let recording = refused.recording().map_or(0, Recording::number);
     let fields = CaptureFields { number, recording, line, shared: 0, differs: 0, cycle: 0 };
     assert_eq!(compare_captures(registers, first, second), fields);
     (number, refused.recording(), line)

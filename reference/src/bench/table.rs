@@ -25,7 +25,7 @@ pub fn heads(out: &mut String, first: &str, [x, y]: [&str; 2]) {
     let _ = writeln!(out, "{line}");
 }
 
-/// A run has rates beside its times.
+/// A run and a comparison of captures have rates beside their times.
 pub fn row(out: &mut String, name: &str, timing: &Timing, count: Option<u32>) {
     let Timing { first, second, ratio: [low, median, high] } = *timing;
     let spread = format!("({low:.2} to {high:.2})");

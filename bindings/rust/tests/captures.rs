@@ -134,6 +134,19 @@ fn the_first_fault_of_the_first_recording_comes_first() {
     assert_eq!(refusal(1, late, "0,1,0\n"), (18, Some(First), 3));
 }
 
+/// No text of a graph is as long.
+#[test]
+fn recordings_may_be_long() {
+    let line = |cycle| Line { cycle, state: 1, registers: &[cycle % 7] }.to_string();
+    let text: String = (0..100_000).map(line).collect();
+    assert_eq!(compared(1, &text, &text), found(100_000, None));
+    let odd: String = (1..100_000).step_by(2).map(line).collect();
+    assert_eq!(compared(1, &text, &odd), found(50_000, None));
+    let last = odd.replace("99999,1,", "99999,2,");
+    assert_eq!(compared(1, &text, &last), found(50_000, Some(99_999)));
+    assert_eq!(refusal(1, &text, &(odd + "0,0,0\n")), (18, Some(Second), 50_001));
+}
+
 #[test]
 fn refusals_print_their_place_and_meaning() {
     let print = |registers, first, second| {

@@ -9,20 +9,20 @@ trap 'rm -rf "$work"' EXIT
 
 library=target/staticlib/libhost.a
 crate=bindings/rust/Cargo.toml
-graphs=(examples/swing.txt examples/turn.txt)
+files=(examples/swing.txt examples/turn.txt examples/turn-array.capture)
 
 echo 'the header as C++'
 g++ -std=c++11 -Wall -Wextra -Werror -fsyntax-only -x c++ include/gutkavu.h
 
 echo 'the example in C'
 gcc -std=c11 -Wall -Wextra -Werror -O2 -Iinclude -o "$work/example" bindings/c/example.c "$library"
-"$work/example" "${graphs[@]}" >"$work/c"
+"$work/example" "${files[@]}" >"$work/c"
 diff -u bindings/c/example.stdout "$work/c"
 
 echo 'the tests of the Rust crate'
 cargo test --offline --release --quiet --manifest-path "$crate"
 
 echo 'the example in Rust'
-cargo run --offline --release --quiet --manifest-path "$crate" --example example -- "${graphs[@]}" >"$work/rust"
+cargo run --offline --release --quiet --manifest-path "$crate" --example example -- "${files[@]}" >"$work/rust"
 diff -u bindings/rust/examples/example.stdout "$work/rust"
 cat "$work/rust"

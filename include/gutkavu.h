@@ -2,8 +2,8 @@
  *
  * Every function returns the number of a refusal, or 0. On a refusal no buffer is changed, and every other field is
  * set to 0 unless its comment says otherwise. Words of a buffer past the length of its table are neither read nor
- * changed. The buffers and fields of one call must not overlap, and no pointer may be null, that of an empty list
- * included.
+ * changed. The buffers and fields of one call must not overlap, except buffers that it only reads, and no pointer may
+ * be null, that of an empty list or recording included.
  *
  * The refusals:
  *   1  text too long                        6  table not one that reading makes
@@ -97,13 +97,14 @@ uint32_t gutkavu_run_machine_with_words(const uint32_t *machine, size_t machine_
                                         size_t words_len, uint32_t *outcome, uint32_t *count, uint32_t *next);
 
 /* Compares two recordings of one voyage, the first an array's capture, say, and the second a model's run; either may
- * lack cycles, and both may be of any length. A line is `cycle,state,` and as many register words as registers (R)
- * says, parted by commas, each 0 to 4294967295 without leading zeros, with a line feed behind it. The cycles of a
- * recording rise from line to line.
- * Sets shared to the number of cycles that both hold; differs to 1 and cycle to the first of them where state or
- * registers differ, or both to 0.
- * Refusals 17, 18 of the first faulty line, the first recording's lines before the second's; recording (1 or 2) and
- * line, counted from 1, say where it is, and are 0 where R is not 1 to 16. */
+ * lack cycles, and both may have any length, 0 included. A line is `cycle,state,` and as many register words as
+ * registers (R) says, parted by commas, each number 0 to 4294967295 without leading zeros, with a line feed behind the
+ * line. The cycles of a recording rise from line to line.
+ * Sets shared to the number of cycles that both hold. Where state or registers differ in one of them, sets differs to 1
+ * and cycle to the first such, else both to 0. Sets recording and line to 0.
+ * Refusals 17, 18. 17 where R is not 1 to 16, with recording and line 0. Else that of the first faulty line, the first
+ * recording's lines before the second's, with recording 1 or 2 and line counted from 1; a line that is not of the form
+ * is 17, whatever its cycle. */
 uint32_t gutkavu_compare_captures(uint32_t registers, const uint8_t *first, size_t first_len, const uint8_t *second,
                                   size_t second_len, uint32_t *recording, uint64_t *line, uint64_t *shared,
                                   uint32_t *differs, uint32_t *cycle);

@@ -1,5 +1,6 @@
-/* How a C program reads a graph, synthesises its machine and runs both, without words and with them: example SWING
- * TURN, the paths of examples/swing.txt and examples/turn.txt. */
+/* How a C program reads a graph, synthesises its machine, runs both, without words and with them, and compares a
+ * recording of the machine with one of the array: example SWING TURN ARRAY, the paths of examples/swing.txt,
+ * examples/turn.txt and examples/turn-array.capture. */
 #include "gutkavu.h"
 
 #include <inttypes.h>
@@ -14,6 +15,11 @@ enum {
 
 static uint32_t graph[GUTKAVU_GRAPH_WORDS];
 static uint32_t machine[GUTKAVU_MACHINE_WORDS];
+
+/* The limits of the rate of turn in registers 3 and 4, and the words of the gyro, the first taken at rest. */
+static const uint32_t limits[GUTKAVU_REGISTER_WORDS] = {[3] = (uint32_t)-300, [4] = 300};
+static const uint32_t words[] = {10, 65346, 410, 10, 65146, 160};
+static const size_t word_count = sizeof words / sizeof words[0];
 
 static void fail(const char *what)
 {
@@ -89,50 +95,94 @@ static void print_swing(int32_t rate)
     printf("blocks %" PRIu32 ", cycles %" PRIu32 "\n", blocks, cycles);
 }
 
-/* Runs graph and machine with a word of the gyro for each cycle, the first taken at rest. Both are dry when the words
- * end, and leave the same registers. */
+/* Runs graph and machine with a word of the gyro for each cycle. Both are dry when the words end, and leave the same
+ * registers. */
 static void print_turn(void)
 {
-    const uint32_t words[] = {10, 65346, 410, 10, 65146, 160};
-    const size_t length = sizeof words / sizeof words[0];
-    uint32_t registers[GUTKAVU_REGISTER_WORDS] = {[3] = (uint32_t)-300, [4] = 300}, others[GUTKAVU_REGISTER_WORDS];
+    uint32_t registers[GUTKAVU_REGISTER_WORDS], others[GUTKAVU_REGISTER_WORDS];
     uint32_t outcome, outcome_too, blocks, cycles, next;
-    memcpy(others, registers, sizeof registers);
+    memcpy(registers, limits, sizeof registers);
+    memcpy(others, limits, sizeof others);
     uint32_t number = gutkavu_run_machine(machine, GUTKAVU_MACHINE_WORDS, others, GUTKAVU_REGISTER_WORDS, 0, BUDGET,
                                           &outcome, &cycles, &next);
     printf("  without words: refused %" PRIu32 "\n", number);
     made(gutkavu_run_graph_with_words(graph, GUTKAVU_GRAPH_WORDS, registers, GUTKAVU_REGISTER_WORDS, 0, BUDGET, words,
-                                      length, machine + GUTKAVU_STARTERS, machine[0], &outcome, &blocks, &next));
+                                      word_count, machine + GUTKAVU_STARTERS, machine[0], &outcome, &blocks, &next));
     made(gutkavu_run_machine_with_words(machine, GUTKAVU_MACHINE_WORDS, others, GUTKAVU_REGISTER_WORDS, 0, BUDGET,
-                                        words, length, &outcome_too, &cycles, &next));
+                                        words, word_count, &outcome_too, &cycles, &next));
     if (outcome != GUTKAVU_DRY || outcome_too != GUTKAVU_DRY || memcmp(registers, others, sizeof registers) != 0)
         fail("graph and machine do not agree");
-    printf("  %zu words: lowest %" PRId32 ", highest %" PRId32, length, (int32_t)registers[1], (int32_t)registers[2]);
-    printf(", outside %" PRIu32 "; ", registers[5]);
+    printf("  %zu words: lowest %" PRId32 ", ", word_count, (int32_t)registers[1]);
+    printf("highest %" PRId32 ", outside %" PRIu32 "; ", (int32_t)registers[2], registers[5]);
     printf("dry after blocks %" PRIu32 ", cycles %" PRIu32 "\n", blocks, cycles);
 }
 
-/* The same text with its first signed comparison made unsigned. */
-static size_t make_unsigned(const char *text, char *out)
+/* The text with the first `old` in it made `new`. */
+static size_t replace(const char *text, const char *old, const char *new, char *out)
 {
-    const char *place = strstr(text, "ite,lt,");
+    const char *place = strstr(text, old);
     if (place == NULL)
-        fail("the text has no signed comparison");
-    return (size_t)snprintf(out, TEXT_ROOM, "%.*site,ltu,%s", (int)(place - text), text, place + strlen("ite,lt,"));
+        fail("the text lacks what is to be replaced");
+    return (size_t)snprintf(out, TEXT_ROOM, "%.*s%s%s", (int)(place - text), text, new, place + strlen(old));
+}
+
+/* Runs the machine with words, a cycle a call, and writes down the state and registers that each cycle begins with. */
+static void record(char *out)
+{
+    uint32_t registers[GUTKAVU_REGISTER_WORDS], state = 0, outcome = GUTKAVU_SPENT, count;
+    memcpy(registers, limits, sizeof registers);
+    for (size_t cycle = 0; outcome == GUTKAVU_SPENT; cycle++) {
+        out += sprintf(out, "%zu,%" PRIu32, cycle, state);
+        for (uint32_t i = 0; i < machine[1]; i++)
+            out += sprintf(out, ",%" PRIu32, registers[i]);
+        out += sprintf(out, "\n");
+        made(gutkavu_run_machine_with_words(machine, GUTKAVU_MACHINE_WORDS, registers, GUTKAVU_REGISTER_WORDS, state, 1,
+                                            words + cycle, word_count - cycle, &outcome, &count, &state));
+    }
+}
+
+static void print_comparison(const char *what, const char *array, const char *model)
+{
+    uint32_t recording, differs, cycle;
+    uint64_t line, shared;
+    uint32_t number = gutkavu_compare_captures(machine[1], (const uint8_t *)array, strlen(array),
+                                               (const uint8_t *)model, strlen(model), &recording, &line, &shared,
+                                               &differs, &cycle);
+    printf("  %s: ", what);
+    if (number != 0)
+        printf("refused %" PRIu32 " at line %" PRIu64 " of recording %" PRIu32 "\n", number, line, recording);
+    else if (differs)
+        printf("cycles in both %" PRIu64 ", first that differs %" PRIu32 "\n", shared, cycle);
+    else
+        printf("cycles in both %" PRIu64 ", none differs\n", shared);
+}
+
+/* Compares the array's recording with that of the machine: as it is, with the wrong register set right, and with a line
+ * that is not of its form. */
+static void print_captures(const char *array)
+{
+    static char model[TEXT_ROOM], other[TEXT_ROOM];
+    record(model);
+    print_comparison("as captured", array, model);
+    replace(array, ",401,", ",400,", other);
+    print_comparison("with 400 for 401", other, model);
+    replace(array, "\n4,", "\n04,", other);
+    print_comparison("with a leading zero", other, model);
 }
 
 int main(int count, char **arguments)
 {
     static char text[TEXT_ROOM], other[TEXT_ROOM];
-    if (count != 3)
-        fail("usage: example SWING TURN");
+    if (count != 4)
+        fail("usage: example SWING TURN ARRAY");
     size_t length = load(arguments[1], text);
     compile(text, length);
     print_machine();
     printf("signed comparison (lt)\n");
     print_swing(-200);
     print_swing(200);
-    compile(other, make_unsigned(text, other));
+    /* The same text with its first signed comparison made unsigned. */
+    compile(other, replace(text, "ite,lt,", "ite,ltu,", other));
     printf("unsigned comparison (ltu)\n");
     print_swing(-200);
     print_swing(200);
@@ -142,5 +192,8 @@ int main(int count, char **arguments)
     compile(text, load(arguments[2], text));
     printf("rate of turn\n");
     print_turn();
+    load(arguments[3], text);
+    printf("array against model\n");
+    print_captures(text);
     return EXIT_SUCCESS;
 }

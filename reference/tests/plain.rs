@@ -1,10 +1,13 @@
-//! The plain program of the measurements against the second program, refusals included.
+//! The plain program of the measurements against the second program, refusals included; comparing
+//! captures against the library.
 
-use gutkavu::operations::RunWithWordsFields;
+use gutkavu::captures::Line;
+use gutkavu::operations::{compare_captures, RunWithWordsFields};
 use reference::answer::buffers_of;
 use reference::case::Case;
 use reference::generate;
 use reference::operations::{self, RunAnswer, WordsRunAnswer};
+use reference::random::Random;
 use std::collections::BTreeSet;
 
 /// Operation and number of each answer seen, and outcomes.
@@ -106,9 +109,76 @@ fn the_plain_program_gives_what_the_second_gives() {
         ("run machine with words", &[0, 7, 9, 10]),
         ("the outcome of a machine", &[0, 1, 2]),
     ];
-    for (name, numbers) in every {
+    all_seen(&seen, &every);
+}
+
+fn all_seen(seen: &Seen, every: &[(&'static str, &[u32])]) {
+    for &(name, numbers) in every {
         for &number in numbers {
             assert!(seen.contains(&(name, number)), "{name} never answered {number}");
         }
     }
+}
+
+/// Two recordings of a voyage: each lacks some cycles, and has other words here and there.
+fn recordings(random: &mut Random, registers: u32) -> [Vec<u8>; 2] {
+    let (mut texts, mut cycle) = ([String::new(), String::new()], random.word() % 3);
+    let (lines, lack, differ) = (random.below(12), random.below(60), random.pick(&[0, 0, 5, 50]));
+    for _ in 0..lines {
+        let mut words: Vec<u32> =
+            (0..=registers).map(|_| random.word() >> random.below(32)).collect();
+        for text in &mut texts {
+            if random.percent(differ) {
+                let place = random.below(words.len());
+                words[place] ^= 1;
+            }
+            if !random.percent(lack) {
+                let line = Line { cycle, state: words[0], registers: &words[1..] };
+                *text += &line.to_string();
+            }
+        }
+        // At the highest cycle it stays, which is a fault.
+        cycle = cycle.saturating_add(1 << random.pick(&[0, 0, 0, 1, 31]));
+    }
+    texts.map(String::into_bytes)
+}
+
+/// A byte put in, changed or taken out.
+fn damage(random: &mut Random, text: &mut Vec<u8>) {
+    let (at, byte) = (random.below(text.len() + 1), random.pick(b"0123456789000,,\n\n -x"));
+    match random.below(3) {
+        0 => text.insert(at, byte),
+        _ if at == text.len() => drop(text.pop()),
+        1 => text[at] = byte,
+        _ => drop(text.remove(at)),
+    }
+}
+
+#[test]
+fn the_plain_program_compares_captures_as_the_library_does() {
+    let mut seen = Seen::new();
+    for index in 0..40_000 {
+        let mut random = Random::at(12, index);
+        let registers = random.pick(&[1, 1, 2, 3, 16]);
+        let [mut first, mut second] = recordings(&mut random, registers);
+        for text in [&mut first, &mut second] {
+            (0..random.pick(&[0, 0, 0, 1, 3])).for_each(|_| damage(&mut random, text));
+        }
+        let registers = if random.percent(5) { random.pick(&[0, 4, 17]) } else { registers };
+        let library = compare_captures(registers, &first, &second);
+        assert_eq!(plain::compare_captures(registers, &first, &second), library, "pair {index}");
+        seen.insert(("compare", library.number));
+        seen.insert(("the recording of a fault", library.recording));
+        seen.insert(("its line", library.line as u32));
+        seen.insert(("cycles in both", library.shared as u32));
+        seen.insert(("whether they differ", library.differs));
+    }
+    let every = [
+        ("compare", &[0, 17, 18][..]),
+        ("the recording of a fault", &[0, 1, 2]),
+        ("its line", &[0, 1, 2, 8]),
+        ("cycles in both", &[0, 1, 2, 8]),
+        ("whether they differ", &[0, 1]),
+    ];
+    all_seen(&seen, &every);
 }

@@ -1,10 +1,17 @@
-//! How a Rust program reads a graph, synthesises its machine and runs both, without words and with
-//! them: `example SWING TURN`, the paths of examples/swing.txt and examples/turn.txt.
+//! How a Rust program reads a graph, synthesises its machine, runs both, without words and with
+//! them, and compares a recording of the machine with one of the array: `example SWING TURN ARRAY`,
+//! the paths of examples/swing.txt, examples/turn.txt and examples/turn-array.capture.
 
+use gutkavu::captures::{self, Comparison, Line, Recording};
 use gutkavu::{Graph, Machine, Outcome};
 use std::error::Error;
 
 const BUDGET: u32 = 1_000;
+
+/// The limits of the rate of turn in registers 3 and 4.
+const LIMITS: [u32; 16] = [0, 0, 0, -300i32 as u32, 300, 0, 0, 0, 0, 0, 0, 0, 0, 0, 0, 0];
+/// The words of the gyro, the first taken at rest.
+const WORDS: [u32; 6] = [10, 65_346, 410, 10, 65_146, 160];
 
 fn print_machine(graph: &Graph, machine: &Machine) {
     println!("blocks {}, registers {}", graph.blocks(), graph.registers());
@@ -35,33 +42,76 @@ fn print_swing(graph: &Graph, machine: &Machine, rate: i32) -> Result<(), Box<dy
     Ok(())
 }
 
-/// Runs graph and machine with a word of the gyro for each cycle, the first taken at rest. Both are
-/// dry when the words end, and leave the same registers.
+/// Runs graph and machine with a word of the gyro for each cycle. Both are dry when the words end,
+/// and leave the same registers.
 fn print_turn(graph: &Graph, machine: &Machine) -> Result<(), Box<dyn Error>> {
-    let words = [10, 65_346, 410, 10, 65_146, 160];
-    let mut registers = [0; 16];
-    (registers[3], registers[4]) = (-300i32 as u32, 300);
-    let mut others = registers;
+    let (mut registers, mut others) = (LIMITS, LIMITS);
     if let Err(refused) = machine.run(&mut others, 0, BUDGET) {
         println!("  without words: refused {}", refused.number());
     }
     let starters = machine.starters();
-    let by_graph = graph.run_with_words(&mut registers, 0, BUDGET, &words, starters)?;
-    let by_machine = machine.run_with_words(&mut others, 0, BUDGET, &words)?;
+    let by_graph = graph.run_with_words(&mut registers, 0, BUDGET, &WORDS, starters)?;
+    let by_machine = machine.run_with_words(&mut others, 0, BUDGET, &WORDS)?;
     let dry = [by_graph.outcome, by_machine.outcome] == [Outcome::Dry; 2];
     if !dry || registers != others {
         return Err("graph and machine do not agree".into());
     }
     let (lowest, highest, outside) = (registers[1] as i32, registers[2] as i32, registers[5]);
-    print!("  {} words: lowest {lowest}, highest {highest}, outside {outside}; ", words.len());
+    print!("  {} words: lowest {lowest}, highest {highest}, outside {outside}; ", WORDS.len());
     println!("dry after blocks {}, cycles {}", by_graph.count, by_machine.count);
+    Ok(())
+}
+
+/// Runs the machine with words, a cycle a call, and writes down the state and registers that each
+/// cycle begins with.
+fn record(machine: &Machine) -> Result<String, Box<dyn Error>> {
+    let (mut registers, mut state, mut recording) = (LIMITS, 0, String::new());
+    let recorded = machine.registers() as usize;
+    for cycle in 0.. {
+        recording += &Line { cycle, state, registers: &registers[..recorded] }.to_string();
+        let words = &WORDS[cycle as usize..];
+        let run = machine.run_with_words(&mut registers, state, 1, words)?;
+        let (Outcome::Spent, Some(next)) = (run.outcome, run.next) else {
+            break;
+        };
+        state = next;
+    }
+    Ok(recording)
+}
+
+fn print_comparison(what: &str, registers: u32, array: &str, model: &str) {
+    print!("  {what}: ");
+    match captures::compare(registers, array.as_bytes(), model.as_bytes()) {
+        Ok(Comparison { shared, first_difference: Some(cycle) }) => {
+            println!("cycles in both {shared}, first that differs {cycle}");
+        }
+        Ok(Comparison { shared, first_difference: None }) => {
+            println!("cycles in both {shared}, none differs");
+        }
+        Err(refused) => {
+            let recording = refused.recording().map_or(0, Recording::number);
+            let (number, line) = (refused.number(), refused.line());
+            println!("refused {number} at line {line} of recording {recording}");
+        }
+    }
+}
+
+/// Compares the array's recording with that of the machine: as it is, with the wrong register set
+/// right, and with a line that is not of its form.
+fn print_captures(machine: &Machine, array: &str) -> Result<(), Box<dyn Error>> {
+    let (registers, model) = (machine.registers(), record(machine)?);
+    print_comparison("as captured", registers, array, &model);
+    let other = array.replacen(",401,", ",400,", 1);
+    print_comparison("with 400 for 401", registers, &other, &model);
+    let other = array.replacen("\n4,", "\n04,", 1);
+    print_comparison("with a leading zero", registers, &other, &model);
     Ok(())
 }
 
 fn main() -> Result<(), Box<dyn Error>> {
     let paths: Vec<String> = std::env::args().skip(1).collect();
-    let [swing, turn] = &paths[..] else {
-        return Err("usage: example SWING TURN".into());
+    let [swing, turn, array] = &paths[..] else {
+        return Err("usage: example SWING TURN ARRAY".into());
     };
     let text = std::fs::read_to_string(swing)?;
     let graph: Graph = text.parse()?;
@@ -81,6 +131,9 @@ fn main() -> Result<(), Box<dyn Error>> {
         println!("  refused {} at line {}", refused.number(), refused.line());
     }
     let graph: Graph = std::fs::read_to_string(turn)?.parse()?;
+    let machine = graph.synthesise();
     println!("rate of turn");
-    print_turn(&graph, &graph.synthesise())
+    print_turn(&graph, &machine)?;
+    println!("array against model");
+    print_captures(&machine, &std::fs::read_to_string(array)?)
 }

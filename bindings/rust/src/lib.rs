@@ -38,9 +38,22 @@
 //! # Ok::<(), Box<dyn std::error::Error>>(())
 //! ```
 //!
-//! [`operations`] has the seven operations on lent buffers, with every field that they answer, for
+//! Two recordings of one voyage, an array's capture and a model's run, are compared cycle by cycle;
+//! either may lack cycles. [`captures`] has the form of their lines.
+//!
+//! ```
+//! use gutkavu::captures::{self, Comparison};
+//!
+//! let (array, model) = ("1,0,7\n3,1,9\n", "0,0,7\n1,0,7\n2,1,8\n3,1,8\n");
+//! let compared = captures::compare(1, array.as_bytes(), model.as_bytes())?;
+//! assert_eq!(compared, Comparison { shared: 2, first_difference: Some(3) });
+//! # Ok::<(), Box<dyn std::error::Error>>(())
+//! ```
+//!
+//! [`operations`] has the eight operations on lent buffers, with every field that they answer, for
 //! programs that keep their own tables. [`layout`] says where things stand in a table.
 
+pub mod captures;
 pub mod layout;
 pub mod operations;
 pub mod raw;

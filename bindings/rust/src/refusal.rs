@@ -30,10 +30,14 @@ pub enum Refusal {
     NoStarters = 11,
     /// 12: a run without words has a table that holds code 20.
     WordsNeeded = 12,
+    /// 17: a recording's line is not of its form, or R is not 1 to 16.
+    NoCaptureForm = 17,
+    /// 18: a recording's cycle is not above that of the line before.
+    CycleNotAbove = 18,
 }
 
 impl Refusal {
-    const ALL: [Refusal; 12] = [
+    const ALL: [Refusal; 14] = [
         Refusal::TextTooLong,
         Refusal::NoForm,
         Refusal::NotDue,
@@ -46,9 +50,11 @@ impl Refusal {
         Refusal::NoMachine,
         Refusal::NoStarters,
         Refusal::WordsNeeded,
+        Refusal::NoCaptureForm,
+        Refusal::CycleNotAbove,
     ];
 
-    /// The refusal's number, from 1 to 12.
+    /// The refusal's number, from 1 to 12, or 17 or 18.
     pub fn number(self) -> u32 {
         self as u32
     }
@@ -75,6 +81,8 @@ impl Refusal {
                 "starter list without block 0 or the start block, or with a block not below B"
             }
             Refusal::WordsNeeded => "a table that holds code 20, in a run without words",
+            Refusal::NoCaptureForm => "a recording's line not of its form, or R not 1 to 16",
+            Refusal::CycleNotAbove => "a recording's cycle not above that of the line before",
         }
     }
 
@@ -82,7 +90,7 @@ impl Refusal {
     pub(crate) fn answer(number: u32) -> Result<(), Refusal> {
         match number {
             0 => Ok(()),
-            _ => Err(Refusal::from_number(number).expect("a refusal's number is 1 to 12")),
+            _ => Err(Refusal::from_number(number).expect("a number that refusals have")),
         }
     }
 }

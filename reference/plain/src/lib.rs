@@ -1,6 +1,7 @@
-//! The plain program: the seven operations as plain Rust on flat arrays, with the same checks and the
+//! The plain program: the eight operations as plain Rust on flat arrays, with the same checks and the
 //! same algorithms as the proved library. Nothing is allocated.
 
+pub mod capture;
 pub mod graph_admission;
 pub mod grouping;
 pub mod line;
@@ -15,6 +16,7 @@ pub mod value;
 pub mod words;
 pub mod write;
 
+pub use capture::compare_captures;
 pub use read::read;
 pub use run_graph::{run_graph, run_graph_with_words};
 pub use run_machine::{run_machine, run_machine_with_words};

@@ -1,5 +1,6 @@
 //! The command bench: the proved library beside the plain program, and how grouping grows.
 
+mod captures;
 mod graphs;
 mod growth;
 mod runs;
@@ -40,6 +41,7 @@ pub fn bench() -> Result<Vec<u8>, String> {
     let mut out = String::new();
     let _ = writeln!(out, "At the start: {}.\n", load());
     operations(&mut out)?;
+    out.push_str(&captures::report()?);
     out.push_str(&growth::report()?);
     let _ = writeln!(out, "\nAt the end: {}.", load());
     Ok(out.into_bytes())

@@ -19,14 +19,14 @@ pub fn heading() -> String {
     )
 }
 
-fn heads(out: &mut String, first: &str, [x, y]: [&str; 2]) {
+pub fn heads(out: &mut String, first: &str, [x, y]: [&str; 2]) {
     let line =
         format!("  {first:<30}{x:>9}{y:>9}{:>7}  {:<16}{x:>11}{y:>11}", "ratio", "(quartiles)");
     let _ = writeln!(out, "{line}");
 }
 
-/// A run has rates beside its times.
-fn row(out: &mut String, name: &str, timing: &Timing, count: Option<u32>) {
+/// A run and a comparison of captures have rates beside their times.
+pub fn row(out: &mut String, name: &str, timing: &Timing, count: Option<u32>) {
     let Timing { first, second, ratio: [low, median, high] } = *timing;
     let spread = format!("({low:.2} to {high:.2})");
     let mut cells = [duration(first), duration(second), String::new(), String::new()];

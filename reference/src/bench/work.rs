@@ -36,7 +36,7 @@ fn fresh(length: usize) -> Vec<u32> {
     (0..length + BEHIND).map(|index| 1_515_870_810 - index as u32).collect()
 }
 
-fn same<T: PartialEq>(what: &str, x: T, y: T) -> Result<(), String> {
+pub fn same<T: PartialEq>(what: &str, x: T, y: T) -> Result<(), String> {
     (x == y).then_some(()).ok_or_else(|| format!("the two programs differ: {what}"))
 }
 

@@ -5,7 +5,7 @@ use mathlib.Core.Bool.{Bool, true, false, not}
 use mathlib.Core.Option.{none, some}
 use Prim.Native.Nat.{ℕ, suc, _+_, _-_, _≤_, _<_}
 use native.Mathlib.Omega.{arith}
-use lib.ListN.{length, drop}
+use lib.ListN.{length, take, drop}
 use borrow.Author.Tests.{le-leb, lt-leb}
 use Rattle.runs.specs.Lists.{same, first}
 use Rattle.cfg.specs.Layout.{maxRegisters}
@@ -20,7 +20,7 @@ use Rattle.capture.specs.declared.recording.Step.{Step}
 use Rattle.capture.specs.declared.recording.Step.the-variants as step
 use Rattle.capture.specs.declared.Merge.{Merge}
 use Rattle.capture.specs.Capture.{Entry, recording, faultFrom, entriesOf, Shared, shared, differs, cycleOf, judged, comparison, compareLines, compareCaptures}
-use Rattle.capture.specs.Steps.{through, linesFrom, start, faultAt, Within, Passed, Advanced, firstOf, noted, Ready, found, judgedAt, answerFrom, Progress}
+use Rattle.capture.specs.Steps.{linesFrom, start, faultAt, Within, Passed, Advanced, firstOf, noted, Ready, found, judgedAt, answerFrom, Progress}
 use Rattle.capture.proofs.Bytes.{same-words}
 use Rattle.capture.proofs.Merging.{at-fault, first-alone, second-alone, both, none-shared}
 
@@ -74,13 +74,20 @@ module _ (r : ℕ) (one two : List ℕ) (m : Merge) where
     abbrev onSecond : Step → Merge
     onSecond t = record { first = m .first; second = record { position = q; step = t }; shared = m .shared; difference = m .difference }
 
-    abbrev onBoth : Step → Step → Merge
-    onBoth s t =
+    -- the bytes of both lines
+    abbrev firstBytes : List ℕ
+    firstBytes = take (p .at - m .first .position .at) (drop (m .first .position .at) one)
+
+    abbrev secondBytes : List ℕ
+    secondBytes = take (q .at - m .second .position .at) (drop (m .second .position .at) two)
+
+    abbrev onBoth : Step → Step → Bool → Merge
+    onBoth s t e =
         record {
           first = record { position = p; step = s };
           second = record { position = q; step = t };
           shared = m .shared + 1;
-          difference = noted (m .difference) c (same (through (drop (m .first .position .at) one)) (through (drop (m .second .position .at) two)));
+          difference = noted (m .difference) c e;
         }
 
     -- the lines behind them have no fault where those from here on have none
@@ -106,30 +113,34 @@ module _ (r : ℕ) (one two : List ℕ) (m : Merge) where
         (λ f g.
         rw (P .lines, Q .lines, second-alone a b (p .line) (linesFrom r one p) (entriesOf (linesFrom r two q)) (first-rises (sym (P .fault) ∙ f)) l)))
 
-    -- one shared cycle more
-    found-more : (s t : Step) → c ≡ d → (ss : List Shared) → found m (record { cycle = c; first = P .words; second = Q .words } ∷ ss) ≡ found (onBoth s t) ss
-    found-more s t e ss =
-        let bytes : same (through (drop (m .first .position .at) one)) (through (drop (m .second .position .at) two)) ≡ same (P .words) (Q .words) =
-        rw (P .read, Q .read) (same-words r c (P .words) (Q .words) (P .bytes) (Q .bytes) (P .line) (Q .line ∙ ap (λ (k : ℕ). some (record { cycle = k; words = Q .words })) (sym e))) in
-        let n : m .shared + suc (length ss) ≡ m .shared + 1 + length ss = omega arith in
-        rw (bytes, n) (ap (Compared (m .shared + 1 + length ss)) (go (m .difference) (same (P .words) (Q .words))))
-      where
-        go :
-            (x : Difference) (t : Bool)
-            → firstOf x (cycleOf (Rattle.runs.specs.Lists.orElse (not t) (record { cycle = c; first = P .words; second = Q .words }) (first differs ss)))
-            ≡ firstOf (noted x c t) (cycleOf (first differs ss))
-        go (difference.At k) t = refl
-        go difference.Nowhere true = refl
-        go difference.Nowhere false = refl
+    module _ (s t : Step) (bytes : Bool) (same-bytes : bytes ≡ same firstBytes secondBytes) (e : c ≡ d) where
+      same-line : bytes ≡ same (P .words) (Q .words)
+      same-line =
+          same-bytes
+          ∙ rw (P .read, Q .read) (same-words r c (P .words) (Q .words) (P .bytes) (Q .bytes) (P .line) (Q .line ∙ ap (λ (k : ℕ). some (record { cycle = k; words = Q .words })) (sym e)))
 
-    both-answer : (s t : Step) → c ≡ d → answerFrom r one two m ≡ answerFrom r one two (onBoth s t)
-    unfolding answerFrom
-    both-answer s t e =
-        rw (P .fault, Q .fault)
-        (judged-same (faultAt r one p) (faultAt r two q)
-        (λ f g.
-        rw (P .lines, Q .lines, both a b (p .line) (linesFrom r one p) (entriesOf (linesFrom r two q)) (first-rises f) e)
-        (found-more s t e (shared (entriesOf (linesFrom r one p)) (entriesOf (linesFrom r two q))))))
+      -- one shared cycle more
+      found-more : (ss : List Shared) → found m (record { cycle = c; first = P .words; second = Q .words } ∷ ss) ≡ found (onBoth s t bytes) ss
+      found-more ss =
+          let n : m .shared + suc (length ss) ≡ m .shared + 1 + length ss = omega arith in
+          rw (same-line, n) (ap (Compared (m .shared + 1 + length ss)) (go (m .difference) (same (P .words) (Q .words))))
+        where
+          go :
+              (x : Difference) (u : Bool)
+              → firstOf x (cycleOf (Rattle.runs.specs.Lists.orElse (not u) (record { cycle = c; first = P .words; second = Q .words }) (first differs ss)))
+              ≡ firstOf (noted x c u) (cycleOf (first differs ss))
+          go (difference.At k) u = refl
+          go difference.Nowhere true = refl
+          go difference.Nowhere false = refl
+
+      both-answer : answerFrom r one two m ≡ answerFrom r one two (onBoth s t bytes)
+      unfolding answerFrom
+      both-answer =
+          rw (P .fault, Q .fault)
+          (judged-same (faultAt r one p) (faultAt r two q)
+          (λ f g.
+          rw (P .lines, Q .lines, both a b (p .line) (linesFrom r one p) (entriesOf (linesFrom r two q)) (first-rises f) e)
+          (found-more (shared (entriesOf (linesFrom r one p)) (entriesOf (linesFrom r two q))))))
 
     module _ (A : Ready r one two m) where
       pub first-goes : c < d → (s : Step) → Advanced r one p s → Progress r one two m (onFirst s)
@@ -153,8 +164,8 @@ module _ (r : ℕ) (one two : List ℕ) (m : Merge) where
             less = omega arith;
           }
 
-      pub both-go : c ≡ d → (s t : Step) → Advanced r one p s → Advanced r two q t → Progress r one two m (onBoth s t)
-      both-go e s t S T =
+      pub both-go : (s t : Step) (bytes : Bool) → bytes ≡ same firstBytes secondBytes → c ≡ d → Advanced r one p s → Advanced r two q t → Progress r one two m (onBoth s t bytes)
+      both-go s t bytes same-bytes e S T =
           let few = A .few in
           let ahead = P .ahead in
           let inside = P .within .inside in
@@ -162,7 +173,7 @@ module _ (r : ℕ) (one two : List ℕ) (m : Merge) where
           let inside-too = Q .within .inside in
           record {
             ready = record { first = record { within = P .within; next = S }; second = record { within = Q .within; next = T }; few = omega arith };
-            answer = both-answer s t e;
+            answer = both-answer s t bytes same-bytes e;
             less = omega arith;
           }
 
@@ -172,7 +183,7 @@ module _ (r : ℕ) (one two : List ℕ) (m : Merge) where
 abbrev pub Reached : ℕ → List ℕ → List ℕ → Merge → Type 0
 Reached r one two m = Ready r one two m × (answerFrom r one two m ≡ compareLines (recording r one) (recording r two))
 
-pub within-start : (text : List ℕ) → Within text start
+within-start : (text : List ℕ) → Within text start
 within-start text = record { inside = omega arith; line = omega arith }
 
 module _ (r : ℕ) (one two : List ℕ) where

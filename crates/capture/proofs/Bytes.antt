@@ -1,64 +1,46 @@
 -- Lines compared by their bytes: two lines of one cycle say the same where their bytes are the same. Assumes nothing.
 use mathlib.Core.Path.{_≡_, _∙_, refl, sym, ap}
 use mathlib.Core.List.{List, [], _∷_, _++_, append-cancel-right}
-use mathlib.Core.Bool.{Bool, true, false, not}
+use mathlib.Core.Bool.{Bool, true, false, _&&_, and-true}
 use mathlib.Core.Option.{Option, none, some}
-use Prim.Native.Nat.{ℕ, zero, suc, _+_, _-_, _^_, _≤_, _<_}
-use lib.Dec.{eqb, leb}
+use Prim.Native.Nat.{ℕ, zero, suc, _+_, _≤_, _<_}
+use lib.Dec.{eqb}
 use lib.ListN.{length, drop, getD, drop-of-length-le}
-use borrow.Author.Tests.{leb-true, leb-false, eq-eqb, ne-eqb, not-true}
 use Rattle.runs.specs.Lists.{same}
-use Rattle.runs.proofs.Tests.{and-true as both}
 use Rattle.runs.proofs.ListLaws.{same-test, same-eq, same-refl}
 use Rattle.decimal.specs.Decimal.{decimalOf}
 use Rattle.delimited.specs.Parts.{Fields, splitAt}
-use Rattle.delimited.proofs.Split.{apart, same-split}
+use Rattle.delimited.proofs.Split.{same-split}
 use Rattle.delimited.proofs.Numbers.{drop-more}
 use Rattle.delimited.proofs.Written.{none-some, number-written}
 use Rattle.capture.specs.Capture.{asWord, inFront, wordsOf, Entry, asEntry, lineEntry}
-use Rattle.capture.specs.Steps.{through}
 
 -- ---- one byte more
 
-module _ (one two : List ℕ) (i j : ℕ) where
-  abbrev SameFrom : ℕ → ℕ → Bool
-  SameFrom i j = same (through (drop i one)) (through (drop j two))
+module _ (one two : List ℕ) where
+  -- the bytes so far are all the same, and those from i on
+  abbrev pub SameFrom : ℕ → Bool → Bool
+  SameFrom i all = all && same (drop i one) (drop i two)
 
-  module _ (h : i < length one) where
-    pub second-ends : length two ≤ j → SameFrom i j ≡ false
-    unfolding through
-    second-ends k = rw (drop-more one i h, drop-of-length-le two k)
-
-    module _ (k : j < length two) where
-      pub byte-differs : (getD one i 0 ≡ getD two j 0 → ⊥) → SameFrom i j ≡ false
-      unfolding through
-      byte-differs n = rw (drop-more one i h, drop-more two j k, ne-eqb (getD one i 0) (getD two j 0) n)
-
-      pub line-ends : getD one i 0 ≡ getD two j 0 → getD one i 0 ≡ 10 → SameFrom i j ≡ true
-      unfolding through
-      line-ends e f = rw (drop-more one i h, drop-more two j k, sym e, f)
-
-      pub byte-same : getD one i 0 ≡ getD two j 0 → (getD one i 0 ≡ 10 → ⊥) → SameFrom i j ≡ SameFrom (i + 1) (j + 1)
-      unfolding through
-      byte-same e n =
-          rw (drop-more one i h, drop-more two j k, sym e, ne-eqb (getD one i 0) 10 n, eq-eqb (getD one i 0) (getD one i 0) refl)
-
-  pub first-ends : length one ≤ i → leb (length two) j ≡ SameFrom i j
-  unfolding through
-  first-ends h = rw (drop-of-length-le one h) (go (leb (length two) j) refl)
+  pub byte-more : (i : ℕ) (all : Bool) → i < length one → i < length two → SameFrom i all ≡ SameFrom (i + 1) (all && eqb (getD one i 0) (getD two i 0))
+  byte-more i all h k =
+      rw (drop-more one i h, drop-more two i k) (and-assoc all (eqb (getD one i 0) (getD two i 0)) (same (drop (i + 1) one) (drop (i + 1) two)))
     where
-      go : (t : Bool) → leb (length two) j ≡ t → t ≡ same [] (through (drop j two))
-      go true e = rw (drop-of-length-le two (leb-true (length two) j e))
-      go false e = rw (drop-more two j (leb-false (length two) j e))
+      and-assoc : (a b c : Bool) → a && (b && c) ≡ (a && b) && c
+      and-assoc true b c = refl
+      and-assoc false b c = refl
+
+  pub bytes-end : (i : ℕ) (all : Bool) → length one ≤ i → length two ≤ i → SameFrom i all ≡ all
+  bytes-end i all h k = rw (drop-of-length-le one h, drop-of-length-le two k) (and-true all)
+
+pub other-length : (one two : List ℕ) → (length one ≡ length two → ⊥) → same one two ≡ false
+other-length one two n = go (same one two) refl
+  where
+    go : (t : Bool) → same one two ≡ t → t ≡ false
+    go true e = absurd (n (ap length (same-eq one two e)))
+    go false e = refl
 
 -- ---- a line's bytes and its words
-
-pub through-line : (l t : List ℕ) → apart 10 l ≡ true → through (l ++ (10 ∷ t)) ≡ l ++ (10 ∷ [])
-unfolding through
-through-line [] t h = refl
-through-line (x ∷ l) t h =
-    let b = both (not (eqb x 10)) (apart 10 l) h in
-    rw (not-true (eqb x 10) (b .0), through-line l t (b .1))
 
 record Read (o : Option ℕ) (p : Option (List ℕ)) (ws : List ℕ) : Type 0 where
   word : ℕ
@@ -85,8 +67,8 @@ same-fields (suc n) (f ∷ fs) (g ∷ gs) ws e h =
     let b = read (asWord g) (wordsOf n gs) ws h in
     let v : a .word ≡ b .word = cc in
     let vs : b .rest ≡ a .rest = cc in
-    let f-is = number-written (2 ^ 32 - 1) (a .word) f (a .one) .field in
-    let g-is = number-written (2 ^ 32 - 1) (b .word) g (b .one) .field in
+    let f-is = number-written _ (a .word) f (a .one) .field in
+    let g-is = number-written _ (b .word) g (b .one) .field in
     let i = same-fields n fs gs (a .rest) (a .others) (b .others ∙ ap some vs) in
     let j : f ≡ g = f-is ∙ ap decimalOf v ∙ sym g-is in
     cc

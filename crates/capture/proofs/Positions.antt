@@ -1,12 +1,13 @@
 -- One line more of a recording: what a line that was read, or was not, says of the lines from here on. Assumes nothing.
 use mathlib.Core.Path.{_≡_, _∙_, refl, sym, ap}
-use mathlib.Core.List.{List, [], _∷_, _++_}
+use mathlib.Core.List.{List, [], _∷_, _++_, append-assoc}
 use mathlib.Core.Bool.{Bool, true, false, not}
 use mathlib.Core.Option.{Option, none, some}
 use Prim.Native.Nat.{ℕ, suc, _+_, _-_, _≤_, _<_}
 use native.Mathlib.Omega.{arith}
 use lib.Dec.{eqb}
-use lib.ListN.{length, drop, length-append, length-drop, drop-of-length-le}
+use lib.ListN.{length, take, drop, length-append, length-drop, drop-of-length-le}
+use lib.Seq.{take-append-seam}
 use borrow.Author.Tests.{eqb-true, ne-eqb, lt-ltb, le-ltb}
 use Rattle.delimited.proofs.Split.{apart, parts, split-part, split-last}
 use Rattle.delimited.proofs.Cursors.{behind}
@@ -16,9 +17,8 @@ use Rattle.capture.specs.declared.recording.Scan.the-variants.{Cycle, No
 use Rattle.capture.specs.declared.recording.Position.{Position}
 use Rattle.capture.specs.declared.recording.Step.the-variants as step
 use Rattle.capture.specs.Capture.{Entry, lineEntry, lineEntries, recording, faultFrom}
-use Rattle.capture.specs.Steps.{scanned, scanAt, through, linesFrom, faultAt, Within, Passed, Advanced}
+use Rattle.capture.specs.Steps.{scanned, scanAt, linesFrom, positionBehind, faultAt, Within, Passed, Advanced}
 use Rattle.delimited.proofs.Lines.{line-open, line-feed}
-use Rattle.capture.proofs.Bytes.{through-line}
 
 -- a text's first line ends with a line feed, or the text has none
 data Ended (s : List ℕ) : Type 0 where
@@ -85,7 +85,7 @@ module _ (r : ℕ) (text : List ℕ) (p : Position) where
       bytes : List ℕ
       words : List ℕ
       line : lineEntry r bytes ≡ some (record { cycle = c; words = words })
-      read : through (drop (p .at) text) ≡ bytes ++ (10 ∷ [])
+      read : take (next - p .at) (drop (p .at) text) ≡ bytes ++ (10 ∷ [])
       lines : linesFrom r text p ≡ some (record { cycle = c; words = words }) ∷ recording r (drop next text)
       ahead : p .at < next
       inside : next ≤ length text
@@ -93,6 +93,11 @@ module _ (r : ℕ) (text : List ℕ) (p : Position) where
     line-read : scanAt r (p .at) (drop (p .at) text) ≡ Cycle c next → LineRead
     line-read e = go (ended (drop (p .at) text))
       where
+        taken : (l t : List ℕ) → p .at + length l + 1 ≡ next → take (next - p .at) (l ++ (10 ∷ t)) ≡ l ++ (10 ∷ [])
+        taken l t h =
+            let n : next - p .at ≡ length (l ++ (10 ∷ [])) = rw length-append (omega arith) in
+            rw (n, sym (append-assoc l (10 ∷ []) t)) (take-append-seam (l ++ (10 ∷ [])) t)
+
         by :
             (l t : List ℕ) → apart 10 l ≡ true → drop (p .at) text ≡ l ++ (10 ∷ t)
             → (o : Option Entry) → lineEntry r l ≡ o → scanned o (p .at + length l + 1) ≡ Cycle c next → LineRead
@@ -107,7 +112,7 @@ module _ (r : ℕ) (text : List ℕ) (p : Position) where
               bytes = l;
               words = x .words;
               line = q ∙ x-is;
-              read = ap through g ∙ through-line l t w;
+              read = ap (take (next - p .at)) g ∙ taken l t next-is;
               lines =
                   ap (recording r) g
                   ∙ recording-feed r l t w
@@ -128,7 +133,7 @@ module _ (r : ℕ) (text : List ℕ) (p : Position) where
 
     pub passed :
         scanAt r (p .at) (drop (p .at) text) ≡ Cycle c next → p .least ≤ c → Within text p
-        → Passed r text p c (record { at = next; line = p .line + 1; least = c + 1 })
+        → Passed r text p c (positionBehind p c next)
     unfolding faultFrom
     passed e h w =
         let l = line-read e in

@@ -4,8 +4,7 @@ use mathlib.Core.Bool.{Bool}
 use mathlib.Core.List.{List, [], _∷_, _++_}
 use mathlib.Core.Option.{Option, none, some}
 use mathlib.Core.Path.{_≡_}
-use lib.ListN.{length, drop}
-use lib.Dec.{eqb}
+use lib.ListN.{length, take, drop}
 use Rattle.word.specs.Word.{choose}
 use Rattle.runs.specs.Lists.{first}
 use Rattle.delimited.specs.Cursor.{frontLine}
@@ -36,11 +35,6 @@ unfoldable pub scanAt : ℕ → ℕ → List ℕ → Scan
 unfolding frontLine wordsOf
 scanAt r at s = frontLine NoForm (λ fs next. scanned (asEntry (wordsOf (suc (suc r)) fs)) next) at s
 
--- up to the line feed, and with it
-unfoldable pub through : List ℕ → List ℕ
-through [] = []
-through (x ∷ xs) = x ∷ choose (eqb x 10) [] (through xs)
-
 -- ---- a recording, from a position on
 
 abbrev pub linesFrom : ℕ → List ℕ → Position → List (Option Entry)
@@ -49,9 +43,12 @@ linesFrom r text p = recording r (drop (p .at) text)
 abbrev pub faultAt : ℕ → List ℕ → Position → Fault
 faultAt r text p = faultFrom (p .least) (p .line) (linesFrom r text p)
 
+abbrev pub positionAt : ℕ → ℕ → ℕ → Position
+positionAt at line least = record { at = at; line = line; least = least }
+
 -- before the first line
 abbrev pub start : Position
-start = record { at = 0; line = 1; least = 0 }
+start = positionAt 0 1 0
 
 pub record Within (text : List ℕ) (p : Position) : Type 0 where
   pub inside : p .at ≤ length text
@@ -62,15 +59,19 @@ pub record Passed (r : ℕ) (text : List ℕ) (p : Position) (c : ℕ) (q : Posi
   pub bytes : List ℕ
   pub words : List ℕ
   pub line : lineEntry r bytes ≡ some (record { cycle = c; words = words })
-  pub read : through (drop (p .at) text) ≡ bytes ++ (10 ∷ [])
+  pub read : take (q .at - p .at) (drop (p .at) text) ≡ bytes ++ (10 ∷ [])
   pub lines : linesFrom r text p ≡ some (record { cycle = c; words = words }) ∷ linesFrom r text q
   pub fault : faultAt r text p ≡ faultAt r text q
   pub least : q .least ≡ suc c
   pub ahead : p .at < q .at
   pub within : Within text q
 
+-- behind a line of the cycle c, where the next begins at n
+abbrev pub positionBehind : Position → ℕ → ℕ → Position
+positionBehind p c n = positionAt n (p .line + 1) (c + 1)
+
 abbrev pub Advanced : ℕ → List ℕ → Position → Step → Type 0
-Advanced r text p (step.Entry c q) = Passed r text p c q
+Advanced r text p (step.Entry c n) = Passed r text p c (positionBehind p c n)
 Advanced r text p (step.Stop fault.Nothing) = linesFrom r text p ≡ []
 Advanced r text p (step.Stop (fault.At k n)) = faultAt r text p ≡ fault.At k n
 
@@ -87,6 +88,12 @@ noted d c same = firstOf d (choose same difference.Nowhere (difference.At c))
 -- a position in a recording, and its next line
 pub record Stands (r : ℕ) (text : List ℕ) (h : Head) : Type 0 where
   pub within : Within text (h .position)
+  pub next : Advanced r text (h .position) (h .step)
+
+-- behind the next line, which is of the cycle c and ends before n
+pub record Moved (r : ℕ) (text : List ℕ) (p : Position) (c n : ℕ) (h : Head) : Type 0 where
+  pub passed : Passed r text p c (h .position)
+  pub ends : h .position .at ≡ n
   pub next : Advanced r text (h .position) (h .step)
 
 pub record Ready (r : ℕ) (one two : List ℕ) (m : Merge) : Type 0 where

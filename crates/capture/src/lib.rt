@@ -7,10 +7,9 @@ use recording::Fault;
 use recording::Position;
 use recording::Step;
 ghost use mathlib.Core.Path.{_≡_};
-ghost use lib.ListN.{drop};
 ghost use Rattle.runs.specs.Lists.{same};
 ghost use Rattle.capture.specs.Capture.{compareCaptures};
-ghost use Rattle.capture.specs.Steps.{through, noted, Ready, AfterTurn, judgedAt};
+ghost use Rattle.capture.specs.Steps.{positionBehind, Passed, Within, noted, Moved, Ready, AfterTurn, judgedAt};
 
 pub enum Difference {
     Nowhere,
@@ -45,48 +44,47 @@ enum Turn {
     Stop,
 }
 
-// The bytes from `a` and from `b` on are the same up to the line feed.
-fn same_line(first: &[u8], a: usize, second: &[u8], b: usize) -> bool
-    ensures { λ r. ⌜ r ≡ same (through (drop a (now (first .entry)))) (through (drop b (now (second .entry)))) ⌝ }
+// Two lines are the same. All bytes are looked at, since a loop without an early end is the faster.
+fn same_bytes(one: &[u8], two: &[u8]) -> bool
+    ensures { λ r. ⌜ r ≡ same (now (one .entry)) (now (two .entry)) ⌝ }
 {
-    let mut i = a;
-    let mut j = b;
-    while i < first.len() {
-        if second.len() <= j {
-            return false;
-        }
-        let x = first[i];
-        if x != second[j] {
-            return false;
-        }
-        if x == b'\n' {
-            return true;
-        }
-        i += 1;
-        j += 1;
+    if one.len() != two.len() {
+        return false;
     }
-    second.len() <= j
+    let mut all = true;
+    let mut i: usize = 0;
+    while i < one.len() {
+        all = all & (one[i] == two[i]);
+        i += 1;
+    }
+    all
 }
 
-// The first difference so far, where both recordings hold the cycle, with lines at `a` and `b`. A number without leading zeros has one
-// writing, so equal words are equal bytes.
-fn first_difference(
-    found: Difference,
-    cycle: u32,
-    first: &[u8],
-    a: usize,
-    second: &[u8],
-    b: usize,
-) -> Difference
-    ensures { λ r. ⌜ r ≡ noted found cycle (same (through (drop a (now (first .entry)))) (through (drop b (now (second .entry))))) ⌝ }
+// The first difference so far, where both recordings hold the cycle, in these lines. A number without leading zeros has one writing, so
+// equal words are equal bytes.
+fn first_difference(found: Difference, cycle: u32, one: &[u8], two: &[u8]) -> Difference
+    ensures { λ r. ⌜ r ≡ noted found cycle (same (now (one .entry)) (now (two .entry))) ⌝ }
 {
     let Difference::Nowhere = found else {
         return found;
     };
-    if same_line(first, a, second, b) {
+    if same_bytes(one, two) {
         return Difference::Nowhere;
     }
     Difference::At(cycle)
+}
+
+// Behind the next line, which is of that cycle.
+fn behind(registers: u32, text: &[u8], head: Head, cycle: u32, next: usize) -> Head
+    requires { ⌜ Passed registers (now text) (head .position) cycle (positionBehind (head .position) cycle next) × Within (now text) (head .position) ⌝ }
+    ensures { λ r. ⌜ Moved registers (now (text .entry)) (head .position) cycle next r ⌝ }
+{
+    let p = head.position;
+    let q = recording::behind(p, cycle, next);
+    Head {
+        position: q,
+        step: recording::advance(registers, text, q.at, q.line, q.least),
+    }
 }
 
 // One turn: over the lower of both next cycles, or over both where they are the same.
@@ -107,10 +105,7 @@ fn merge_next(registers: u32, first: &[u8], second: &[u8], m: Merge) -> Turn
     };
     if c < d {
         return Turn::Go(Merge {
-            first: Head {
-                position: p,
-                step: recording::advance(registers, first, p),
-            },
+            first: behind(registers, first, one, c, p),
             second: two,
             shared: m.shared,
             difference: found,
@@ -119,27 +114,18 @@ fn merge_next(registers: u32, first: &[u8], second: &[u8], m: Merge) -> Turn
     if d < c {
         return Turn::Go(Merge {
             first: one,
-            second: Head {
-                position: q,
-                step: recording::advance(registers, second, q),
-            },
+            second: behind(registers, second, two, d, q),
             shared: m.shared,
             difference: found,
         });
     }
-    let here = one.position;
-    let there = two.position;
+    let a = one.position.at;
+    let b = two.position.at;
     Turn::Go(Merge {
-        first: Head {
-            position: p,
-            step: recording::advance(registers, first, p),
-        },
-        second: Head {
-            position: q,
-            step: recording::advance(registers, second, q),
-        },
+        first: behind(registers, first, one, c, p),
+        second: behind(registers, second, two, d, q),
         shared: m.shared + 1,
-        difference: first_difference(found, c, first, here.at, second, there.at),
+        difference: first_difference(found, c, &first[a..p], &second[b..q]),
     })
 }
 
@@ -182,11 +168,11 @@ pub fn compare_captures(registers: u32, first: &[u8], second: &[u8]) -> CaptureA
     let mut m = Merge {
         first: Head {
             position: start,
-            step: recording::advance(registers, first, start),
+            step: recording::advance(registers, first, start.at, start.line, start.least),
         },
         second: Head {
             position: start,
-            step: recording::advance(registers, second, start),
+            step: recording::advance(registers, second, start.at, start.line, start.least),
         },
         shared: 0,
         difference: Difference::Nowhere,

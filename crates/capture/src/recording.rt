@@ -2,10 +2,11 @@
 use delimited::Field;
 ghost use mathlib.Core.Path.{_≡_};
 ghost use mathlib.Core.Bool.{true};
+ghost use Prim.Native.Nat.{_-_, _<_, _^_};
 ghost use lib.ListN.{drop};
 ghost use Rattle.delimited.specs.Cursor.{stops, fieldAt};
 ghost use Rattle.capture.specs.Capture.{asWord};
-ghost use Rattle.capture.specs.Steps.{scanAt, Within, Advanced, faultAt};
+ghost use Rattle.capture.specs.Steps.{scanAt, positionAt, Within, Advanced, positionBehind, faultAt};
 
 pub enum Fault {
     Nothing,
@@ -27,8 +28,8 @@ pub struct Position {
 }
 
 pub enum Step {
-    // The line's cycle, and the position behind it.
-    Entry(u32, Position),
+    // The line's cycle, and where the line behind it begins.
+    Entry(u32, usize),
     // The recording ends here, or its next line is at fault.
     Stop(Fault),
 }
@@ -63,29 +64,33 @@ fn line_at(registers: u32, text: &[u8], at: usize) -> Scan
     Scan::Cycle(cycle, next)
 }
 
-// The next line.
-pub fn advance(registers: u32, text: &[u8], p: Position) -> Step
-    requires { ⌜ Within (now text) p ⌝ }
-    ensures { λ r. ⌜ Advanced registers (now (text .entry)) p r ⌝ }
+// The next line. The position comes in numbers, since a struct would go by way of memory.
+pub fn advance(registers: u32, text: &[u8], at: usize, line: u64, least: u64) -> Step
+    requires { ⌜ Within (now text) (positionAt at line least) ⌝ }
+    ensures { λ r. ⌜ Advanced registers (now (text .entry)) (positionAt at line least) r ⌝ }
 {
-    let at = p.at;
     if text.len() <= at {
         return Step::Stop(Fault::Nothing);
     }
     let Scan::Cycle(cycle, next) = line_at(registers, text, at) else {
-        return Step::Stop(Fault::At(17, p.line));
+        return Step::Stop(Fault::At(17, line));
     };
-    if (cycle as u64) < p.least {
-        return Step::Stop(Fault::At(18, p.line));
+    if (cycle as u64) < least {
+        return Step::Stop(Fault::At(18, line));
     }
-    Step::Entry(
-        cycle,
-        Position {
-            at: next,
-            line: p.line + 1,
-            least: (cycle as u64) + 1,
-        },
-    )
+    Step::Entry(cycle, next)
+}
+
+// The position behind a line of that cycle.
+pub fn behind(p: Position, cycle: u32, next: usize) -> Position
+    requires { ⌜ p .line < 2 ^ 64 - 1 ⌝ }
+    ensures { λ r. ⌜ r ≡ positionBehind p cycle next ⌝ }
+{
+    Position {
+        at: next,
+        line: p.line + 1,
+        least: (cycle as u64) + 1,
+    }
 }
 
 // The first fault of a recording from a position on.
@@ -95,10 +100,10 @@ pub fn first_fault(registers: u32, text: &[u8], p: Position) -> Fault
 {
     let mut q = p;
     loop {
-        let step = advance(registers, text, q);
+        let step = advance(registers, text, q.at, q.line, q.least);
         match step {
-            Step::Entry(_, next) => {
-                q = next;
+            Step::Entry(cycle, next) => {
+                q = behind(q, cycle, next);
             }
             Step::Stop(fault) => {
                 return fault;

@@ -12,7 +12,7 @@ pub enum Field {
     Bad,
 }
 
-// The digits from `at` up to the byte `end`, of a value of at most `most`.
+// The digits from `at` up to the byte `end`, of a value of at most `most`. One test tells a digit from all other bytes.
 fn digits(text: &[u8], at: usize, end: u8, most: u32) -> Field
     requires { ⌜ stops end ≡ true ⌝ }
     ensures { λ r. ⌜ r ≡ fieldAt (digitsAtMost most 0) end at (drop at (now (text .entry))) ⌝ }
@@ -21,16 +21,14 @@ fn digits(text: &[u8], at: usize, end: u8, most: u32) -> Field
     let mut i = at;
     while i < text.len() {
         let b = text[i];
-        if b == end {
-            return Field::Value(v, i + 1);
-        }
-        if b < b'0' {
+        let d = std::num::wrapping_sub_u8(b, b'0');
+        if 9 < d {
+            if b == end {
+                return Field::Value(v, i + 1);
+            }
             return Field::Bad;
         }
-        if b'9' < b {
-            return Field::Bad;
-        }
-        let w = (v as u64) * 10 + ((b - b'0') as u64);
+        let w = (v as u64) * 10 + (d as u64);
         if (most as u64) < w {
             return Field::Bad;
         }

@@ -3,7 +3,7 @@ use mathlib.Core.Path.{_∙_, sym}
 use native.Mathlib.Omega.{arith}
 use denote.Ref.{now}
 use Rattle.capture.specs.Steps.{left}
-use Rattle.capture.proofs.Answers.{Reached, within-start, from-start, few-registers, many-registers, in-range}
+use Rattle.capture.proofs.Answers.{Reached, from-start, few-registers, many-registers, in-range}
 use borrow.Author.Needs.{needs}
 use Rattle.capture.proofs.compare_captures.Statement.{statement}
 use Rattle.capture.proofs.compare_captures.Tie as tie
@@ -25,10 +25,10 @@ returns-2 c =
     sym (many-registers (a .registers) (now (a .first)) (now (a .second)) (omega arith) (omega arith))
 
 advance-requires : tie.Need-advance-requires Inv-loop μ-loop
-advance-requires c κs = within-start (now (c .before .before .before .before .args .first))
+advance-requires c κs = record { inside = omega arith; line = omega arith }
 
 advance-requires-2 : tie.Need-advance-requires-2 Inv-loop μ-loop
-advance-requires-2 c κs = within-start (now (c .before .before .before .before .before .args .second))
+advance-requires-2 c κs = record { inside = omega arith; line = omega arith }
 
 loop-holds : tie.Need-loop-holds Inv-loop μ-loop
 loop-holds c =

@@ -22,17 +22,23 @@ loop-holds c = (c .before .pre, refl)
 advance-requires : tie.Need-advance-requires Inv-loop μ-loop
 advance-requires c κs = c .loop .inv .0
 
+behind-requires : tie.Need-behind-requires Inv-loop μ-loop
+behind-requires c κs =
+    let line = c .before .before .before .before .loop .inv .0 .line in
+    let inside = c .before .before .before .before .loop .inv .0 .inside in
+    omega arith
+
 loop-less : tie.Need-loop-less Inv-loop μ-loop
 loop-less c =
-    let P = rw (c .before .step .given .1) at (c .before .before .before .advance .ensures) in
+    let P = rw (c .before .before .step .given .1) at (c .before .before .before .before .advance .ensures) in
     let ahead = P .ahead in
     let inside = P .within .inside in
-    omega arith
+    rw (c .behind .ensures) (omega arith)
 
 loop-again : tie.Need-loop-again Inv-loop μ-loop
 loop-again c =
-    let P = rw (c .before .step .given .1) at (c .before .before .before .advance .ensures) in
-    (P .within, sym (P .fault) ∙ c .before .before .before .before .loop .inv .1)
+    let P = rw (c .before .before .step .given .1) at (c .before .before .before .before .advance .ensures) in
+    rw (c .behind .ensures) (P .within, sym (P .fault) ∙ c .before .before .before .before .before .loop .inv .1)
 
 returns : tie.Need-returns Inv-loop μ-loop
 returns c =
@@ -49,6 +55,7 @@ first-fault-spec =
     loop-holds
     advance-requires
     (λ c. search needs)
+    behind-requires
     loop-less
     loop-again
     (λ c. search needs)

@@ -22,25 +22,21 @@ struct Reader<'a> {
 }
 
 /// A number without leading zeros that begins at `at`, with `end` behind it; and where the next
-/// one begins.
+/// one begins. A word has at most ten digits, so its value is checked once, at the end.
 #[inline]
 fn word(text: &[u8], at: usize, end: u8) -> Option<(u32, usize)> {
-    let mut value = 0;
-    let mut next = at;
-    loop {
-        let byte = *text.get(next)?;
-        next += 1;
+    let stop = text.len().min(at + 11);
+    let mut value: u64 = 0;
+    for (index, &byte) in text.get(at..stop)?.iter().enumerate() {
         let digit = byte.wrapping_sub(b'0');
         if digit > 9 {
-            let digits = next - at - 1;
-            let fits = digits == 1 || (digits > 1 && text[at] != b'0');
-            return (byte == end && fits).then_some((value as u32, next));
+            let fits = index == 1 || (index > 1 && text[at] != b'0');
+            let good = byte == end && fits && value <= u64::from(u32::MAX);
+            return good.then_some((value as u32, at + index + 1));
         }
         value = 10 * value + u64::from(digit);
-        if value > u64::from(u32::MAX) {
-            return None;
-        }
     }
+    None
 }
 
 /// The cycle of the line that begins at `at`, and where the next line begins.

@@ -120,14 +120,14 @@ module _ (r : ℕ) (one two : List ℕ) (m : Merge) where
           ∙ rw (P .read, Q .read) (same-words r c (P .words) (Q .words) (P .bytes) (Q .bytes) (P .line) (Q .line ∙ ap (λ (k : ℕ). some (record { cycle = k; words = Q .words })) (sym e)))
 
       -- one shared cycle more
-      found-more : (ss : List Shared) → found m (record { cycle = c; first = P .words; second = Q .words } ∷ ss) ≡ found (onBoth s t bytes) ss
+      found-more : (ss : List Shared) → found m (record { cycle = c; one = P .words; two = Q .words } ∷ ss) ≡ found (onBoth s t bytes) ss
       found-more ss =
           let n : m .shared + suc (length ss) ≡ m .shared + 1 + length ss = omega arith in
           rw (same-line, n) (ap (Compared (m .shared + 1 + length ss)) (go (m .difference) (same (P .words) (Q .words))))
         where
           go :
               (x : Difference) (u : Bool)
-              → firstOf x (cycleOf (Rattle.runs.specs.Lists.orElse (not u) (record { cycle = c; first = P .words; second = Q .words }) (first differs ss)))
+              → firstOf x (cycleOf (Rattle.runs.specs.Lists.orElse (not u) (record { cycle = c; one = P .words; two = Q .words }) (first differs ss)))
               ≡ firstOf (noted x c u) (cycleOf (first differs ss))
           go (difference.At k) u = refl
           go difference.Nowhere true = refl

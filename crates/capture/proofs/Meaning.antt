@@ -99,7 +99,7 @@ module _ (bs : List Entry) where
         where
           on :
               (t : Bool) → same (e .words) (b .words) ≡ t
-              → Says (e ∷ es) bs (cycleOf (Rattle.runs.specs.Lists.orElse (not t) (record { cycle = e .cycle; first = e .words; second = b .words }) later))
+              → Says (e ∷ es) bs (cycleOf (Rattle.runs.specs.Lists.orElse (not t) (record { cycle = e .cycle; one = e .words; two = b .words }) later))
           on true p =
               says-too e es
               (λ x y.

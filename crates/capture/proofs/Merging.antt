@@ -64,7 +64,7 @@ module _ (a b : Entry) (n : ℕ) where
 
     pub both : a .cycle ≡ b .cycle
         → shared (a ∷ entriesOf ls) (b ∷ bs)
-        ≡ record { cycle = a .cycle; first = a .words; second = b .words } ∷ shared (entriesOf ls) bs
+        ≡ record { cycle = a .cycle; one = a .words; two = b .words } ∷ shared (entriesOf ls) bs
     unfolding shared
     both e = rw (eq-eqb (a .cycle) (b .cycle) e, unshared b bs (suc (a .cycle)) n ls h (omega arith))
 

@@ -86,8 +86,8 @@ entriesOf (some e ∷ ls) = e ∷ entriesOf ls
 -- a cycle that both hold, with what the first and the second say of it
 pub record Shared : Type 0 where
   pub cycle : ℕ
-  pub first : List ℕ
-  pub second : List ℕ
+  pub one : List ℕ
+  pub two : List ℕ
 
 -- the entry of the cycle c
 abbrev pub entryAt : ℕ → List Entry → Option Entry
@@ -96,7 +96,7 @@ entryAt c = first (λ e. eqb c (e .cycle))
 -- an entry is shared where the other recording has one of its cycle
 abbrev pub joined : Entry → Option Entry → List Shared → List Shared
 joined a none ss = ss
-joined a (some b) ss = record { cycle = a .cycle; first = a .words; second = b .words } ∷ ss
+joined a (some b) ss = record { cycle = a .cycle; one = a .words; two = b .words } ∷ ss
 
 -- the "cycles that both hold", in the order of the first
 unfoldable pub shared : List Entry → List Entry → List Shared
@@ -105,7 +105,7 @@ shared (a ∷ es) bs = joined a (entryAt (a .cycle) bs) (shared es bs)
 
 -- "state or registers differ"
 abbrev pub differs : Shared → Bool
-differs s = not (same (s .first) (s .second))
+differs s = not (same (s .one) (s .two))
 
 abbrev pub cycleOf : Option Shared → Difference
 cycleOf none = difference.Nowhere

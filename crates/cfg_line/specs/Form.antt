@@ -1,6 +1,6 @@
 -- The form of a line ("Text" of paper 01, R-1 of paper 02). Assumes nothing.
 use Prim.Native.Nat.{ℕ}
-use mathlib.Core.Bool.{Bool, true, false, _&&_}
+use mathlib.Core.Bool.{_&&_}
 use mathlib.Core.List.{List, [], _∷_}
 use mathlib.Core.Option.{Option, none, some}
 use lib.Dec.{leb}
@@ -8,7 +8,6 @@ use Rattle.word.specs.Word.{choose}
 use Rattle.cfg.specs.Layout.{maxBlocks, maxRegisters}
 use Rattle.cfg.specs.Table.{comparisonAt}
 use Rattle.cfg.specs.declared.Instruction.{Instruction}
-use Rattle.cfg.specs.declared.Condition.{Condition}
 use Rattle.delimited.specs.Parts.{Fields, splitAt}
 use Rattle.cfg_line.specs.declared.Keyword.{Keyword}
 use Rattle.cfg_line.specs.declared.Keyword.the-variants as keyword

@@ -1,5 +1,5 @@
 -- A number in a field: what is written is read, and what is read was so written. Assumes nothing.
-use Prim.Native.Nat.{ℕ, zero, suc, _+_, _-_, _*_, _/_, _%_, _^_, _≤_, _<_}
+use Prim.Native.Nat.{ℕ, zero, suc, _+_, _-_, _*_, _/_, _%_, _≤_, _<_}
 use native.Mathlib.Omega.{arith}
 use native.Mathlib.Decide.{decLt}
 use mathlib.Core.Path.{_≡_, refl, sym, ap, _∙_}
@@ -8,12 +8,12 @@ use mathlib.Core.List.{List, [], _∷_, _++_, append-assoc, append-nil}
 use mathlib.Core.Option.{Option, none, some}
 use lib.Dec.{eqb, leb}
 use lib.ListN.{length, getD, List·getD-append}
-use borrow.Author.Tests.{leb-true, eqb-true, eqb-false, ne-eqb, le-leb, lt-ltb, le-ltb, not-true}
+use borrow.Author.Tests.{leb-true, eqb-false, ne-eqb, le-leb, not-true}
 use Rattle.word.specs.Word.{choose}
 use Rattle.runs.specs.Lists.{every}
 use Rattle.runs.proofs.ListLaws.{and-left, and-right, and-both, every-snoc}
 use Rattle.decimal.specs.Decimal.{decimalOf}
-use Rattle.decimal.proofs.Laws.{decimal-one, decimal-last, decimal-some, decimal-short}
+use Rattle.decimal.proofs.Laws.{decimal-one, decimal-last, decimal-some}
 use Rattle.delimited.specs.Number.{digit, decimal, valueFrom, atMost}
 
 -- an option is not both none and some

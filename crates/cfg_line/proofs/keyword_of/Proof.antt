@@ -3,8 +3,7 @@ use Rattle.delimited.specs.Parts.{bytes}
 use Rattle.cfg_line.specs.Name.{keywordOf}
 use Rattle.cfg_line.specs.Cursor.{packed}
 use Rattle.cfg_line.proofs.Packing.{found, other}
-use mathlib.Core.Path.{_≡_, refl}
-use borrow.Author.Needs.{needs}
+use mathlib.Core.Path.{refl}
 use Rattle.cfg_line.proofs.keyword_of.Statement.{statement}
 use Rattle.cfg_line.proofs.keyword_of.Tie as tie
 

@@ -1,21 +1,16 @@
 -- `cfg_line::literal` meets its contract. Assumes nothing.
-use mathlib.Core.Path.{_≡_, _∙_, refl, sym, ap}
+use mathlib.Core.Path.{_≡_, _∙_, sym, ap}
 use Prim.Native.Nat.{ℕ, _+_, _-_, _^_}
 use native.Mathlib.Omega.{arith}
 use lib.ListN.{drop, getD, drop-of-length-le}
 use denote.Ref.{now}
 use Rattle.delimited.specs.Number.{atMost}
-use Rattle.cfg_line.specs.Number.{numberOf, literalOf}
-use Rattle.cfg_line.specs.Form.{number, field, end, graphLine, instruction, iteLine, formOf}
+use Rattle.cfg_line.specs.Number.{literalOf}
+use Rattle.cfg_line.specs.Form.{end}
 use Rattle.delimited.specs.Cursor.{fieldAt}
-use Rattle.cfg_line.specs.Cursor.{parsed}
-use Rattle.cfg_line.specs.declared.Line.{Line}
-use Rattle.cfg_line.proofs.Forms.{on, last, not-on, not-last}
 use Rattle.delimited.proofs.Numbers.{drop-more, no-byte}
 use Rattle.cfg_line.proofs.Literals.{negated, literal-minus, literal-plain}
-use Rattle.delimited.specs.declared.Field.{Field}
 use borrow.Author.Tests.{eq-eqb, ne-eqb}
-use mathlib.Core.List.{List, [], _∷_}
 use Rattle.delimited.specs.declared.Field.the-variants.{Value}
 use borrow.Author.Needs.{needs}
 use Rattle.cfg_line.proofs.literal.Statement.{statement}

@@ -1,8 +1,8 @@
 -- `cfg_line::name_at` meets its contract. Assumes nothing.
 use denote.Ref.{now}
-use mathlib.Core.List.{List, []}
-use mathlib.Core.Path.{_≡_, _∙_, refl, sym, ap}
-use Prim.Native.Nat.{ℕ, _+_, _-_, _*_, _^_, _≤_, _<_}
+use mathlib.Core.List.{[]}
+use mathlib.Core.Path.{_≡_, _∙_, sym, ap}
+use Prim.Native.Nat.{_+_, _-_, _^_, _<_}
 use native.Mathlib.Omega.{arith}
 use lib.ListN.{length, drop, getD, drop-of-length-le}
 use Rattle.delimited.proofs.Numbers.{drop-more}

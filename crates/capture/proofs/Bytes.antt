@@ -1,7 +1,7 @@
 -- Lines compared by their bytes: two lines of one cycle say the same where their bytes are the same. Assumes nothing.
 use mathlib.Core.Path.{_≡_, _∙_, refl, sym, ap}
 use mathlib.Core.List.{List, [], _∷_, _++_, append-cancel-right}
-use mathlib.Core.Bool.{Bool, true, false, _&&_, and-true}
+use mathlib.Core.Bool.{Bool, true, false, _&&_, and-true, and-assoc}
 use mathlib.Core.Option.{Option, none, some}
 use Prim.Native.Nat.{ℕ, zero, suc, _+_, _≤_, _<_}
 use lib.Dec.{eqb}
@@ -24,11 +24,8 @@ module _ (one two : List ℕ) where
 
   pub byte-more : (i : ℕ) (all : Bool) → i < length one → i < length two → SameFrom i all ≡ SameFrom (i + 1) (all && eqb (getD one i 0) (getD two i 0))
   byte-more i all h k =
-      rw (drop-more one i h, drop-more two i k) (and-assoc all (eqb (getD one i 0) (getD two i 0)) (same (drop (i + 1) one) (drop (i + 1) two)))
-    where
-      and-assoc : (a b c : Bool) → a && (b && c) ≡ (a && b) && c
-      and-assoc true b c = refl
-      and-assoc false b c = refl
+      rw (drop-more one i h, drop-more two i k)
+      (sym (and-assoc all (eqb (getD one i 0) (getD two i 0)) (same (drop (i + 1) one) (drop (i + 1) two))))
 
   pub bytes-end : (i : ℕ) (all : Bool) → length one ≤ i → length two ≤ i → SameFrom i all ≡ all
   bytes-end i all h k = rw (drop-of-length-le one h, drop-of-length-le two k) (and-true all)

@@ -2,7 +2,7 @@
 use mathlib.Core.Path.{_≡_, _∙_, refl, sym, ap, subst}
 use mathlib.Core.List.{List, [], _∷_, _++_, map, append-nil, append-assoc, map-append}
 use lib.ListN.{length, length-map, length-append}
-use mathlib.Core.Bool.{Bool, true, false, not, _&&_, _||_}
+use mathlib.Core.Bool.{Bool, true, false, not, _&&_, _||_, and-assoc}
 use mathlib.Core.Option.{Option, none, some}
 use Prim.Native.Nat.{ℕ, suc}
 use native.Mathlib.Omega.{arith}
@@ -136,11 +136,7 @@ rising-snoc (d ∷ []) c = go (ltb d c) refl (ltb c (suc d)) refl
     go true e false f = rw (e, f)
     go false e true f = rw (e, f)
     go false e false f = let l = ltb-false d c e in let k = ltb-false c (suc d) f in absurd (omega arith)
-rising-snoc (d ∷ e ∷ cs) c = rw (rising-snoc (e ∷ cs) c) (and-assoc (ltb d e) (rising (e ∷ cs)) (not (ltb c (bound (e ∷ cs)))))
-  where
-    and-assoc : (a b c : Bool) → a && (b && c) ≡ (a && b) && c
-    and-assoc true b c = refl
-    and-assoc false b c = refl
+rising-snoc (d ∷ e ∷ cs) c = rw (rising-snoc (e ∷ cs) c) (sym (and-assoc (ltb d e) (rising (e ∷ cs)) (not (ltb c (bound (e ∷ cs))))))
 
 bound-snoc : (cs : List ℕ) (c : ℕ) → bound (cs ++ (c ∷ [])) ≡ suc c
 bound-snoc [] c = refl

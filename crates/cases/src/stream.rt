@@ -27,6 +27,15 @@ pub struct Taken {
     pub next: Cursor,
 }
 
+// Where both runs start and what they may use.
+pub struct Starts {
+    pub start_block: u32,
+    pub block_budget: u32,
+    pub start_state: u32,
+    pub cycle_budget: u32,
+    pub next: Cursor,
+}
+
 // Two recordings of so many registers: their bytes.
 pub struct Captures {
     pub registers: u32,
@@ -178,6 +187,21 @@ pub fn part(s: &[u8], at: usize, n: usize) -> &[u8] {
     &s[at..at + n]
 }
 
+fn starts_at(s: &[u8], c: Cursor) -> Starts {
+    let start_block = word(s, c);
+    let block_budget = word(s, start_block.next);
+    let start_state = word(s, block_budget.next);
+    let cycle_budget = word(s, start_state.next);
+    let next = cycle_budget.next;
+    Starts {
+        start_block: start_block.value,
+        block_budget: block_budget.value,
+        start_state: start_state.value,
+        cycle_budget: cycle_budget.value,
+        next,
+    }
+}
+
 fn captures_at(s: &[u8], c: Cursor) -> TakenCaptures {
     let registers = word(s, c);
     let first = take(s, registers.next, Case::CAPTURE, 1);
@@ -206,11 +230,8 @@ pub fn case_at(s: &[u8], at: usize) -> Case
     let machine = count(s, output.next, Case::MACHINE);
     let machine_patches = take(s, machine.next, Case::PATCHES, 8);
     let registers = take(s, machine_patches.next, Case::REGISTERS, 4);
-    let start_block = word(s, registers.next);
-    let block_budget = word(s, start_block.next);
-    let start_state = word(s, block_budget.next);
-    let cycle_budget = word(s, start_state.next);
-    let words = take(s, cycle_budget.next, Case::WORDS, 4);
+    let starts = starts_at(s, registers.next);
+    let words = take(s, starts.next, Case::WORDS, 4);
     let starters = take(s, words.next, Case::STARTERS, 4);
     let recordings = captures_at(s, starters.next);
     let text_region = text.region;
@@ -229,10 +250,10 @@ pub fn case_at(s: &[u8], at: usize) -> Case
         machine: machine.value,
         machine_patches: machine_region,
         registers: register_region,
-        start_block: start_block.value,
-        block_budget: block_budget.value,
-        start_state: start_state.value,
-        cycle_budget: cycle_budget.value,
+        start_block: starts.start_block,
+        block_budget: starts.block_budget,
+        start_state: starts.start_state,
+        cycle_budget: starts.cycle_budget,
         words: word_region,
         starters: starter_region,
         captures,

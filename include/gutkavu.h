@@ -96,7 +96,7 @@ uint32_t gutkavu_run_machine_with_words(const uint32_t *machine, size_t machine_
                                         size_t registers_len, uint32_t start, uint32_t budget, const uint32_t *words,
                                         size_t words_len, uint32_t *outcome, uint32_t *count, uint32_t *next);
 
-/* Compares two recordings of one voyage, the first an array's capture, say, and the second a model's run; either may
+/* Compares two recordings of one run, the first an array's capture, say, and the second a model's run; either may
  * lack cycles, and both may have any length, 0 included. A line is `cycle,state,` and as many register words as
  * registers (R) says, parted by commas, each number 0 to 4294967295 without leading zeros, with a line feed behind the
  * line. The cycles of a recording rise from line to line.

@@ -1,4 +1,4 @@
-//! Two recordings of one voyage, compared cycle for cycle.
+//! Two recordings of one run, compared cycle for cycle.
 
 use crate::graph::MAX_REGISTERS;
 use std::collections::BTreeMap;

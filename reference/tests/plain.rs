@@ -120,7 +120,7 @@ fn all_seen(seen: &Seen, every: &[(&'static str, &[u32])]) {
     }
 }
 
-/// Two recordings of a voyage: each lacks some cycles, and has other words here and there.
+/// Two recordings of a run: each lacks some cycles, and has other words here and there.
 fn recordings(random: &mut Random, registers: u32) -> [Vec<u8>; 2] {
     let (mut texts, mut cycle) = ([String::new(), String::new()], random.word() % 3);
     let (lines, lack, differ) = (random.below(12), random.below(60), random.pick(&[0, 0, 5, 50]));

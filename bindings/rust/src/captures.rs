@@ -1,4 +1,4 @@
-//! Recordings of one voyage against each other, as an array's capture and a model's run.
+//! Recordings of one run against each other, as an array's capture and a model's run.
 //!
 //! A recording is a text of lines `cycle,state,` and R register words parted by commas, with a line
 //! feed after each. The numbers are 0 to 4294967295 without leading zeros, and the cycles rise from

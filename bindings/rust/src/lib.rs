@@ -38,7 +38,7 @@
 //! # Ok::<(), Box<dyn std::error::Error>>(())
 //! ```
 //!
-//! Two recordings of one voyage, an array's capture and a model's run, are compared cycle by cycle;
+//! Two recordings of one run, an array's capture and a model's run, are compared cycle by cycle;
 //! either may lack cycles. [`captures`] has the form of their lines.
 //!
 //! ```

@@ -164,7 +164,7 @@ pub fn run_machine_with_words(
     RunWithWordsFields { number, outcome, count, next }
 }
 
-/// Compares two recordings of one voyage, of `registers` registers each.
+/// Compares two recordings of one run, of `registers` registers each.
 pub fn compare_captures(registers: u32, first: &[u8], second: &[u8]) -> CaptureFields {
     let (mut recording, mut differs, mut cycle) = (UNSET, UNSET, UNSET);
     let (mut line, mut shared) = (u64::from(UNSET), u64::from(UNSET));

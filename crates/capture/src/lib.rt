@@ -1,4 +1,4 @@
-// Two recordings of one voyage, compared: the array's capture and the model's run, say. Both texts are read from front to back and
+// Two recordings of one run, compared: the array's capture and the model's run, say. Both texts are read from front to back and
 // merged by their cycles; nothing is stored.
 pub mod recording; // recording.rt: one recording
 

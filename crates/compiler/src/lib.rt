@@ -97,7 +97,7 @@ pub fn run_machine_with_words(
     fsmd::run::run_machine_with_words(machine, registers, start, budget, words)
 }
 
-// "The array's capture against the model's": two recordings of one voyage, of so many registers. The answer says which line is the first
+// "The array's capture against the model's": two recordings of one run, of so many registers. The answer says which line is the first
 // faulty one, or how many cycles both hold and the lowest of them where they differ.
 pub fn compare_captures(registers: u32, first: &[u8], second: &[u8]) -> CaptureAnswer
     ensures { λ r. ⌜ r ≡ compareCaptures registers (now (first .entry)) (now (second .entry)) ⌝ }

@@ -23,7 +23,7 @@ use Rattle.grouping.specs.Grouping.{groups}
 use Rattle.placement.specs.Counts.{lowered, Choice, Edge, blocksOf, choicesOf, lowerings}
 use Rattle.synthesis.specs.Synthesis.{machine}
 use Rattle.worked_examples.specs.Graphs.{P7, P9, P10, P11, P12, Figure5, Rates, Twins}
-use Rattle.worked_examples.specs.Texts.{lines, gotoTwo, gotoOne, eight, nine, p7Text, voyage, sixteen}
+use Rattle.worked_examples.specs.Texts.{lines, gotoTwo, gotoOne, eight, nine, p7Text, recorded, sixteen}
 
 -- an example's name, and whether it holds
 pub record Row : Type 0 where
@@ -83,7 +83,7 @@ module _ (r : ℕ) (one two : List ℕ) where
   refused k i n = same compared (k ∷ i ∷ n ∷ 0 ∷ 0 ∷ 0 ∷ [])
 
 unfoldable pub rows : List Row
-unfolding compareCaptures voyage sixteen choicesOf lowered lowerings concatMap Twins evalOf groups machine answered registersLeft graphRefusal graphWordsRefusal graphOf runBlock machineRefusal machineWordsRefusal machineOf clock graphTable machineTable graphAdmitted machineAdmitted readAnswer readWords P7 P9 P10 P11 P12 Figure5 Rates gotoTwo gotoOne eight nine p7Text
+unfolding compareCaptures recorded sixteen choicesOf lowered lowerings concatMap Twins evalOf groups machine answered registersLeft graphRefusal graphWordsRefusal graphOf runBlock machineRefusal machineWordsRefusal machineOf clock graphTable machineTable graphAdmitted machineAdmitted readAnswer readWords P7 P9 P10 P11 P12 Figure5 Rates gotoTwo gotoOne eight nine p7Text
 rows =
     row "P1 the empty text: 3, line 1" (same (reading []) (3 ∷ 1 ∷ []))
     ∷ row "P2 graph,65,1: 2, line 1" (same (reading (lines ("graph,65,1" ∷ []))) (2 ∷ 1 ∷ []))
@@ -161,16 +161,16 @@ rows =
     ∷ row "P12 an unreachable predecessor is not waited for" (alike (countsBefore P12 0) ((0 ∷ 1 ∷ []) ∷ (0 ∷ []) ∷ []))
     -- R-12: captures compared
     ∷ row "both empty" (agree 1 [] [] 0)
-    ∷ row "the second empty" (agree 1 voyage [] 0)
-    ∷ row "the first empty" (agree 1 [] voyage 0)
-    ∷ row "no cycle that both hold" (agree 1 voyage (lines ("1,0,7" ∷ "3,1,8" ∷ "4,0,9" ∷ "6,0,0" ∷ [])) 0)
-    ∷ row "equal recordings" (agree 1 voyage voyage 3)
-    ∷ row "either lacks cycles" (agree 1 voyage (lines ("2,1,8" ∷ "3,3,3" ∷ "5,0,9" ∷ "9,9,9" ∷ [])) 2)
-    ∷ row "a cycle that one holds differs from nothing" (agree 1 voyage (lines ("1,9,9" ∷ "5,0,9" ∷ [])) 1)
-    ∷ row "the state differs" (differ 1 voyage (lines ("0,0,7" ∷ "2,2,8" ∷ "5,0,9" ∷ [])) 3 2)
+    ∷ row "the second empty" (agree 1 recorded [] 0)
+    ∷ row "the first empty" (agree 1 [] recorded 0)
+    ∷ row "no cycle that both hold" (agree 1 recorded (lines ("1,0,7" ∷ "3,1,8" ∷ "4,0,9" ∷ "6,0,0" ∷ [])) 0)
+    ∷ row "equal recordings" (agree 1 recorded recorded 3)
+    ∷ row "either lacks cycles" (agree 1 recorded (lines ("2,1,8" ∷ "3,3,3" ∷ "5,0,9" ∷ "9,9,9" ∷ [])) 2)
+    ∷ row "a cycle that one holds differs from nothing" (agree 1 recorded (lines ("1,9,9" ∷ "5,0,9" ∷ [])) 1)
+    ∷ row "the state differs" (differ 1 recorded (lines ("0,0,7" ∷ "2,2,8" ∷ "5,0,9" ∷ [])) 3 2)
     ∷ row "the first register differs" (differ 2 (lines ("4,1,2,3" ∷ [])) (lines ("4,1,20,3" ∷ [])) 1 4)
     ∷ row "the last register differs" (differ 2 (lines ("4,1,2,3" ∷ [])) (lines ("4,1,2,30" ∷ [])) 1 4)
-    ∷ row "the first of two differences" (differ 1 voyage (lines ("2,1,9" ∷ "5,1,9" ∷ [])) 2 2)
+    ∷ row "the first of two differences" (differ 1 recorded (lines ("2,1,9" ∷ "5,1,9" ∷ [])) 2 2)
     ∷ row "16 registers" (agree 16 sixteen sixteen 1)
     ∷ row "4294967295 is a cycle, a state and a word" (differ 1 (lines ("4294967295,4294967295,0" ∷ [])) (lines ("4294967295,4294967295,4294967295" ∷ [])) 1 4294967295)
     -- R-12: refusals
@@ -180,19 +180,19 @@ rows =
     ∷ row "4294967296 as a cycle: 17" (refused 1 (lines ("4294967296,0,0" ∷ [])) [] 17 1 1)
     ∷ row "a leading zero of a cycle: 17" (refused 1 (lines ("0,0,0" ∷ "01,0,0" ∷ [])) [] 17 1 2)
     ∷ row "a state of two zeros: 17" (refused 1 (lines ("0,00,0" ∷ [])) [] 17 1 1)
-    ∷ row "no line feed at the end: 17" (refused 1 voyage (lines ("0,0,7" ∷ []) ++ (50 ∷ 44 ∷ 49 ∷ 44 ∷ 56 ∷ [])) 17 2 2)
+    ∷ row "no line feed at the end: 17" (refused 1 recorded (lines ("0,0,7" ∷ []) ++ (50 ∷ 44 ∷ 49 ∷ 44 ∷ 56 ∷ [])) 17 2 2)
     ∷ row "an empty line: 17" (refused 1 (lines ("" ∷ [])) [] 17 1 1)
-    ∷ row "a register too few: 17" (refused 2 voyage voyage 17 1 1)
+    ∷ row "a register too few: 17" (refused 2 recorded recorded 17 1 1)
     ∷ row "a register too many: 17" (refused 1 [] (lines ("0,0,7,7" ∷ [])) 17 2 1)
     ∷ row "an empty field: 17" (refused 1 [] (lines ("0,,7" ∷ [])) 17 2 1)
     ∷ row "a minus: 17" (refused 1 [] (lines ("0,-1,7" ∷ [])) 17 2 1)
-    ∷ row "an equal cycle: 18" (refused 1 (lines ("0,0,7" ∷ "0,0,7" ∷ [])) voyage 18 1 2)
-    ∷ row "a falling cycle: 18" (refused 1 voyage (lines ("3,0,7" ∷ "4,0,7" ∷ "3,0,7" ∷ [])) 18 2 3)
+    ∷ row "an equal cycle: 18" (refused 1 (lines ("0,0,7" ∷ "0,0,7" ∷ [])) recorded 18 1 2)
+    ∷ row "a falling cycle: 18" (refused 1 recorded (lines ("3,0,7" ∷ "4,0,7" ∷ "3,0,7" ∷ [])) 18 2 3)
     ∷ row "17 before 18 in a line" (refused 1 (lines ("5,0,7" ∷ "1,0,x" ∷ [])) [] 17 1 2)
     ∷ row "18 at line 2 before 17 at line 3" (refused 1 (lines ("5,0,7" ∷ "1,0,7" ∷ "x" ∷ [])) [] 18 1 2)
     ∷ row "17 at line 2 before 18 at line 3" (refused 1 (lines ("5,0,7" ∷ "x" ∷ "1,0,7" ∷ [])) [] 17 1 2)
     ∷ row "the first recording's fault before the second's earlier one" (refused 1 (lines ("0,0,7" ∷ "1,0,7" ∷ "1,0,7" ∷ [])) (lines ("x" ∷ [])) 18 1 3)
-    ∷ row "a fault behind the last shared cycle" (refused 1 voyage (lines ("0,0,7" ∷ "7,0,0" ∷ "7,0,0" ∷ [])) 18 2 3)
+    ∷ row "a fault behind the last shared cycle" (refused 1 recorded (lines ("0,0,7" ∷ "7,0,0" ∷ "7,0,0" ∷ [])) 18 2 3)
     ∷ []
 
 pub all-hold : T (every (λ (r : Row). r .holds) rows)

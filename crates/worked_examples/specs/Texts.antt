@@ -49,8 +49,8 @@ p7Text =
     ∷ [])
 
 -- R-12: a recording of one register, and one of sixteen
-unfoldable pub voyage : List ℕ
-voyage = lines ("0,0,7" ∷ "2,1,8" ∷ "5,0,9" ∷ [])
+unfoldable pub recorded : List ℕ
+recorded = lines ("0,0,7" ∷ "2,1,8" ∷ "5,0,9" ∷ [])
 
 unfoldable pub sixteen : List ℕ
 sixteen = lines ("0,1,0,1,2,3,4,5,6,7,8,9,10,11,12,13,14,15" ∷ [])

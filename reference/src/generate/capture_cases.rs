@@ -1,6 +1,6 @@
 //! Pairs of recordings that do not depend on the seed: what is shared, each fault, what goes first.
 
-use super::voyages::{text_of, Row};
+use super::row::{text_of, Row};
 use crate::case::Captures;
 
 fn pair(registers: u32, first: impl Into<Vec<u8>>, second: impl Into<Vec<u8>>) -> Captures {

@@ -158,7 +158,7 @@ fn damage_bytes(random: &mut Random, text: &mut Vec<u8>) {
     }
 }
 
-/// Recordings that no voyage needs to make.
+/// Recordings that need no run.
 fn bare(random: &mut Random) -> Vec<u8> {
     let texts: [&[u8]; 12] = [
         b"\n", b"\n\n", b"\r\n", b"0", b"0\n", b",\n", b",,\n", b"0,0\n", b"0,0,\n", b"\x00\n",

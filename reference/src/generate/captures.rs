@@ -1,6 +1,6 @@
-//! Pairs of recordings: one voyage with cycles left out and words changed, or with faults.
+//! Pairs of recordings: one run with cycles left out and words changed, or with faults.
 
-use super::voyages::{self, Row};
+use super::row::{self, Row};
 use super::{capture_damage, runs, words};
 use crate::case::{Captures, Case, MAX_RECORDING};
 use crate::random::Random;
@@ -8,7 +8,7 @@ use crate::random::Random;
 /// The rows of two recordings.
 pub type Pair = [Vec<Row>; 2];
 
-/// How many bytes a voyage has; most have few, as the stored cases are many.
+/// How many bytes a recording has; most have few, as the stored cases are many.
 fn length(random: &mut Random) -> usize {
     match random.percent(1) {
         true => MAX_RECORDING - 200,
@@ -21,22 +21,22 @@ fn register_count(random: &mut Random) -> usize {
     random.pick(&[1, 1, 1, 2, 2, 2, 3, 4, 15, 16, any, any, any])
 }
 
-/// The run of the case's own machine, where it has one, or an invented voyage.
-fn voyage(random: &mut Random, case: &Case) -> Vec<Row> {
+/// The run of the case's own machine, where it has one, or an invented one.
+fn rows(random: &mut Random, case: &Case) -> Vec<Row> {
     let bytes = length(random);
     match runs::started_machine(case).filter(|_| random.percent(60)) {
         Some(machine) => {
             let (start, registers) = (case.start_state as usize, case.registers.clone());
-            voyages::within(voyages::of_machine(&machine, start, registers, &case.words), bytes)
+            row::within(row::of_machine(&machine, start, registers, &case.words), bytes)
         }
         None => {
             let registers = register_count(random);
-            voyages::invented(random, registers, bytes)
+            row::invented(random, registers, bytes)
         }
     }
 }
 
-/// A recording of a voyage: all of it, or without cycles here and there or at one end.
+/// A recording of a run: all of it, or without cycles here and there or at one end.
 fn recorded(random: &mut Random, rows: &[Row]) -> Vec<Row> {
     let at = random.below(rows.len());
     match random.below(8) {
@@ -145,10 +145,10 @@ fn past_limits(random: &mut Random, registers: u32) -> u32 {
 }
 
 pub fn captures(random: &mut Random, case: &Case) -> Captures {
-    let rows = voyage(random, case);
+    let rows = rows(random, case);
     let right = rows.first().map_or(1, |row| row.len() as u32 - 2);
     let pair = rows_of_pair(random, &rows);
-    let mut texts = pair.map(|rows| voyages::text_of(&rows));
+    let mut texts = pair.map(|rows| row::text_of(&rows));
     if random.percent(25) {
         capture_damage::damage(random, &mut texts);
     }

@@ -9,10 +9,10 @@ pub mod graph_damage;
 pub mod graphs;
 mod lists;
 pub mod machine_damage;
+mod row;
 mod runs;
 pub mod shapes;
 pub mod texts;
-mod voyages;
 pub mod word_cases;
 pub mod words;
 

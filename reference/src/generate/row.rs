@@ -1,4 +1,4 @@
-//! Voyages to record: a row of words for each cycle, run on a machine or invented.
+//! Rows of a run to record: the words of each cycle, of a machine or invented.
 
 use super::words;
 use crate::machine::Machine;

@@ -26,24 +26,24 @@ pub struct Findings {
 
 /// What a line records of its cycle.
 #[derive(Clone, Debug, PartialEq, Eq)]
-struct Moment {
+pub(crate) struct Moment {
     state: u32,
     registers: Vec<u32>,
 }
 
-struct Line {
+pub(crate) struct Line {
     cycle: u32,
     moment: Moment,
 }
 
 /// A word's own decimal spelling. Printing it again rules out leading zeros and signs.
-fn word(field: &str) -> Option<u32> {
+pub(crate) fn word(field: &str) -> Option<u32> {
     let value: u32 = field.parse().ok()?;
     (value.to_string() == field).then_some(value)
 }
 
 /// A line with its line feed, if it has one and the form for so many registers.
-fn line_form(bytes: &[u8], registers: u32) -> Option<Line> {
+pub(crate) fn line_form(bytes: &[u8], registers: u32) -> Option<Line> {
     let text = std::str::from_utf8(bytes).ok()?.strip_suffix('\n')?;
     let words: Vec<u32> = text.split(',').map(word).collect::<Option<_>>()?;
     let [cycle, state, ref rest @ ..] = words[..] else {

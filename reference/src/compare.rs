@@ -8,19 +8,23 @@ mod report;
 mod tests;
 
 use crate::tally::Tally;
-use check::{check, Compared};
-use library::{Library, Operation, Proved};
+use check::{check, Checked, Compared};
+use library::{Library, Proved};
+use reference::faults::faults;
 use reference::generate::Cases;
+use reference::meeting::{self, meetings, Meeting};
+use reference::operation::Operation;
 
-/// So many cases hit every number that the papers name, and every outcome.
+/// So many cases hit every number that the papers name, every outcome and every pair that can meet.
 const CASES_FOR_ALL: usize = 2_000;
 
-/// What a case hits: a number that an operation answers, 0 included, or an outcome: how a run with
-/// words ends, or what a comparison of captures finds.
+/// What a case hits: a number that an operation answers, 0 included; an outcome: how a run with
+/// words ends, or what a comparison of captures finds; two refusals that apply to one call.
 #[derive(Clone, Copy, Debug, PartialEq, Eq, PartialOrd, Ord)]
 enum Hit {
     Number(Operation, u64),
     Outcome(Operation, u64),
+    Met(Meeting),
 }
 
 impl Hit {
@@ -30,7 +34,13 @@ impl Hit {
             Hit::Outcome(operation, outcome) => {
                 format!("outcome of {},{outcome}", operation.name())
             }
+            Hit::Met(meeting) => format!("{}: {}", meeting.operation.name(), meeting.name()),
         }
+    }
+
+    /// The name of what has a line of its own; pairs share one.
+    fn line(&self) -> Option<String> {
+        (!matches!(self, Hit::Met(_))).then(|| self.name())
     }
 }
 
@@ -45,26 +55,38 @@ fn count_hits(tally: &mut Tally<Hit>, compared: &Compared) {
 fn tally_all(cases: &Cases, count: usize, library: &impl Library) -> Tally<Hit> {
     Tally::of(count, |tally, index| {
         let case = cases.get(index);
-        let compared = check(&case, library);
+        let Checked { compared, graph, machine } = check(&case, library);
         compared.iter().for_each(|one| count_hits(tally, one));
+        let met = faults(&case, &graph, &machine);
+        met.iter().flat_map(meetings).for_each(|one| tally.count(Hit::Met(one), 1));
         if compared.iter().any(|one| !one.same()) {
             tally.differ(index, || report::report(cases.seed(), index, &case, &compared));
         }
     })
 }
 
-/// Every number that the papers name for an operation, and every outcome.
+/// Every number that the papers name for an operation, every outcome, every pair that can meet.
 fn named() -> impl Iterator<Item = Hit> {
-    Operation::ALL.into_iter().flat_map(|one| {
+    let answered = Operation::ALL.into_iter().flat_map(|one| {
         let numbers = one.numbers().iter().map(move |&number| Hit::Number(one, number));
         numbers.chain(one.outcomes().iter().map(move |&outcome| Hit::Outcome(one, outcome)))
-    })
+    });
+    answered.chain(meeting::possible().into_iter().map(Hit::Met))
+}
+
+/// A line for each number and outcome, then one for each operation with the pairs met there.
+fn lines(tally: &Tally<Hit>) -> String {
+    let met = |(hit, &cases): (&Hit, &usize)| match hit {
+        Hit::Met(meeting) => Some((*meeting, cases)),
+        _ => None,
+    };
+    tally.lines(Hit::line) + &meeting::print(&tally.counts.iter().filter_map(met).collect())
 }
 
 /// What is printed; an error where a case differs or something named was not hit.
 fn outcome(seed: u64, count: usize, tally: &Tally<Hit>) -> Result<String, String> {
     let missing = if count < CASES_FOR_ALL { Vec::new() } else { tally.missing(named()) };
-    tally.outcome(Hit::name, &missing, &format!("seed {seed}: {count} cases"))
+    tally.outcome(lines(tally), Hit::name, &missing, &format!("seed {seed}: {count} cases"))
 }
 
 fn compare(seed: u64, count: usize, library: &impl Library) -> Result<String, String> {

@@ -57,7 +57,8 @@ fn tally_all(seed: u64, count: usize, library: &Library) -> Tally<Counted> {
 fn outcome(seed: u64, count: usize, tally: &Tally<Counted>) -> Result<String, String> {
     let missing = if count < GRAPHS_FOR_ALL { Vec::new() } else { tally.missing(Counted::ALL) };
     let name = |counted: &Counted| String::from(counted.name());
-    tally.outcome(name, &missing, &format!("seed {seed}: {count} graphs"))
+    let lines = tally.lines(|counted| Some(name(counted)));
+    tally.outcome(lines, name, &missing, &format!("seed {seed}: {count} graphs"))
 }
 
 fn fit(seed: u64, count: usize, library: &Library) -> Result<String, String> {

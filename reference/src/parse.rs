@@ -9,7 +9,7 @@ pub const MAX_TEXT: usize = 16_384;
 
 /// One line, taken by its form alone.
 #[derive(Clone, Debug, PartialEq, Eq)]
-enum Line {
+pub(crate) enum Line {
     Graph { blocks: usize, registers: usize },
     Block(usize),
     Instruction(Instruction),
@@ -63,7 +63,7 @@ fn instruction(fields: &[&str]) -> Option<Line> {
 }
 
 /// The form of a line given without its line feed, if it has one.
-fn line_form(bytes: &[u8]) -> Option<Line> {
+pub(crate) fn line_form(bytes: &[u8]) -> Option<Line> {
     let text = std::str::from_utf8(bytes).ok()?;
     let fields: Vec<&str> = text.split(',').collect();
     match *fields.as_slice() {

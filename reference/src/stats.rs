@@ -1,8 +1,10 @@
-//! How many cases hit each refusal number of each operation, each outcome of a run, and each of a
-//! comparison of captures.
+//! How many cases hit each refusal number of each operation, each outcome of a run and of a
+//! comparison of captures, and each pair of refusals that meet.
 
-use crate::answer::{answer, Answer};
+use crate::answer::{answer, buffers_of, Answer};
 use crate::case::Case;
+use crate::faults::faults;
+use crate::meeting::{self, meetings, Meeting};
 use crate::operations::CaptureAnswer;
 use std::collections::BTreeMap;
 
@@ -59,6 +61,7 @@ fn capture_outcome(answer: CaptureAnswer) -> u32 {
 #[derive(Default)]
 pub struct Stats {
     counts: BTreeMap<(Counted, u32), usize>,
+    met: BTreeMap<Meeting, usize>,
 }
 
 impl Stats {
@@ -98,10 +101,18 @@ impl Stats {
         }
     }
 
+    fn add_meetings(&mut self, case: &Case) {
+        let (graph, machine) = buffers_of(case);
+        for meeting in faults(case, &graph, &machine).iter().flat_map(meetings) {
+            *self.met.entry(meeting).or_insert(0) += 1;
+        }
+    }
+
     pub fn of(cases: &[Case]) -> Stats {
         let mut stats = Stats::default();
         for case in cases {
             stats.add(case, &answer(case));
+            stats.add_meetings(case);
         }
         stats
     }
@@ -110,11 +121,15 @@ impl Stats {
         self.counts.get(&(counted, number)).copied().unwrap_or(0)
     }
 
-    /// One line for each count: name, number, cases.
+    pub fn met(&self, meeting: &Meeting) -> usize {
+        self.met.get(meeting).copied().unwrap_or(0)
+    }
+
+    /// One line for each count: name, number, cases; then one for each operation with its pairs.
     pub fn print(&self) -> String {
         let line = |(&(counted, number), count): (&(Counted, u32), &usize)| {
             format!("{},{number},{count}\n", counted.name())
         };
-        self.counts.iter().map(line).collect()
+        self.counts.iter().map(line).chain([meeting::print(&self.met)]).collect()
     }
 }

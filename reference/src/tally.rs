@@ -61,18 +61,23 @@ impl<K: Ord + Send> Tally<K> {
         keys.into_iter().filter(|key| !self.counts.contains_key(key)).collect()
     }
 
+    /// A line for each count whose key has a name.
+    pub fn lines(&self, name: impl Fn(&K) -> Option<String>) -> String {
+        let named = self.counts.iter().filter_map(|(key, number)| Some((name(key)?, number)));
+        named.map(|(name, number)| format!("{name},{number}\n")).collect()
+    }
+
     /// What is printed; an error where a case differs or a key that should be hit is missing.
     pub fn outcome(
         &self,
+        counts: String,
         name: impl Fn(&K) -> String,
         missing: &[K],
         cases: &str,
     ) -> Result<String, String> {
         let first = self.reports.values().take(MOST_REPORTS);
         let mut text: String = first.map(String::as_str).collect();
-        for (key, number) in &self.counts {
-            text += &format!("{},{number}\n", name(key));
-        }
+        text += &counts;
         for key in missing {
             text += &format!("no case hit {}\n", name(key));
         }

@@ -62,6 +62,7 @@ fn compare() {
     assert!(text.contains("outcome of run graph with words,2,"), "{text}");
     assert!(text.contains("compare captures,18,"), "{text}");
     assert!(text.contains("outcome of compare captures,2,"), "{text}");
+    assert!(text.contains("\nmet in synthesise: 7 graph and 6 ("), "{text}");
 }
 
 /// The proved library's starters are the least fit set, and every count is above 0.

@@ -1,9 +1,10 @@
 //! One case by this program and by a library, operation for operation.
 
 use super::lent::{Differing, Lent};
-use super::library::{padded, Fields, Library, Operation};
+use super::library::{padded, Library};
 use reference::answer::{fresh_bytes, fresh_words, patch};
 use reference::case::{Captures, Case};
+use reference::operation::{Fields, Operation};
 use reference::operations::{self, CaptureAnswer, RunAnswer, WordsRunAnswer};
 
 /// What an operation answered, and the first place of its buffers that differs. The buffers have
@@ -154,8 +155,15 @@ fn compare_captures(library: &impl Library, captures: &Captures) -> Compared {
     }
 }
 
+/// What each operation came to, and the two buffers as the runs found them.
+pub struct Checked {
+    pub compared: [Compared; 8],
+    pub graph: Vec<u32>,
+    pub machine: Vec<u32>,
+}
+
 /// The eight operations on a case, each on the buffers that this program made so far.
-pub fn check(case: &Case, library: &impl Library) -> [Compared; 8] {
+pub fn check(case: &Case, library: &impl Library) -> Checked {
     let mut graph = fresh_words(case.graph_length);
     let read = read(library, &case.text, &mut graph);
     patch(&mut graph, &case.graph_patches);
@@ -163,7 +171,7 @@ pub fn check(case: &Case, library: &impl Library) -> [Compared; 8] {
     let mut machine = fresh_words(case.machine_length);
     let synthesise = synthesise(library, &graph, &mut machine);
     patch(&mut machine, &case.machine_patches);
-    [
+    let compared = [
         read,
         write,
         synthesise,
@@ -172,5 +180,6 @@ pub fn check(case: &Case, library: &impl Library) -> [Compared; 8] {
         run_graph_with_words(library, &graph, case),
         run_machine_with_words(library, &machine, case),
         compare_captures(library, &case.captures),
-    ]
+    ];
+    Checked { compared, graph, machine }
 }

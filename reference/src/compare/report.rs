@@ -1,8 +1,8 @@
 //! A difference printed with its case in full.
 
 use super::check::Compared;
-use super::library::{Fields, Operation};
 use reference::case::{Captures, Case, Patch};
+use reference::operation::{Fields, Operation};
 
 fn fields(operation: Operation, fields: Fields) -> String {
     let named = operation.fields().iter().zip(fields);

@@ -2,12 +2,13 @@
 
 use super::check::{capture_fields, check, run_fields, words_fields};
 use super::lent::{Differing, Element, Lent};
-use super::library::{padded, Fields, Library, Operation, Proved};
+use super::library::{padded, Library, Proved};
 use super::{compare, named, outcome, tally_all};
 use crate::tally::MOST_REPORTS;
 use reference::case::{Captures, Case};
 use reference::generate::examples::P7;
 use reference::generate::Cases;
+use reference::operation::{Fields, Operation};
 use reference::operations;
 
 /// What a library does otherwise than this program.
@@ -161,12 +162,12 @@ fn p7() -> Case {
 
 /// The operations that differ on a case.
 fn differing(case: &Case, library: &Changed) -> Vec<Operation> {
-    let compared = check(case, library);
+    let compared = check(case, library).compared;
     compared.iter().filter(|one| !one.same()).map(|one| one.operation).collect()
 }
 
 fn place(operation: Operation, change: Change) -> Option<Differing> {
-    let compared = check(&p7(), &Changed(operation, change));
+    let compared = check(&p7(), &Changed(operation, change)).compared;
     compared.into_iter().find(|one| one.operation == operation)?.differing
 }
 
@@ -304,7 +305,7 @@ fn long_captures_are_the_same() {
     for end in ["", "99999,0,6\n", "5,0,5\n", "100000,0,05\n", "100000"] {
         let second = [&lines(3)[..], end.as_bytes()].concat();
         case.captures = Captures { registers: 1, first: lines(1), second };
-        assert!(check(&case, &Proved).iter().all(|one| one.same()), "{end}");
+        assert!(check(&case, &Proved).compared.iter().all(|one| one.same()), "{end}");
     }
 }
 
@@ -318,13 +319,13 @@ fn outcomes_of_captures() {
     assert_eq!(outcome([17, 1, 1, 0, 0, 0]), None);
 }
 
-/// A number or an outcome that no case hits fails a long run, and not a short one.
+/// A number, an outcome or a pair that no case hits fails a long run, and not a short one.
 #[test]
 fn numbers_that_are_not_hit_are_reported() {
     let same = Changed(Operation::Read, Change::Nothing);
     let mut tally = tally_all(&Cases::of(1), 2_000, &same);
     assert!(outcome(1, 2_000, &tally).is_ok());
-    assert_eq!(named().count(), 45);
+    assert_eq!(named().count(), 45 + 88);
     for hit in named() {
         let cases = tally.counts.remove(&hit).expect("a hit");
         let text = outcome(1, 2_000, &tally).expect_err("one is missing");

@@ -65,7 +65,9 @@ fn odd_byte(random: &mut Random, lines: &mut Lines) {
 fn missing_field(random: &mut Random, lines: &mut Lines) {
     let line = random.below(lines.len());
     let field = random.below(lines[line].len());
-    lines[line].remove(field);
+    if lines[line].len() > 1 {
+        lines[line].remove(field);
+    }
 }
 
 /// A field more, an empty one included, often at the end.
@@ -190,5 +192,22 @@ pub fn damage(random: &mut Random, texts: &mut [Vec<u8>; 2]) {
         random.pick(&[[true, false], [true, false], [false, true], [false, true], [true; 2]]);
     for (text, _) in texts.iter_mut().zip(sides).filter(|(_, damaged)| *damaged) {
         damage_one(random, text);
+    }
+}
+
+const MEETING: [Damage; 6] =
+    [equal_cycle, falling_cycle, falling_cycle, both_faults, leading_zero, missing_field];
+
+/// Damages several lines, mostly of both recordings: lines without the form and lines that fall.
+pub fn several(random: &mut Random, texts: &mut [Vec<u8>; 2]) {
+    for text in texts {
+        let mut lines = lines_of(text);
+        if lines.is_empty() || random.percent(30) {
+            continue;
+        }
+        for _ in 0..random.pick(&[1, 2, 3, 3]) {
+            random.pick(&MEETING)(random, &mut lines);
+        }
+        *text = bytes_of(&lines);
     }
 }

@@ -64,6 +64,15 @@ fn texts_at_the_limit() -> Vec<String> {
     [16_384, 16_385].map(|length| start.to_string() + &"\n".repeat(length - start.len())).to_vec()
 }
 
+/// A text that is too long, with a line of each fault, read into a table that is short.
+fn long_and_faulty() -> Case {
+    let start = "graph,1,1\nblock,0\ncopy,1,0\ngoto,1\nx\n";
+    let text = start.to_string() + &"halt\n".repeat(16_385 / 5);
+    let mut case = Case::plain(&text.as_bytes()[..16_385]);
+    case.graph_length = 2_561;
+    case
+}
+
 /// The longest text there is, and the graph with the most wires.
 pub fn largest_graphs() -> [Graph; 2] {
     let last = MAX_REGISTERS - 1;
@@ -127,6 +136,7 @@ pub fn cases() -> Vec<Case> {
     let largest = largest_graphs().map(|graph| Case::plain(print(&graph).as_bytes()));
     let mut cases = examples::cases();
     cases.extend(named_faults());
+    cases.push(long_and_faulty());
     cases.extend(largest);
     cases.extend(graph_sweep());
     cases.extend(machine_sweep());

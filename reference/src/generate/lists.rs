@@ -28,7 +28,7 @@ fn other_set(random: &mut Random, own: &[u32], blocks: usize, start: u32) -> Vec
 }
 
 /// A list with a fault: empty, lacking block 0 or the start, or with a block from B up.
-fn faulty(random: &mut Random, own: &[u32], blocks: usize, start: u32) -> Vec<u32> {
+pub fn faulty(random: &mut Random, own: &[u32], blocks: usize, start: u32) -> Vec<u32> {
     let mut list = [own, &[start]].concat();
     if random.percent(10) {
         list.clear();

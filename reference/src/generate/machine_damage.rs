@@ -102,8 +102,8 @@ fn wire_range(random: &mut Random, table: &Table) -> Vec<Patch> {
         (first, 3_073 - first),
         (3_073 - count, count),
         (MAX, 1),
-        (MAX - count + 1, count),
-        (MAX - count + 2, count),
+        ((MAX - count).saturating_add(1), count),
+        ((MAX - count).saturating_add(2), count),
         (first, MAX),
         (first + 1, MAX - first),
         (2_147_483_648, 2_147_483_648),
@@ -114,6 +114,15 @@ fn wire_range(random: &mut Random, table: &Table) -> Vec<Patch> {
     ];
     let (first, count) = random.pick(&choices);
     vec![patch(record(state), first as usize), patch(record(state) + 1, count as usize)]
+}
+
+/// A state without wires whose first wire is past the last one; nothing else is wrong.
+fn empty_past_the_end(random: &mut Random, table: &Table) -> Vec<Patch> {
+    let state = table.state(random);
+    let first = random.pick(&[3_073, 3_073, 3_074, 4_096, 65_536, 2_147_483_648, MAX]);
+    let mut patches = vec![(record(state) as u32, first), patch(record(state) + 1, 0)];
+    patches.extend(register_record(random, state, table.registers()));
+    patches
 }
 
 /// A state of one wire that is also another's; nothing else is wrong.
@@ -186,7 +195,15 @@ fn another_code(random: &mut Random, table: &Table) -> Vec<Patch> {
 }
 
 /// Kinds that a run always refuses.
-pub const REFUSED: [Damage; 5] = [state_count, register_count, wire_range, sharing, unknown_code];
+pub const REFUSED: [Damage; 6] =
+    [state_count, register_count, wire_range, empty_past_the_end, sharing, unknown_code];
+
+/// One of those that are refused, for any table whose N and R are right.
+pub fn refused(random: &mut Random, table: &Table) -> Vec<Patch> {
+    let kinds: [Damage; 6] =
+        [state_count, register_count, register_count, wire_range, empty_past_the_end, bad_next];
+    random.pick(&kinds)(random, table)
+}
 
 /// Kinds that a run refuses mostly, as the words happen to fall.
 const MOSTLY_REFUSED: [Damage; 6] =
@@ -238,7 +255,7 @@ fn unused_operands(random: &mut Random, table: &Table) -> Vec<Patch> {
 }
 
 /// A wire that gives the sampled word; its other words are not read, whatever they hold.
-fn input_wire(random: &mut Random, table: &Table) -> Vec<Patch> {
+pub fn input_wire(random: &mut Random, table: &Table) -> Vec<Patch> {
     let (_, _, at) = table.wire(random);
     let mut patches = vec![patch(at, 20)];
     if random.percent(60) {
@@ -303,12 +320,19 @@ fn moved_to_the_end(random: &mut Random, table: &Table) -> Vec<Patch> {
     patches
 }
 
-/// A state without wires inside, or at an end of, another's range.
+/// A state without wires inside, or at an end of, another's range; an added one if there is room.
 fn empty_inside(random: &mut Random, table: &Table) -> Vec<Patch> {
-    let (state, other) = (table.state(random), table.state(random));
+    let (mut state, other) = (table.state(random), table.state(random));
     let (first, count) = (table.first(other), table.count(other));
-    let at = random.pick(&[first, first + 1, first + count - 1, first + count, ALL_WIRES]);
-    let mut patches = vec![patch(record(state), at), patch(record(state) + 1, 0)];
+    let inside = first + random.below(count);
+    let ends = [first, first + 1, first + count - 1, first + count, ALL_WIRES];
+    let at = if random.percent(40) { inside } else { random.pick(&ends) };
+    let mut patches = Vec::new();
+    if state == other && table.states() < 64 {
+        state = table.states();
+        patches.push(patch(0, state + 1));
+    }
+    patches.extend([patch(record(state), at), patch(record(state) + 1, 0)]);
     patches.extend(register_record(random, state, table.registers()));
     patches
 }
@@ -368,12 +392,12 @@ fn past_the_table(random: &mut Random, _: &Table) -> Vec<Patch> {
 }
 
 /// Kinds that a run never refuses.
-pub const KEPT: [Damage; 24] = [
+pub const KEPT: [Damage; 25] = [
     input_wire, input_wire, input_wire, starters_and_blocks, records_from_n, next_from_r,
     wires_of_no_state, unused_operands, another_literal, another_literal, another_next,
     another_operand, another_n, more_registers, moved_to_the_end, moved_to_the_end, empty_inside,
-    empty_inside, added_state, added_state, rewritten_state, rewritten_state, rewritten_state,
-    past_the_table,
+    empty_inside, empty_inside, added_state, added_state, rewritten_state, rewritten_state,
+    rewritten_state, past_the_table,
 ];
 
 /// Patches for a table that synthesis made.

@@ -4,6 +4,7 @@ mod capture_cases;
 mod capture_damage;
 mod captures;
 pub mod examples;
+mod faulty_lines;
 pub mod fixed;
 pub mod graph_damage;
 pub mod graphs;
@@ -11,6 +12,7 @@ mod lists;
 pub mod machine_damage;
 mod row;
 mod runs;
+mod several;
 pub mod shapes;
 pub mod texts;
 pub mod word_cases;
@@ -34,18 +36,20 @@ enum Aim {
     BareMachine,
     Buffers,
     Starts,
+    Several,
 }
 
 fn aim(random: &mut Random) -> Aim {
     match random.below(1_000) {
-        0..=249 => Aim::Valid,
-        250..=519 => Aim::Text,
-        520..=527 => Aim::LongText,
-        528..=672 => Aim::GraphTable,
-        673..=862 => Aim::MachineTable,
-        863..=892 => Aim::BareMachine,
-        893..=932 => Aim::Buffers,
-        _ => Aim::Starts,
+        0..=244 => Aim::Valid,
+        245..=444 => Aim::Text,
+        445..=454 => Aim::LongText,
+        455..=589 => Aim::GraphTable,
+        590..=769 => Aim::MachineTable,
+        770..=797 => Aim::BareMachine,
+        798..=817 => Aim::Buffers,
+        818..=880 => Aim::Starts,
+        _ => Aim::Several,
     }
 }
 
@@ -79,6 +83,9 @@ fn buffers(random: &mut Random, aim: Aim, case: &mut Case) {
     case.registers = words::registers(random, length);
     if aim == Aim::Buffers {
         short_buffers(random, case);
+    }
+    if aim == Aim::LongText && random.percent(65) {
+        case.graph_length = 2_561;
     }
 }
 
@@ -118,14 +125,22 @@ fn damage(random: &mut Random, aim: Aim, case: &mut Case) {
     }
 }
 
-/// One case that depends on the seed and its index alone.
-pub fn case(seed: u64, index: u64) -> Case {
-    let random = &mut Random::at(seed, index);
-    let aim = aim(random);
+fn aimed(random: &mut Random, aim: Aim) -> Case {
     let mut case = Case::plain(&text(random, aim));
     buffers(random, aim, &mut case);
     damage(random, aim, &mut case);
     runs::choose(random, aim == Aim::Starts, &mut case);
+    case
+}
+
+/// One case that depends on the seed and its index alone.
+pub fn case(seed: u64, index: u64) -> Case {
+    let random = &mut Random::at(seed, index);
+    let aim = aim(random);
+    let mut case = match aim {
+        Aim::Several => several::case(random),
+        _ => aimed(random, aim),
+    };
     case.captures = captures::captures(random, &case);
     case
 }

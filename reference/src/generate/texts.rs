@@ -1,11 +1,11 @@
 //! Damaged texts: each kind aims at one refusal of reading.
 
-use super::graphs;
+use super::{faulty_lines, graphs};
 use crate::graph::Graph;
 use crate::print::print;
 use crate::random::Random;
 
-type Lines = Vec<Vec<String>>;
+pub type Lines = Vec<Vec<String>>;
 
 #[derive(Clone, Copy, PartialEq, Eq)]
 enum Role {
@@ -28,16 +28,16 @@ fn role(line: &[String], field: usize) -> Role {
     }
 }
 
-fn lines_of(graph: &Graph) -> Lines {
+pub fn lines_of(graph: &Graph) -> Lines {
     let text = print(graph);
     text.lines().map(|line| line.split(',').map(String::from).collect()).collect()
 }
 
-fn bytes_of(lines: &Lines) -> Vec<u8> {
+pub fn bytes_of(lines: &Lines) -> Vec<u8> {
     lines.iter().flat_map(|line| (line.join(",") + "\n").into_bytes()).collect()
 }
 
-fn fields(line: &str) -> Vec<String> {
+pub fn fields(line: &str) -> Vec<String> {
     line.split(',').map(String::from).collect()
 }
 
@@ -367,12 +367,15 @@ fn bare_text(random: &mut Random) -> Vec<u8> {
     random.pick(&texts).as_bytes().to_vec()
 }
 
-/// A text brought to an exact length near the limit of 16,384 bytes.
+/// A text brought to an exact length near the limit of 16,384 bytes; in many a line is faulty.
 pub fn long_text(random: &mut Random) -> Vec<u8> {
-    let length = random.pick(&[16_383, 16_384, 16_384, 16_385, 16_385, 20_000]);
-    let mut text = print(&graphs::small_graph(random)).into_bytes();
+    let length = random.pick(&[16_383, 16_384, 16_384, 16_385, 16_385, 16_385, 16_400, 20_000]);
+    let mut text = match random.percent(75) {
+        true => faulty_lines::text(random),
+        false => print(&graphs::small_graph(random)).into_bytes(),
+    };
     let filler = random.pick(&["\n", "halt\n", "0", "set,0,1\n", "x"]).as_bytes();
-    if random.percent(30) {
+    if random.percent(15) {
         text = b"graph,1,1\nblock,0\nset,0,".to_vec();
     }
     while text.len() < length {

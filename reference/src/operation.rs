@@ -1,0 +1,169 @@
+//! The eight operations by name: the fields they answer, their numbers, the order of their refusals.
+
+/// Why a call is refused. Where two buffers of one call may be short, each is one by itself.
+#[derive(Clone, Copy, Debug, PartialEq, Eq, PartialOrd, Ord)]
+pub enum Refusal {
+    LongText,
+    NoForm,
+    NotDue,
+    Register,
+    Target,
+    GraphTable,
+    ShortGraph,
+    ShortMachine,
+    ShortRegisters,
+    ShortOutput,
+    Start,
+    MachineTable,
+    Starters,
+    ReadsWords,
+    RecordedCount,
+    RecordedForm,
+    RecordedOrder,
+}
+
+impl Refusal {
+    pub fn number(self) -> u32 {
+        match self {
+            Refusal::LongText => 1,
+            Refusal::NoForm => 2,
+            Refusal::NotDue => 3,
+            Refusal::Register => 4,
+            Refusal::Target => 5,
+            Refusal::GraphTable => 6,
+            Refusal::ShortGraph | Refusal::ShortMachine | Refusal::ShortRegisters => 7,
+            Refusal::ShortOutput => 8,
+            Refusal::Start => 9,
+            Refusal::MachineTable => 10,
+            Refusal::Starters => 11,
+            Refusal::ReadsWords => 12,
+            Refusal::RecordedCount | Refusal::RecordedForm => 17,
+            Refusal::RecordedOrder => 18,
+        }
+    }
+
+    /// The number, and what tells it apart from others that have it.
+    pub fn name(self) -> String {
+        let of = match self {
+            Refusal::ShortGraph => " graph",
+            Refusal::ShortMachine => " machine",
+            Refusal::ShortRegisters => " registers",
+            Refusal::RecordedCount => " R",
+            _ => "",
+        };
+        format!("{}{of}", self.number())
+    }
+}
+
+#[derive(Clone, Copy, Debug, PartialEq, Eq, PartialOrd, Ord)]
+pub enum Operation {
+    Read,
+    Write,
+    Synthesise,
+    RunGraph,
+    RunMachine,
+    RunGraphWithWords,
+    RunMachineWithWords,
+    CompareCaptures,
+}
+
+impl Operation {
+    pub const ALL: [Operation; 8] = [
+        Operation::Read,
+        Operation::Write,
+        Operation::Synthesise,
+        Operation::RunGraph,
+        Operation::RunMachine,
+        Operation::RunGraphWithWords,
+        Operation::RunMachineWithWords,
+        Operation::CompareCaptures,
+    ];
+
+    pub fn name(self) -> &'static str {
+        match self {
+            Operation::Read => "read",
+            Operation::Write => "write",
+            Operation::Synthesise => "synthesise",
+            Operation::RunGraph => "run graph",
+            Operation::RunMachine => "run machine",
+            Operation::RunGraphWithWords => "run graph with words",
+            Operation::RunMachineWithWords => "run machine with words",
+            Operation::CompareCaptures => "compare captures",
+        }
+    }
+
+    /// The fields of its answer.
+    pub fn fields(self) -> &'static [&'static str] {
+        match self {
+            Operation::Read => &["number", "line"],
+            Operation::Write => &["number", "length"],
+            Operation::Synthesise => &["number"],
+            Operation::RunGraph | Operation::RunMachine => &["number", "halted", "count", "next"],
+            Operation::RunGraphWithWords | Operation::RunMachineWithWords => {
+                &["number", "outcome", "count", "next"]
+            }
+            Operation::CompareCaptures => {
+                &["number", "recording", "line", "shared", "differs", "cycle"]
+            }
+        }
+    }
+
+    /// The numbers that the papers name for it, 0 being success.
+    pub fn numbers(self) -> &'static [u64] {
+        match self {
+            Operation::Read => &[0, 1, 2, 3, 4, 5, 7],
+            Operation::Write => &[0, 6, 7, 8],
+            Operation::Synthesise => &[0, 6, 7],
+            Operation::RunGraph => &[0, 6, 7, 9, 12],
+            Operation::RunMachine => &[0, 7, 9, 10, 12],
+            Operation::RunGraphWithWords => &[0, 6, 7, 9, 11],
+            Operation::RunMachineWithWords => &[0, 7, 9, 10],
+            Operation::CompareCaptures => &[0, 17, 18],
+        }
+    }
+
+    /// Its refusals, the one that goes first at the front. Faults of lines come in the order of
+    /// their lines, and within a line as they stand here.
+    pub fn refusals(self) -> &'static [Refusal] {
+        use Refusal::*;
+        match self {
+            Operation::Read => &[LongText, ShortGraph, NoForm, NotDue, Register, Target],
+            Operation::Write => &[ShortGraph, GraphTable, ShortOutput],
+            Operation::Synthesise => &[ShortGraph, ShortMachine, GraphTable],
+            Operation::RunGraph => &[ShortGraph, ShortRegisters, GraphTable, ReadsWords, Start],
+            Operation::RunMachine => {
+                &[ShortMachine, ShortRegisters, MachineTable, ReadsWords, Start]
+            }
+            Operation::RunGraphWithWords => {
+                &[ShortGraph, ShortRegisters, GraphTable, Start, Starters]
+            }
+            Operation::RunMachineWithWords => &[ShortMachine, ShortRegisters, MachineTable, Start],
+            Operation::CompareCaptures => &[RecordedCount, RecordedForm, RecordedOrder],
+        }
+    }
+
+    /// The outcomes that it tells apart: spent, halted, dry; or nothing shared, no shared cycle
+    /// differing, one differing.
+    pub fn outcomes(self) -> &'static [u64] {
+        match self {
+            Operation::RunGraphWithWords
+            | Operation::RunMachineWithWords
+            | Operation::CompareCaptures => &[0, 1, 2],
+            _ => &[],
+        }
+    }
+
+    /// Which of them an answer gives that is no refusal.
+    pub fn outcome(self, fields: Fields) -> Option<u64> {
+        let [number, outcome, _, shared, differs, _] = fields;
+        match self {
+            _ if number != 0 => None,
+            Operation::RunGraphWithWords | Operation::RunMachineWithWords => Some(outcome),
+            Operation::CompareCaptures => Some(shared.min(1) + differs),
+            _ => None,
+        }
+    }
+}
+
+/// The fields of an answer, in their order; 0 where an operation has fewer.
+pub type Fields = [u64; 6];

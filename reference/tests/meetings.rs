@@ -1,0 +1,190 @@
+//! Refusals that meet in one call: which do so in the stored cases, and that their order shows.
+
+use reference::answer::{answer, buffers_of, Answer};
+use reference::case::Case;
+use reference::faults::{faults, Fault, Faults};
+use reference::generate::cases;
+use reference::listing::listing;
+use reference::machine_table::{decode, MACHINE_WORDS, RECORDS_AT, RECORD_WORDS};
+use reference::meeting::{meetings, possible, Meeting};
+use reference::operation::{Operation, Refusal};
+use std::collections::BTreeMap;
+use std::sync::OnceLock;
+
+struct Stored {
+    case: Case,
+    answer: Answer,
+    machine: Vec<u32>,
+    faults: [Faults; 8],
+}
+
+impl Stored {
+    fn of(case: Case) -> Stored {
+        let (graph, machine) = buffers_of(&case);
+        let (answer, faults) = (answer(&case), faults(&case, &graph, &machine));
+        Stored { case, answer, machine, faults }
+    }
+}
+
+fn stored() -> &'static [Stored] {
+    static STORED: OnceLock<Vec<Stored>> = OnceLock::new();
+    STORED.get_or_init(|| cases(1, 4_500).into_iter().map(Stored::of).collect())
+}
+
+/// What tells one refusal from another in an answer: number, recording, line; 0 for a success.
+type Refused = (u32, u32, u64);
+
+fn refused(fault: Option<&Fault>) -> Refused {
+    fault.map_or((0, 0, 0), |fault| (fault.refusal.number(), fault.recording, fault.line))
+}
+
+/// What this program answered, without looking at all faults.
+fn answered(operation: Operation, answer: &Answer) -> Refused {
+    let number = match operation {
+        Operation::Read => return (answer.read.number, 0, answer.read.line.into()),
+        Operation::CompareCaptures => {
+            return (answer.captures.number, answer.captures.recording, answer.captures.line)
+        }
+        Operation::Write => answer.write.number,
+        Operation::Synthesise => answer.synthesise,
+        Operation::RunGraph => answer.run_graph.answer.number,
+        Operation::RunMachine => answer.run_machine.answer.number,
+        Operation::RunGraphWithWords => answer.run_graph_with_words.answer.number,
+        Operation::RunMachineWithWords => answer.run_machine_with_words.answer.number,
+    };
+    (number, 0, 0)
+}
+
+/// Of all faults of a call the first in the papers' order is what the program answers.
+#[test]
+fn the_first_fault_is_answered() {
+    for one in stored() {
+        for faults in &one.faults {
+            let found = answered(faults.operation, &one.answer);
+            assert_eq!(found, refused(faults.first()), "{:?}", faults.operation);
+        }
+    }
+}
+
+/// The listing refuses as reading does, but that no table can be short.
+#[test]
+fn the_listing_names_the_first_fault_of_the_text() {
+    for one in stored() {
+        let mut of_text = one.faults[0].clone();
+        of_text.all.retain(|fault| fault.refusal != Refusal::ShortGraph);
+        let printed = listing(&one.case.text);
+        match refused(of_text.first()) {
+            (0, ..) => assert!(printed.starts_with("states,")),
+            (number, _, line) => assert_eq!(printed, format!("refused,{number},{line}\n")),
+        }
+    }
+}
+
+#[test]
+fn only_possible_pairs_meet_and_each_often() {
+    let mut counts: BTreeMap<Meeting, usize> = BTreeMap::new();
+    for faults in stored().iter().flat_map(|one| &one.faults) {
+        meetings(faults).into_iter().for_each(|one| *counts.entry(one).or_insert(0) += 1);
+    }
+    assert_eq!(possible().len(), 88);
+    for meeting in counts.keys() {
+        assert!(possible().contains(meeting), "{meeting:?}");
+    }
+    for meeting in possible() {
+        let count = counts.get(&meeting).copied().unwrap_or(0);
+        assert!(count >= 10, "{:?}, {}: {count}", meeting.operation, meeting.name());
+    }
+}
+
+/// Every two refusals of an operation that are of the whole call are in the table of pairs, in the
+/// order of the operation's refusals.
+#[test]
+fn the_table_of_pairs_is_whole() {
+    let of_calls = Operation::ALL.iter().filter(|&&one| one != Operation::CompareCaptures);
+    for &operation in of_calls {
+        let order = operation.refusals();
+        for (at, &first) in order.iter().enumerate().filter(|(_, one)| one.number() != 2) {
+            let of_line =
+                |one: Refusal| operation == Operation::Read && (2..6).contains(&one.number());
+            for &second in order[at + 1..].iter().filter(|_| !of_line(first)) {
+                let met = |one: &Meeting| {
+                    one.operation == operation && (one.first.0, one.second.0) == (first, second)
+                };
+                assert!(possible().iter().any(met), "{operation:?} {first:?} {second:?}");
+            }
+        }
+    }
+}
+
+/// The answer of a program that takes one pair the wrong way round: where the first of the pair
+/// is due and the second applies as well, it gives the second.
+fn with_wrong_order(faults: &Faults, wrong: &Meeting) -> Refused {
+    let Some(first) = faults.first().filter(|_| faults.operation == wrong.operation) else {
+        return refused(faults.first());
+    };
+    let turned =
+        |other: &&Fault| *other != first && Meeting::of(faults.operation, first, other) == *wrong;
+    refused(faults.all.iter().find(turned).or(Some(first)))
+}
+
+/// Each pair taken the wrong way round changes the answers of stored cases. Two short buffers have
+/// one number, so their order cannot show.
+#[test]
+fn every_wrong_order_is_told_apart() {
+    for wrong in possible() {
+        let calls = stored().iter().flat_map(|one| {
+            one.faults.iter().map(|faults| (answered(faults.operation, &one.answer), faults))
+        });
+        let changed = calls.filter(|(right, faults)| with_wrong_order(faults, &wrong) != *right);
+        let (number, count) = (wrong.first.0.number(), changed.count());
+        if number == 7 && wrong.second.0.number() == 7 {
+            assert_eq!(count, 0, "{}", wrong.name());
+        } else {
+            assert!(count >= 10, "{:?}, {}: {count}", wrong.operation, wrong.name());
+        }
+    }
+}
+
+/// The first wire and the wire count of a state below N.
+fn range(machine: &[u32], state: usize) -> (u32, u32) {
+    let at = RECORDS_AT + state * RECORD_WORDS;
+    (machine[at], machine[at + 1])
+}
+
+fn whole_machines() -> impl Iterator<Item = &'static [u32]> {
+    let whole = |machine: &&[u32]| machine.len() >= MACHINE_WORDS && (1..=64).contains(&machine[0]);
+    stored().iter().map(|one| &one.machine[..]).filter(whole)
+}
+
+/// A state without wires shares none, wherever its first wire is.
+#[test]
+fn empty_states_inside_others_are_admitted() {
+    let inside = |machine: &&[u32]| {
+        let states = 0..machine[0] as usize;
+        let within = |at: u32| {
+            states.clone().map(|state| range(machine, state)).any(|(first, count)| {
+                (u64::from(first)..u64::from(first) + u64::from(count)).contains(&at.into())
+            })
+        };
+        let mut ranges = states.clone().map(|state| range(machine, state));
+        ranges.any(|(first, count)| count == 0 && within(first))
+    };
+    let found = whole_machines().filter(inside).filter(|machine| decode(machine).is_some()).count();
+    assert!(found >= 20, "{found}");
+}
+
+/// A state without wires whose first wire is above 3,072 is refused, even where nothing else is
+/// wrong: with a first wire of 0 it is not.
+#[test]
+fn empty_states_past_the_end_are_refused() {
+    let alone = |machine: &&[u32]| {
+        let past = |&state: &usize| range(machine, state).1 == 0 && range(machine, state).0 > 3_072;
+        (0..machine[0] as usize).find(past).is_some_and(|state| {
+            let mut mended = machine.to_vec();
+            mended[RECORDS_AT + state * RECORD_WORDS] = 0;
+            decode(machine).is_none() && decode(&mended).is_some()
+        })
+    };
+    let found = whole_machines().filter(alone).count();
+    assert!(found >= 20, "{found}");
+}

@@ -1,4 +1,4 @@
-//! The commands: cases, answers, list, stats, compare, fit, bench, draw.
+//! The commands: cases, answers, list, stats, text, pieces, compare, fit, bench, draw.
 
 mod bench;
 mod compare;
@@ -8,16 +8,20 @@ mod tally;
 
 use reference::answer::answer;
 use reference::case::{read_cases, Case};
-use reference::generate;
+use reference::generate::{self, exact};
 use reference::listing::listing;
 use reference::stats::Stats;
 use std::io::{self, Read, Write};
 use std::process::ExitCode;
+use std::thread;
+use std::time::Duration;
 
 const USAGE: &str = "usage: reference cases SEED COUNT > cases
        reference answers < cases
        reference list < text
        reference stats < cases
+       reference text BYTES
+       reference pieces BYTES < text
        reference compare SEED COUNT
        reference fit SEED COUNT
        reference bench
@@ -56,12 +60,36 @@ fn answers() -> Result<Vec<u8>, String> {
     Ok(lines.collect::<String>().into_bytes())
 }
 
+fn bytes(number: &str) -> Result<usize, String> {
+    number.parse().map_err(|_| String::from("BYTES is no number"))
+}
+
+fn text(length: &str) -> Result<Vec<u8>, String> {
+    exact::text(bytes(length)?).ok_or(String::from("BYTES is too small"))
+}
+
+/// Passes the input on in pieces, with a pause behind each so that a reader gets it by itself; a
+/// longer one behind the first, as the reader may only be starting.
+fn pieces(length: &str) -> Result<Vec<u8>, String> {
+    let mut output = io::stdout();
+    let mut pause = Duration::from_millis(10);
+    for piece in input()?.chunks(bytes(length)?.max(1)) {
+        let written = output.write_all(piece).and_then(|()| output.flush());
+        written.map_err(|error| error.to_string())?;
+        thread::sleep(pause);
+        pause = Duration::from_micros(20);
+    }
+    Ok(Vec::new())
+}
+
 fn command(arguments: &[&str]) -> Result<Vec<u8>, String> {
     match *arguments {
         ["cases", seed, count] => seeded(seed, count, cases),
         ["answers"] => answers(),
         ["list"] => Ok(listing(&input()?).into_bytes()),
         ["stats"] => Ok(Stats::of(&input_cases()?).print().into_bytes()),
+        ["text", length] => text(length),
+        ["pieces", length] => pieces(length),
         ["compare", seed, count] => seeded(seed, count, compare::command),
         ["fit", seed, count] => seeded(seed, count, fit_check::command),
         ["bench"] => bench::bench(),

@@ -25,6 +25,20 @@ fn list() {
     assert_eq!(run(&["list"], &[b'x'; 16_385]).stdout, b"refused,1,0\n");
 }
 
+/// Texts of exact lengths, passed on in pieces of any size as they are.
+#[test]
+fn text_and_pieces() {
+    let text = run(&["text", "4097"], b"").stdout;
+    assert_eq!(text.len(), 4_097);
+    for size in ["1", "7", "1000", "4096", "5000"] {
+        assert_eq!(run(&["pieces", size], &text).stdout, text);
+    }
+    assert!(run(&["pieces", "1"], b"").stdout.is_empty());
+    for wrong in ["1000", "-1", "x"] {
+        assert!(!run(&["text", wrong], b"").status.success(), "{wrong}");
+    }
+}
+
 #[test]
 fn answers_come_one_line_a_case() {
     let cases = Command::new(env!("CARGO_BIN_EXE_reference"))

@@ -3,6 +3,10 @@
 mod common;
 
 use common::refusal;
+use reference::generate::exact;
+use reference::generate::fixed::largest_graphs;
+use reference::parse::{parse, Fault};
+use reference::print::print;
 
 /// A text of one block with two registers and this line before its end.
 fn with_line(line: &str) -> (u32, u32) {
@@ -105,4 +109,24 @@ fn lengths() {
     assert_eq!(refusal(&text), (1, 0));
     assert_eq!(refusal(&"x".repeat(16_384)), (2, 1));
     assert_eq!(refusal(&"\u{0}".repeat(20_000)), (1, 0));
+}
+
+/// Every length from that of bare blocks on has a text; up to the longest graph's it is admitted.
+#[test]
+fn texts_of_exact_lengths() {
+    let longest = print(&largest_graphs()[0]).len();
+    assert_eq!(longest, 11_586);
+    for length in (1_866..longest).step_by(7).chain(longest - 20..=longest) {
+        let text = exact::text(length).expect("a text");
+        assert_eq!(text.len(), length);
+        assert!(parse(&text).is_ok(), "{length}");
+    }
+    for length in [longest + 1, longest + 5, 16_384, 16_385, 70_000] {
+        let text = exact::text(length).expect("a text");
+        assert_eq!(text.len(), length);
+        let number = if length == longest + 1 { 2 } else { 3 };
+        assert_eq!(parse(&text), Err(Fault { number, line: 642 }));
+    }
+    assert_eq!(exact::text(1_857), None);
+    assert_eq!(exact::text(1_859), None);
 }

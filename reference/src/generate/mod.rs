@@ -3,6 +3,7 @@
 mod capture_cases;
 mod capture_damage;
 mod captures;
+pub mod exact;
 pub mod examples;
 mod faulty_lines;
 pub mod fixed;

@@ -4,10 +4,13 @@ use reference::answer::{answer, buffers_of, Answer};
 use reference::case::Case;
 use reference::faults::{faults, Fault, Faults};
 use reference::generate::cases;
+use reference::graph_table::GRAPH_WORDS;
 use reference::listing::listing;
 use reference::machine_table::{decode, MACHINE_WORDS, RECORDS_AT, RECORD_WORDS};
 use reference::meeting::{meetings, possible, Meeting};
 use reference::operation::{Operation, Refusal};
+use reference::operations::{run_graph, run_machine, synthesise};
+use reference::parse::parse;
 use std::collections::BTreeMap;
 use std::sync::OnceLock;
 
@@ -187,4 +190,88 @@ fn empty_states_past_the_end_are_refused() {
     };
     let found = whole_machines().filter(alone).count();
     assert!(found >= 20, "{found}");
+}
+
+/// A text's lines with the numbers they have in it, the last one perhaps without a line feed.
+fn numbered(text: &[u8]) -> Vec<(u64, Vec<u8>)> {
+    (1..).zip(text.split_inclusive(|&byte| byte == b'\n').map(<[u8]>::to_vec)).collect()
+}
+
+/// Faults found one after another: each is mended, and the text read again. A line that has no form
+/// or is not due is taken out; one with a wrong number gets a right line of its kind.
+fn found_by_mending(text: &[u8]) -> Vec<(u32, u64)> {
+    let mut lines = numbered(text);
+    let end = lines.len() as u64 + 1;
+    let mut found = Vec::new();
+    while let Err(fault) =
+        parse(&lines.iter().flat_map(|(_, line)| line.clone()).collect::<Vec<u8>>())
+    {
+        let at = fault.line as usize - 1;
+        let Some((line, bytes)) = lines.get_mut(at) else {
+            found.push((fault.number, end));
+            break;
+        };
+        found.push((fault.number, *line));
+        let is_ending = bytes.starts_with(b"goto") || bytes.starts_with(b"ite");
+        match fault.number {
+            4 | 5 if is_ending => *bytes = b"halt\n".to_vec(),
+            4 | 5 => *bytes = b"set,0,0\n".to_vec(),
+            _ => drop(lines.remove(at)),
+        }
+    }
+    found
+}
+
+/// The faults of all lines are those that reading finds as each one before is mended; of several in
+/// one line it finds the first.
+#[test]
+fn faults_of_later_lines_are_real() {
+    for one in stored().iter().filter(|one| one.case.text.len() < 5_000) {
+        let of_lines = one.faults[0].all.iter().filter(|fault| fault.line > 0);
+        let mut all: Vec<(u64, u32)> =
+            of_lines.map(|fault| (fault.line, fault.refusal.number())).collect();
+        all.sort();
+        all.dedup_by_key(|(line, _)| *line);
+        let found: Vec<(u64, u32)> = found_by_mending(&one.case.text)
+            .into_iter()
+            .map(|(number, line)| (line, number))
+            .collect();
+        assert_eq!(found, all, "{}", one.case.text.escape_ascii());
+    }
+}
+
+/// A copy that is long enough.
+fn lengthened(buffer: &[u32], length: usize) -> Vec<u32> {
+    let mut longer = buffer.to_vec();
+    longer.resize(length.max(buffer.len()), 0);
+    longer
+}
+
+/// What is said to be refused behind a short buffer is refused once no buffer is short.
+#[test]
+fn faults_behind_short_buffers_are_real() {
+    let mut shown = 0;
+    for one in stored() {
+        let graph = lengthened(&buffers_of(&one.case).0, GRAPH_WORDS);
+        let machine = lengthened(&one.machine, MACHINE_WORDS);
+        let registers = lengthened(&one.case.registers, 16);
+        let made = synthesise(&graph, &mut lengthened(&[], MACHINE_WORDS));
+        let ran = run_graph(&graph, &mut registers.clone(), one.case.start_block, 0).number;
+        let cycled = run_machine(&machine, &mut registers.clone(), one.case.start_state, 0).number;
+        let numbers = [(2, made), (3, ran), (4, cycled)];
+        for (faults, number) in numbers.map(|(index, number)| (&one.faults[index], number)) {
+            let mut mended = faults.clone();
+            mended.all.retain(|fault| fault.refusal.number() != 7);
+            // A table that was short may be refused for what it was lengthened by.
+            if mended.all.len() < faults.all.len() && !matches!(number, 6 | 10) {
+                assert_eq!(number, refused(mended.first()).0, "{:?}", faults.operation);
+            }
+            let tables = [Refusal::GraphTable, Refusal::MachineTable];
+            if mended.all.iter().any(|fault| tables.contains(&fault.refusal)) {
+                assert!(matches!(number, 6 | 10), "{:?}", faults.operation);
+                shown += usize::from(mended.all.len() < faults.all.len());
+            }
+        }
+    }
+    assert!(shown > 100, "{shown}");
 }

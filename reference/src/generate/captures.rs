@@ -152,13 +152,13 @@ pub fn captures(random: &mut Random, case: &Case) -> Captures {
     // Damaged or not is drawn first: a wrong R is to meet faulty lines.
     let damage = random.below(100);
     match damage {
-        0..=23 => capture_damage::damage(random, &mut texts),
-        24..=29 => capture_damage::several(random, &mut texts),
+        0..=19 => capture_damage::damage(random, &mut texts),
+        20..=25 => capture_damage::several(random, &mut texts),
         _ => (),
     }
     let registers = match random.below(100) {
         0..=3 => past_limits(random, right),
-        6..=65 if damage == 24 => past_limits(random, right),
+        6..=65 if damage == 20 => past_limits(random, right),
         4 | 5 => random.pick(&[right - 1, right + 1]),
         _ => right,
     };

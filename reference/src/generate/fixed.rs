@@ -54,7 +54,7 @@ copy,1,0\ngoto,2\nblock,2\nsx,0,1\nhalt\n";
 fn named_faults() -> Vec<Case> {
     let lines = LINES.iter().map(|line| format!("graph,1,2\nblock,0\n{line}\nhalt\n"));
     let texts = TEXTS.iter().map(|text| text.to_string());
-    let all = lines.chain(texts).chain(texts_at_the_limit());
+    let all = lines.chain(texts).chain(texts_at_the_limit()).chain(two_faulty_lines());
     all.map(|text| Case::plain(text.as_bytes())).collect()
 }
 
@@ -62,6 +62,14 @@ fn named_faults() -> Vec<Case> {
 fn texts_at_the_limit() -> Vec<String> {
     let start = "graph,1,1\nblock,0\nhalt\n";
     [16_384, 16_385].map(|length| start.to_string() + &"\n".repeat(length - start.len())).to_vec()
+}
+
+/// Each fault of a line in block 0, before each in block 1.
+fn two_faulty_lines() -> Vec<String> {
+    let faulty = ["x\nhalt", "graph,1,1\nhalt", "copy,1,0\nhalt", "goto,3"];
+    let text =
+        |first, second| format!("graph,3,1\nblock,0\n{first}\nblock,1\n{second}\nblock,2\nhalt\n");
+    faulty.iter().flat_map(|first| faulty.map(|second| text(first, second))).collect()
 }
 
 /// A text that is too long, with a line of each fault, read into a table that is short.

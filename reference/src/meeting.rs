@@ -72,11 +72,10 @@ pub fn meetings(faults: &Faults) -> BTreeSet<Meeting> {
     others.map(|other| Meeting::of(faults.operation, first, other)).collect()
 }
 
-/// Each refusal with those behind it that can apply to the same call.
+/// Each refusal with those that go behind it; any two of one operation can apply to one call.
 ///
-/// Not here, as they cannot: of writing, 7 of the output, which has 8 instead; of runs with words,
-/// 12; of a machine's runs, 11, as they get no list. 9 of a run with words never comes without
-/// 11: a list that has the start has a block not below B.
+/// A run with words has no 12, a machine's run gets no list and so has no 11, and a short output is
+/// 8 and not 7. 9 never comes without 11: a list that has such a start has a block not below B.
 const OF_CALLS: [(Operation, Refusal, &[Refusal]); 21] = {
     use Operation::*;
     use Refusal::*;

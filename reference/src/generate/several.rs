@@ -5,7 +5,7 @@ use super::{faulty_lines, graph_damage, graphs, lists, words};
 use crate::answer::{buffers_of, patch};
 use crate::case::{Case, Patch, MAX_PATCHES, MAX_STARTERS};
 use crate::graph::Graph;
-use crate::graph_table;
+use crate::graph_table::{self, ENDING_OFFSET};
 use crate::grouping::group;
 use crate::machine_table::{self, MACHINE_WORDS};
 use crate::parse::parse;
@@ -57,7 +57,8 @@ fn graph_start(random: &mut Random, wishes: Wishes) -> Vec<Patch> {
     let head = [random.between(1, 3) as u32, registers, 1, code];
     let mut patches: Vec<Patch> = (0..).zip(head).collect();
     patches.extend((4..42).map(|index| (index, 0)));
-    patches[35].1 = 3;
+    // The block halts.
+    patches[2 + ENDING_OFFSET].1 = 3;
     patches
 }
 
@@ -141,10 +142,12 @@ fn start(random: &mut Random, past: bool, buffer: &[u32]) -> u32 {
 }
 
 fn starters(random: &mut Random, faulty: bool, case: &Case) -> Vec<u32> {
-    let own = parse(&case.text).map_or(vec![0], |graph| group(&graph).starters);
+    let graph = parse(&case.text).ok();
+    let blocks = graph.as_ref().map_or(1, |graph| graph.blocks.len());
+    let own = graph.map_or(vec![0], |graph| group(&graph).starters);
     let own: Vec<u32> = own.iter().map(|&block| block as u32).collect();
     let mut list = match faulty {
-        true => lists::faulty(random, &own, own.len(), case.start_block),
+        true => lists::faulty(random, &own, blocks, case.start_block),
         false => [&own[..], &[case.start_block]].concat(),
     };
     list.truncate(MAX_STARTERS);

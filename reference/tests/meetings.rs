@@ -160,14 +160,14 @@ fn whole_machines() -> impl Iterator<Item = &'static [u32]> {
     stored().iter().map(|one| &one.machine[..]).filter(whole)
 }
 
-/// A state without wires shares none, wherever its first wire is.
+/// A state without wires shares none, also where its first wire is behind another's first.
 #[test]
 fn empty_states_inside_others_are_admitted() {
     let inside = |machine: &&[u32]| {
         let states = 0..machine[0] as usize;
         let within = |at: u32| {
             states.clone().map(|state| range(machine, state)).any(|(first, count)| {
-                (u64::from(first)..u64::from(first) + u64::from(count)).contains(&at.into())
+                first < at && u64::from(at) < u64::from(first) + u64::from(count)
             })
         };
         let mut ranges = states.clone().map(|state| range(machine, state));

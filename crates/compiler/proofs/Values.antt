@@ -1,4 +1,4 @@
--- The fields of the answers of reading, writing and synthesis are the paper's. Assumes nothing.
+-- The fields of the answers of reading, writing, synthesis and comparing captures are the papers'. Assumes nothing.
 use Prim.Native.Nat.{ℕ, _≤_, _<_}
 use mathlib.Core.Bool.{Bool, true, false, _||_}
 use mathlib.Core.Path.{_≡_, refl}
@@ -7,6 +7,7 @@ use mathlib.Core.List.{List}
 use lib.ListN.{length}
 use lib.Dec.{ltb}
 use borrow.Author.Tests.{lt-ltb, le-ltb}
+use Rattle.capture.specs.Capture.{compareLines, compareCaptures, comparison}
 use Rattle.cfg.specs.Layout.{graphWords}
 use Rattle.cfg.specs.Table.{graphOf, admitted}
 use Rattle.cfg_text.specs.Walk.{Reading, refused, read}
@@ -16,7 +17,7 @@ use Rattle.cfg_write.specs.declared.WriteAnswer.the-variants.{Refused, Written}
 use Rattle.fsmd.specs.Layout.{machineWords}
 use Rattle.synthesis.specs.Synthesis.{synthesisAnswer}
 use Rattle.word.specs.Word.{choose}
-use Rattle.compiler.specs.Answers.{numberIn, lineIn, ReadValues, WriteValues, synthesisNumber, SynthesisValues}
+use Rattle.compiler.specs.Answers.{numberIn, lineIn, ReadValues, WriteValues, synthesisNumber, SynthesisValues, CaptureValues}
 
 number-in : (x : Reading) → readNumber (answerOf x) ≡ numberIn x
 number-in (refused k n) = refl
@@ -66,4 +67,15 @@ module _ (graph machine : List ℕ) where
         short = short-table;
         other = λ h k f. rw (le-ltb (length graph) graphWords h, le-ltb (length machine) machineWords k, f);
         number = λ h k e. rw (le-ltb (length graph) graphWords h, le-ltb (length machine) machineWords k, e);
+      }
+
+module _ (r : ℕ) (one two : List ℕ) where
+  pub capture-values : CaptureValues r one two (compareCaptures r one two)
+  unfolding compareCaptures compareLines comparison
+  capture-values =
+      record {
+        range = λ f. rw f (refl, refl, refl, refl, refl, refl);
+        first = λ i k n e. rw (i, e) (refl, refl, refl, refl, refl, refl);
+        second = λ i f k n e. rw (i, f, e) (refl, refl, refl, refl, refl, refl);
+        sound = λ i f e. rw (i, f, e) (refl, refl, refl, refl, refl, refl);
       }

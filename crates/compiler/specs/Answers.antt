@@ -8,6 +8,9 @@ use mathlib.Core.List.{List}
 use lib.ListN.{length}
 use lib.Dec.{ltb}
 use Rattle.word.specs.Word.{choose}
+use Rattle.capture.specs.Capture.{recording, faultOf, entriesOf, shared, comparison, inRange, refusalNumber, faultyRecording, faultyLine, sharedCount, differsFlag, differingCycle}
+use Rattle.capture.specs.declared.CaptureAnswer.{CaptureAnswer}
+use Rattle.capture.specs.declared.recording.Fault.the-variants as fault
 use Rattle.cfg.specs.Layout.{graphWords}
 use Rattle.cfg.specs.Table.{graphOf, admitted}
 use Rattle.cfg_text.specs.Walk.{Reading, refused, read}
@@ -49,3 +52,19 @@ pub record SynthesisValues (graph machine : List ℕ) (a : SynthesisAnswer) : Ty
   pub short : (length graph < graphWords) ⊎ (length machine < machineWords) → synthesisNumber a ≡ 7
   pub other : graphWords ≤ length graph → machineWords ≤ length machine → admitted graph ≡ false → synthesisNumber a ≡ 6
   pub number : graphWords ≤ length graph → machineWords ≤ length machine → admitted graph ≡ true → synthesisNumber a ≡ 0
+
+-- "The array's capture against the model's": the number, recording and line of a fault, and all else 0
+abbrev pub FaultIs : CaptureAnswer → ℕ → ℕ → ℕ → Type 0
+FaultIs a number recorded line =
+    (refusalNumber a ≡ number) × (faultyRecording a ≡ recorded) × (faultyLine a ≡ line)
+    × (sharedCount a ≡ 0) × (differsFlag a ≡ 0) × (differingCycle a ≡ 0)
+
+-- R out of range, the first recording's fault, the second's, or none and what the two share
+pub record CaptureValues (r : ℕ) (one two : List ℕ) (a : CaptureAnswer) : Type 0 where
+  pub range : inRange r ≡ false → FaultIs a 17 0 0
+  pub first : inRange r ≡ true → (k n : ℕ) → faultOf (recording r one) ≡ fault.At k n → FaultIs a k 1 n
+  pub second : inRange r ≡ true → faultOf (recording r one) ≡ fault.Nothing → (k n : ℕ) → faultOf (recording r two) ≡ fault.At k n → FaultIs a k 2 n
+  pub sound : inRange r ≡ true → faultOf (recording r one) ≡ fault.Nothing → faultOf (recording r two) ≡ fault.Nothing
+      → let c = comparison (shared (entriesOf (recording r one)) (entriesOf (recording r two))) in
+      (refusalNumber a ≡ 0) × (faultyRecording a ≡ 0) × (faultyLine a ≡ 0)
+      × (sharedCount a ≡ sharedCount c) × (differsFlag a ≡ differsFlag c) × (differingCycle a ≡ differingCycle c)

@@ -25,7 +25,7 @@ ghost use Rattle.cfg.specs.Run.{refusal as graphRefusal, wordsRefusal as graphW
 ghost use Rattle.fsmd.specs.Machine.{machineRunner};
 ghost use Rattle.fsmd.specs.Table.{machineOf};
 ghost use Rattle.fsmd.specs.Run.{refusal as machineRefusal, wordsRefusal as machineWordsRefusal, runAnswer as machineAnswer, runRegisters as machineRegisters, wordsAnswer as machineWordsAnswer, wordsRegisters as machineWordsRegisters};
-ghost use Rattle.compiler.specs.Answers.{ReadValues, WriteValues, SynthesisValues};
+ghost use Rattle.compiler.specs.Answers.{ReadValues, WriteValues, SynthesisValues, CaptureValues};
 use capture::CaptureAnswer;
 use cfg_text::ReadAnswer;
 use cfg_write::WriteAnswer;
@@ -115,6 +115,7 @@ pub fn run_machine_with_words(
 // faulty one, or how many cycles both hold and the lowest of them where they differ.
 pub fn compare_captures(registers: u32, first: &[u8], second: &[u8]) -> CaptureAnswer
     ensures { λ r. ⌜ r ≡ compareCaptures registers (now (first .entry)) (now (second .entry)) ⌝ }
+    ensures { λ r. ⌜ CaptureValues registers (now (first .entry)) (now (second .entry)) r ⌝ }
     ensures { λ r. ⌜ Means registers (now (first .entry)) (now (second .entry)) r ⌝ }
 {
     capture::compare_captures(registers, first, second)

@@ -3,10 +3,14 @@
 pub mod fields; // fields.rt: the numbers and values of an answer
 
 ghost use mathlib.Core.Path.{_≡_};
-ghost use mathlib.Core.List.{List};
+ghost use mathlib.Core.List.{List, []};
 ghost use Prim.Native.Nat.{ℕ, _≤_};
 ghost use lib.ListN.{length, take};
-ghost use Rattle.cfg.specs.Layout.{graphWords};
+ghost use Rattle.runs.specs.Runs.{startAt, listed, unread};
+ghost use Rattle.runs.specs.Operations.{RunValues};
+ghost use Rattle.cfg.specs.Layout.{maxRegisters, graphWords};
+ghost use Rattle.cfg.specs.Graph.{graphRunner};
+ghost use Rattle.cfg.specs.Table.{graphOf};
 ghost use Rattle.capture.specs.Capture.{compareCaptures};
 ghost use Rattle.capture.specs.Meaning.{Means};
 ghost use Rattle.cfg_text.specs.Read.{readAnswer, readWords};
@@ -17,8 +21,11 @@ ghost use Rattle.cfg_write.specs.RoundTrip.{WrittenAgain, ReadAgain};
 ghost use Rattle.synthesis.specs.Synthesis.{synthesisAnswer, synthesisWords};
 ghost use Rattle.synthesis.specs.declared.SynthesisAnswer.«the-variants».{Made};
 ghost use Rattle.agreement.specs.Agreement.{Agreement};
-ghost use Rattle.cfg.specs.Run.{runAnswer as graphAnswer, runRegisters as graphRegisters, wordsAnswer as graphWordsAnswer, wordsRegisters as graphWordsRegisters};
-ghost use Rattle.fsmd.specs.Run.{runAnswer as machineAnswer, runRegisters as machineRegisters, wordsAnswer as machineWordsAnswer, wordsRegisters as machineWordsRegisters};
+ghost use Rattle.cfg.specs.Run.{refusal as graphRefusal, wordsRefusal as graphWordsRefusal, runAnswer as graphAnswer, runRegisters as graphRegisters, wordsAnswer as graphWordsAnswer, wordsRegisters as graphWordsRegisters};
+ghost use Rattle.fsmd.specs.Machine.{machineRunner};
+ghost use Rattle.fsmd.specs.Table.{machineOf};
+ghost use Rattle.fsmd.specs.Run.{refusal as machineRefusal, wordsRefusal as machineWordsRefusal, runAnswer as machineAnswer, runRegisters as machineRegisters, wordsAnswer as machineWordsAnswer, wordsRegisters as machineWordsRegisters};
+ghost use Rattle.compiler.specs.Answers.{ReadValues, WriteValues, SynthesisValues, CaptureValues};
 use capture::CaptureAnswer;
 use cfg_text::ReadAnswer;
 use cfg_write::WriteAnswer;
@@ -29,6 +36,7 @@ use synthesis::SynthesisAnswer;
 pub fn read_text(text: &[u8], table: &mut [u32]) -> ReadAnswer
     ensures { λ r. ⌜ r ≡ readAnswer (now (text .entry)) (now (table .entry)) ⌝ }
     ensures { λ _. ⌜ now (table .exit) ≡ readWords (now (text .entry)) (now (table .entry)) ⌝ }
+    ensures { λ r. ⌜ ReadValues (now (text .entry)) (now (table .entry)) r ⌝ }
     ensures { λ r. ⌜ (r ≡ Read → (out : List ℕ) → length (now (text .entry)) ≤ length out → WrittenAgain (now (text .entry)) (now (table .exit)) out) ⌝ }
 {
     cfg_text::read_text(text, table)
@@ -38,6 +46,7 @@ pub fn read_text(text: &[u8], table: &mut [u32]) -> ReadAnswer
 pub fn write_text(table: &[u32], out: &mut [u8]) -> WriteAnswer
     ensures { λ r. ⌜ r ≡ writeAnswer (now (table .entry)) (now (out .entry)) ⌝ }
     ensures { λ _. ⌜ now (out .exit) ≡ writeBytes (now (table .entry)) (now (out .entry)) ⌝ }
+    ensures { λ r. ⌜ WriteValues (now (table .entry)) (now (out .entry)) r ⌝ }
     ensures { λ r. ⌜ ((n : ℕ) → r ≡ Written n → (again : List ℕ) → graphWords ≤ length again → ReadAgain (now (table .entry)) again (take n (now (out .exit)))) ⌝ }
 {
     cfg_write::write_text(table, out)
@@ -47,6 +56,7 @@ pub fn write_text(table: &[u32], out: &mut [u8]) -> WriteAnswer
 pub fn synthesise(graph: &[u32], machine: &mut [u32]) -> SynthesisAnswer
     ensures { λ r. ⌜ r ≡ synthesisAnswer (now (graph .entry)) (now (machine .entry)) ⌝ }
     ensures { λ _. ⌜ now (machine .exit) ≡ synthesisWords (now (graph .entry)) (now (machine .entry)) ⌝ }
+    ensures { λ r. ⌜ SynthesisValues (now (graph .entry)) (now (machine .entry)) r ⌝ }
     ensures { λ r. ⌜ (r ≡ Made → Agreement (now (graph .entry)) (now (machine .exit))) ⌝ }
 {
     synthesis::table::synthesise(graph, machine)
@@ -56,6 +66,7 @@ pub fn synthesise(graph: &[u32], machine: &mut [u32]) -> SynthesisAnswer
 pub fn run_graph(graph: &[u32], registers: &mut [u32], start: u32, budget: u32) -> RunAnswer
     ensures { λ r. ⌜ r ≡ graphAnswer (now (graph .entry)) (now (registers .entry)) start budget ⌝ }
     ensures { λ _. ⌜ now (registers .exit) ≡ graphRegisters (now (graph .entry)) (now (registers .entry)) start budget ⌝ }
+    ensures { λ r. ⌜ RunValues (graphRefusal (now (graph .entry)) (now (registers .entry)) start) (graphRunner (graphOf (now (graph .entry))) []) unread budget (startAt start (take maxRegisters (now (registers .entry)))) r ⌝ }
 {
     cfg::run::run_graph(graph, registers, start, budget)
 }
@@ -64,6 +75,7 @@ pub fn run_graph(graph: &[u32], registers: &mut [u32], start: u32, budget: u32) 
 pub fn run_machine(machine: &[u32], registers: &mut [u32], start: u32, budget: u32) -> RunAnswer
     ensures { λ r. ⌜ r ≡ machineAnswer (now (machine .entry)) (now (registers .entry)) start budget ⌝ }
     ensures { λ _. ⌜ now (registers .exit) ≡ machineRegisters (now (machine .entry)) (now (registers .entry)) start budget ⌝ }
+    ensures { λ r. ⌜ RunValues (machineRefusal (now (machine .entry)) (now (registers .entry)) start) (machineRunner (machineOf (now (machine .entry)))) unread budget (startAt start (take maxRegisters (now (registers .entry)))) r ⌝ }
 {
     fsmd::run::run_machine(machine, registers, start, budget)
 }
@@ -79,6 +91,7 @@ pub fn run_graph_with_words(
 ) -> RunAnswer
     ensures { λ r. ⌜ r ≡ graphWordsAnswer (now (graph .entry)) (now (registers .entry)) start budget (now (words .entry)) (now (starters .entry)) ⌝ }
     ensures { λ _. ⌜ now (registers .exit) ≡ graphWordsRegisters (now (graph .entry)) (now (registers .entry)) start budget (now (words .entry)) (now (starters .entry)) ⌝ }
+    ensures { λ r. ⌜ RunValues (graphWordsRefusal (now (graph .entry)) (now (registers .entry)) start (now (starters .entry))) (graphRunner (graphOf (now (graph .entry))) (now (starters .entry))) (listed (now (words .entry))) budget (startAt start (take maxRegisters (now (registers .entry)))) r ⌝ }
 {
     cfg::run::run_graph_with_words(graph, registers, start, budget, words, starters)
 }
@@ -93,6 +106,7 @@ pub fn run_machine_with_words(
 ) -> RunAnswer
     ensures { λ r. ⌜ r ≡ machineWordsAnswer (now (machine .entry)) (now (registers .entry)) start budget (now (words .entry)) ⌝ }
     ensures { λ _. ⌜ now (registers .exit) ≡ machineWordsRegisters (now (machine .entry)) (now (registers .entry)) start budget (now (words .entry)) ⌝ }
+    ensures { λ r. ⌜ RunValues (machineWordsRefusal (now (machine .entry)) (now (registers .entry)) start) (machineRunner (machineOf (now (machine .entry)))) (listed (now (words .entry))) budget (startAt start (take maxRegisters (now (registers .entry)))) r ⌝ }
 {
     fsmd::run::run_machine_with_words(machine, registers, start, budget, words)
 }
@@ -101,6 +115,7 @@ pub fn run_machine_with_words(
 // faulty one, or how many cycles both hold and the lowest of them where they differ.
 pub fn compare_captures(registers: u32, first: &[u8], second: &[u8]) -> CaptureAnswer
     ensures { λ r. ⌜ r ≡ compareCaptures registers (now (first .entry)) (now (second .entry)) ⌝ }
+    ensures { λ r. ⌜ CaptureValues registers (now (first .entry)) (now (second .entry)) r ⌝ }
     ensures { λ r. ⌜ Means registers (now (first .entry)) (now (second .entry)) r ⌝ }
 {
     capture::compare_captures(registers, first, second)

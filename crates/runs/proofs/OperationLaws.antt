@@ -1,13 +1,15 @@
 -- Laws of operations that run: what is refused and what is not. Assumes nothing.
-use Prim.Native.Nat.{ℕ, suc}
+use Prim.Native.Nat.{ℕ, zero, suc}
 use native.Mathlib.Omega.{arith}
+use mathlib.Core.Bool.{Bool, true, false}
 use mathlib.Core.List.{List, _++_}
-use mathlib.Core.Path.{_≡_, sym, ap, _∙_}
+use mathlib.Core.Path.{_≡_, refl, sym, ap, _∙_}
 use lib.ListN.{take, drop}
+use lib.Dec.{ltb}
 use borrow.Author.Tests.{ne-eqb}
 use Rattle.word.specs.RegisterFile.{fileWords}
-use Rattle.runs.specs.Runs.{startAt, Supply, Runner, answer, registersAfter}
-use Rattle.runs.specs.Operations.{answered, registersLeft}
+use Rattle.runs.specs.Runs.{Place, standing, halted, Configuration, startAt, Supply, Runner, times, stepsRun, outcome, answer, registersAfter, numberOf, outcomeOf, countOf, nextOf}
+use Rattle.runs.specs.Operations.{answered, registersLeft, nextAt, outcomeAt, RunValues}
 use Rattle.runs.specs.declared.RunAnswer.{RunAnswer}
 use Rattle.runs.specs.declared.RunAnswer.the-variants.{Refused}
 use Rattle.runs.proofs.SupplyLaws.{Alike, answer-alike, registers-alike}
@@ -47,3 +49,46 @@ module _ (r : Runner) (ws : Supply) (buffer : List ℕ) (start budget : ℕ) (n 
         ∙ ap (λ (l : List ℕ). l ++ drop fileWords buffer) (registers-alike r a ws budget h start (take fileWords buffer))
         ∙ sym (accepted-left e),
   )
+
+-- ---- the fields of an answer
+
+pub record OutcomeValues (p : Place) (left : Bool) (count : ℕ) (a : RunAnswer) : Type 0 where
+  pub number : numberOf a ≡ 0
+  pub ended : outcomeOf a ≡ outcomeAt p left
+  pub counted : countOf a ≡ count
+  pub following : nextOf a ≡ nextAt p
+
+outcome-values : (p : Place) (left : Bool) (count : ℕ) → OutcomeValues p left count (outcome p left count)
+outcome-values halted left count = record { number = refl; ended = refl; counted = refl; following = refl }
+outcome-values (standing n) true count = record { number = refl; ended = refl; counted = refl; following = refl }
+outcome-values (standing n) false count = record { number = refl; ended = refl; counted = refl; following = refl }
+
+module _ (r : Runner) (ws : Supply) (budget : ℕ) (c : Configuration) where
+  answer-values : RunValues 0 r ws budget c (answer r ws budget c)
+  unfolding answer
+  answer-values =
+      let v = outcome-values (times r ws budget c .place) (ltb (stepsRun r ws budget c) budget) (stepsRun r ws budget c) in
+      record {
+        number = v .number;
+        refused = λ f. absurd (f refl);
+        outcome = λ e. v .ended;
+        count = λ e. v .counted;
+        next = λ e. v .following;
+      }
+
+  refused-values : (m : ℕ) → RunValues (suc m) r ws budget c (Refused (suc m))
+  refused-values m =
+      record {
+        number = refl;
+        refused = λ f. (refl, refl, refl);
+        outcome = λ e. absurd (omega arith);
+        count = λ e. absurd (omega arith);
+        next = λ e. absurd (omega arith);
+      }
+
+pub operation-values : (r : Runner) (ws : Supply) (buffer : List ℕ) (start budget n : ℕ)
+    → RunValues n r ws budget (startAt start (take fileWords buffer)) (answered n r ws buffer start budget)
+operation-values r ws buffer start budget zero =
+    rw (accepted r ws buffer start budget 0 refl) (answer-values r ws budget (startAt start (take fileWords buffer)))
+operation-values r ws buffer start budget (suc m) =
+    rw (refused r ws buffer start budget (suc m) m refl) (refused-values r ws budget (startAt start (take fileWords buffer)) m)

@@ -1,11 +1,14 @@
 -- An operation that runs a graph or a machine on a register buffer: its answer, and the words that it leaves there. Assumes nothing.
 use Prim.Native.Nat.{ℕ}
+use mathlib.Core.Bool.{Bool, true, false}
+use mathlib.Core.Logic.{_≢_}
+use mathlib.Core.Path.{_≡_}
 use mathlib.Core.List.{List, _++_}
 use lib.ListN.{take, drop}
-use lib.Dec.{eqb}
+use lib.Dec.{eqb, ltb}
 use Rattle.word.specs.Word.{choose}
 use Rattle.word.specs.RegisterFile.{fileWords}
-use Rattle.runs.specs.Runs.{startAt, Supply, Runner, answer, registersAfter}
+use Rattle.runs.specs.Runs.{Place, standing, halted, Configuration, startAt, Supply, Runner, times, stepsRun, answer, registersAfter, numberOf, outcomeOf, countOf, nextOf}
 use Rattle.runs.specs.declared.RunAnswer.{RunAnswer}
 use Rattle.runs.specs.declared.RunAnswer.the-variants.{Refused}
 
@@ -20,3 +23,24 @@ unfoldable pub registersLeft : ℕ → Runner → Supply → List ℕ → ℕ �
 unfolding registersAfter
 registersLeft n r ws buffer start budget =
     choose (eqb n 0) (registersAfter r ws budget (startAt start (take fileWords buffer)) ++ drop fileWords buffer) buffer
+
+-- ---- paper 01's fields of the answer, from the run itself
+
+-- the block or state stood at, 255 where the run has halted
+abbrev pub nextAt : Place → ℕ
+nextAt (standing n) = n
+nextAt halted = 255
+
+-- 1 halted; where it stands, 2 dry with budget left, else 0 spent
+abbrev pub outcomeAt : Place → Bool → ℕ
+outcomeAt halted left = 1
+outcomeAt (standing n) true = 2
+outcomeAt (standing n) false = 0
+
+-- of an operation that is refused with number n, or runs from c where n is 0
+pub record RunValues (n : ℕ) (r : Runner) (ws : Supply) (budget : ℕ) (c : Configuration) (a : RunAnswer) : Type 0 where
+  pub number : numberOf a ≡ n
+  pub refused : n ≢ 0 → (outcomeOf a ≡ 0) × (countOf a ≡ 0) × (nextOf a ≡ 0)
+  pub outcome : n ≡ 0 → outcomeOf a ≡ outcomeAt (times r ws budget c .place) (ltb (stepsRun r ws budget c) budget)
+  pub count : n ≡ 0 → countOf a ≡ stepsRun r ws budget c
+  pub next : n ≡ 0 → nextOf a ≡ nextAt (times r ws budget c .place)

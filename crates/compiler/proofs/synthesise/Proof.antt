@@ -3,6 +3,8 @@ use mathlib.Core.Path.{_≡_, refl, sym, _∙_, subst}
 use borrow.Author.Needs.{needs}
 use Rattle.agreement.specs.Agreement.{Agreement}
 use Rattle.agreement.proofs.TableAgreement.{synthesised-agrees}
+use Rattle.compiler.specs.Answers.{SynthesisValues}
+use Rattle.compiler.proofs.Values.{synthesis-values}
 use Rattle.compiler.proofs.synthesise.Statement.{statement}
 use Rattle.compiler.proofs.synthesise.Tie as tie
 
@@ -16,7 +18,7 @@ returns : tie.Need-returns
 returns c =
     let a = c .before .before .before .before .before .before .args in
     let u = c .before .before .synthesise in
-    (u .ensures .0, (u .ensures .1, λ e. subst (Agreement (a .graph .now)) (sym (u .ensures .1)) (synthesised-agrees (a .graph .now) (a .machine .now) (sym (u .ensures .0) ∙ e))))
+    (u .ensures .0, (u .ensures .1, (subst (SynthesisValues (a .graph .now) (a .machine .now)) (sym (u .ensures .0)) (synthesis-values (a .graph .now) (a .machine .now)), λ e. subst (Agreement (a .graph .now)) (sym (u .ensures .1)) (synthesised-agrees (a .graph .now) (a .machine .now) (sym (u .ensures .0) ∙ e)))))
 
 pub synthesise-spec : {M : Type 1} → statement M
 synthesise-spec = tie.close (tie.spec synthesise-requires same-length returns)

@@ -1,1 +1,3 @@
+pub mod ByWord
 pub mod Endless
+pub mod WorkedExamples

@@ -1,0 +1,15 @@
+-- The worked examples hold, as one theorem. Assumes nothing.
+use Rattle.worked_examples.specs.Table.{rows, WorkedExamples}
+use Rattle.worked_examples.specs.ThroughTables.{throughTables}
+use Rattle.worked_examples.proofs.Endless.{graph-endless, machine-endless, run-graph-endless, run-machine-endless}
+
+pub worked-examples : WorkedExamples
+unfolding rows throughTables
+worked-examples =
+    record {
+      rows-hold = tt;
+      graph-endless = graph-endless;
+      machine-endless = machine-endless;
+      run-graph-endless = run-graph-endless;
+      run-machine-endless = run-machine-endless;
+    }

@@ -15,7 +15,7 @@ use Rattle.cfg.specs.Layout.{graphWords}
 use Rattle.cfg.specs.Graph.{CFG, runBlock, graphRunner}
 use Rattle.cfg.specs.Table.{tableOf as graphTable, graphOf, admitted as graphAdmitted}
 use Rattle.cfg.specs.Run.{refusal as graphRefusal, runAnswer as runGraph, runRegisters as graphRegisters, wordsRefusal as graphWordsRefusal, wordsAnswer as runGraphOn, wordsRegisters as graphRegistersOn}
-use Rattle.capture.specs.Capture.{compareCaptures, refusalNumber, faultyRecording, faultyLine, sharedCount, differsFlag, differingCycle}
+use Rattle.capture.specs.Capture.{compareCaptures}
 use Rattle.cfg_text.specs.Read.{readAnswer, readWords}
 use Rattle.fsmd.specs.Layout.{maxRegisters, machineWords}
 use Rattle.fsmd.specs.Machine.{State, clock, machineRunner}
@@ -25,9 +25,12 @@ use Rattle.grouping.specs.Grouping.{groups}
 use Rattle.placement.specs.Counts.{lowered, Choice, Edge, blocksOf, choicesOf, lowerings}
 use Rattle.synthesis.specs.Synthesis.{machine, synthesisWords}
 use Rattle.worked_examples.specs.Graphs.{P7, P9, P10, P11, P12, Figure5, Rates, Twins}
-use Rattle.worked_examples.specs.Rows.{Row, row, reading, fields, regs}
+use Rattle.worked_examples.specs.Rows.{Row, row, reading, fields, regs, agree, differ, refused}
 use Rattle.worked_examples.specs.Texts.{lines, gotoTwo, gotoOne, eight, nine, p7Text, p11Text, recorded, sixteen}
 use Rattle.worked_examples.specs.ThroughTables.{throughTables}
+use Rattle.worked_examples.specs.Orders.{orders}
+use Rattle.worked_examples.specs.Admission.{admission}
+use Rattle.worked_examples.specs.Kept.{kept}
 
 -- wires of each state
 abbrev wireCounts : CFG → List ℕ
@@ -49,22 +52,6 @@ countsBefore g k = map (λ (c : Choice). map (c .counts) (c .unplaced)) (choices
 
 abbrev loweredBy : CFG → ℕ → List ℕ
 loweredBy g k = concatMap (λ (e : Edge). e .source ∷ e .way ∷ e .target ∷ []) (lowerings g (groups g) k)
-
--- two recordings compared: the refusal's number, recording and line; the cycles shared, whether one differs, and the first that does
-module _ (r : ℕ) (one two : List ℕ) where
-  abbrev compared : List ℕ
-  compared =
-      let a = compareCaptures r one two in
-      refusalNumber a ∷ faultyRecording a ∷ faultyLine a ∷ sharedCount a ∷ differsFlag a ∷ differingCycle a ∷ []
-
-  abbrev agree : ℕ → Bool
-  agree n = same compared (0 ∷ 0 ∷ 0 ∷ n ∷ 0 ∷ 0 ∷ [])
-
-  abbrev differ : ℕ → ℕ → Bool
-  differ n c = same compared (0 ∷ 0 ∷ 0 ∷ n ∷ 1 ∷ c ∷ [])
-
-  abbrev refused : ℕ → ℕ → ℕ → Bool
-  refused k i n = same compared (k ∷ i ∷ n ∷ 0 ∷ 0 ∷ 0 ∷ [])
 
 unfoldable pub rows : List Row
 unfolding compareCaptures recorded sixteen choicesOf lowered lowerings concatMap Twins evalOf groups machine answered registersLeft graphRefusal graphWordsRefusal graphOf runBlock machineRefusal machineWordsRefusal machineOf clock graphTable machineTable graphAdmitted machineAdmitted readAnswer readWords P7 P9 P10 P11 P12 Figure5 Rates gotoTwo gotoOne eight nine p7Text
@@ -181,7 +168,7 @@ rows =
 
 -- every row of the table
 abbrev pub table : List Row
-table = rows ++ throughTables
+table = rows ++ (throughTables ++ (orders ++ (admission ++ kept)))
 
 -- The worked examples, as one statement.
 pub record WorkedExamples : Type 0 where

@@ -5,4 +5,5 @@ pub mod ThroughTables
 pub mod Orders
 pub mod Admission
 pub mod Kept
+pub mod RunsAhead
 pub mod Table

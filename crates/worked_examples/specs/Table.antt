@@ -31,6 +31,7 @@ use Rattle.worked_examples.specs.ThroughTables.{throughTables}
 use Rattle.worked_examples.specs.Orders.{orders}
 use Rattle.worked_examples.specs.Admission.{admission}
 use Rattle.worked_examples.specs.Kept.{kept}
+use Rattle.worked_examples.specs.RunsAhead.{ahead}
 
 -- wires of each state
 abbrev wireCounts : CFG → List ℕ
@@ -168,7 +169,7 @@ rows =
 
 -- every row of the table
 abbrev pub table : List Row
-table = rows ++ (throughTables ++ (orders ++ (admission ++ kept)))
+table = rows ++ (throughTables ++ (orders ++ (admission ++ (kept ++ ahead))))
 
 -- The worked examples, as one statement.
 pub record WorkedExamples : Type 0 where

@@ -1,29 +1,113 @@
--- P11 never halts: its graph is spent at every budget (that its machine is too follows by the agreement). Assumes nothing.
-use Prim.Native.Nat.{ℕ, zero, suc}
+-- P11 never halts: its graph and its machine are spent at every budget, on all registers. Assumes nothing.
+use Prim.Native.Nat.{ℕ, zero, suc, _≤_}
 use native.Mathlib.Omega.{arith}
+use mathlib.Core.Bool.{true}
 use mathlib.Core.Path.{_≡_, refl, ap, _∙_}
-use mathlib.Core.List.{List, []}
+use mathlib.Core.List.{List, [], _++_}
+use lib.ListN.{length, take, drop, length-append}
+use lib.Seq.{length-take-le}
 use borrow.Author.Tests.{le-ltb}
-use Rattle.runs.specs.Runs.{Configuration, startAt, unread, Runner, step, times, stepsRun, answer}
+use Rattle.word.specs.Word.{evalOf}
+use Rattle.runs.specs.Lists.{concatMap}
+use Rattle.runs.specs.Runs.{standing, Configuration, standsAt, startAt, unread, Runner, step, times, stepsRun, answer}
 use Rattle.runs.specs.declared.RunAnswer.the-variants.{Spent}
-use Rattle.cfg.specs.Graph.{runBlock, graphRunner}
+use Rattle.runs.proofs.OperationLaws.{accepted}
+use Rattle.cfg.specs.Layout.{graphWords}
+use Rattle.cfg.specs.Graph.{runBlock, graphRunner, wordless}
+use Rattle.cfg.specs.Table.{tableOf as graphTable, graphOf, admitted}
+use Rattle.cfg.specs.Run.{refusal as graphRefusal, runAnswer as runGraph}
+use Rattle.cfg.proofs.Admitted.{admitted-facts}
+use Rattle.cfg.proofs.Running.{none-refused}
+use Rattle.cfg_text.specs.Read.{readWords}
+use Rattle.fsmd.specs.Layout.{maxRegisters, machineWords}
+use Rattle.fsmd.specs.Machine.{clock, machineRunner, wordless as wordlessMachine}
+use Rattle.fsmd.specs.Table.{tableOf as machineTable, machineOf, admitted as machineAdmitted}
+use Rattle.fsmd.specs.Run.{refusal as machineRefusal, runAnswer as runMachine}
+use Rattle.fsmd.proofs.Steps.{refuse-none}
+use Rattle.fsmd.proofs.WrittenTable.{table-length}
+use Rattle.synthesis.specs.Synthesis.{machine, synthesisWords}
+use Rattle.synthesis.proofs.MadeTable.{made-words, admitted-made}
 use Rattle.worked_examples.specs.Graphs.{P11}
+use Rattle.worked_examples.specs.Texts.{p11Text}
+use Rattle.worked_examples.proofs.ByWord.{by-word}
 
-module _ (r : Runner) (n : ℕ) (rs : List ℕ) (stays : step r unread (startAt n rs) ≡ startAt n rs) where
-  stays-times : (k : ℕ) → times r unread k (startAt n rs) ≡ startAt n rs
+-- what comes back to where it stood, with the same registers, is spent at every budget
+module _ (r : Runner) (n : ℕ) (rs : List ℕ) (arrived : ℕ → ℕ) (stays : (j : ℕ) → step r unread (standsAt j n rs) ≡ standsAt (arrived j) n rs) where
+  stays-place : (k j : ℕ) → times r unread k (standsAt j n rs) .place ≡ standing n
   unfolding times
-  stays-times zero = refl
-  stays-times (suc k) = ap (times r unread k) stays ∙ stays-times k
+  stays-place zero j = refl
+  stays-place (suc k) j = ap (λ (c : Configuration). times r unread k c .place) (stays j) ∙ stays-place k (arrived j)
 
-  stays-count : (k : ℕ) → stepsRun r unread k (startAt n rs) ≡ k
+  stays-count : (k j : ℕ) → stepsRun r unread k (standsAt j n rs) ≡ k
   unfolding stepsRun
-  stays-count zero = refl
-  stays-count (suc k) = ap (λ (c : Configuration). suc (stepsRun r unread k c)) stays ∙ ap suc (stays-count k)
+  stays-count zero j = refl
+  stays-count (suc k) j = ap (λ (c : Configuration). suc (stepsRun r unread k c)) (stays j) ∙ ap suc (stays-count k (arrived j))
 
   stays-spent : (k : ℕ) → answer r unread k (startAt n rs) ≡ Spent k n
   unfolding answer
-  stays-spent k = rw (stays-times k, stays-count k, le-ltb k k (omega arith))
+  stays-spent k = rw (stays-place k 0, stays-count k 0, le-ltb k k (omega arith))
 
 pub graph-endless : (rs : List ℕ) (k : ℕ) → answer (graphRunner P11 []) unread k (startAt 0 rs) ≡ Spent k 0
 unfolding step runBlock P11
-graph-endless rs = stays-spent (graphRunner P11 []) 0 rs refl
+graph-endless rs = stays-spent (graphRunner P11 []) 0 rs (λ j. j) (λ j. refl)
+
+pub machine-endless : (rs : List ℕ) → length rs ≡ maxRegisters → (k : ℕ) → answer (machineRunner (machine P11)) unread k (startAt 0 rs) ≡ Spent k 0
+unfolding step clock evalOf machine P11
+machine-endless rs size =
+    stays-spent (machineRunner (machine P11)) 0 rs suc (λ j.
+    by-word maxRegisters (λ rs. step (machineRunner (machine P11)) unread (standsAt j 0 rs) ≡ standsAt (suc j) 0 rs)
+    (λ a b c d e f g h i j k l m n o p. refl) rs size)
+
+-- ---- through the operations, whatever follows the tables
+
+module _ (rest : List ℕ) where
+  abbrev graphWith : List ℕ
+  graphWith = graphTable P11 ++ rest
+
+  abbrev machineWith : List ℕ
+  machineWith = machineTable (machine P11) ++ rest
+
+  graph-admitted : admitted graphWith ≡ true
+  unfolding admitted graphTable concatMap P11
+  graph-admitted = refl
+
+  machine-long : machineWords ≤ length machineWith
+  machine-long = omega (arith, table-length (machine P11), length-append (machineTable (machine P11)) rest)
+
+  machine-admitted : machineAdmitted machineWith ≡ true
+  unfolding machineAdmitted machineTable concatMap machine P11
+  machine-admitted = refl
+
+  module _ (buffer : List ℕ) (full : maxRegisters ≤ length buffer) (k : ℕ) where
+    graph-spent : runGraph graphWith buffer 0 k ≡ Spent k 0
+    unfolding graphOf graphTable concatMap wordless P11
+    graph-spent =
+        accepted (graphRunner (graphOf graphWith) []) unread buffer 0 k (graphRefusal graphWith buffer 0)
+        (none-refused graphWith buffer 0 (admitted-facts graphWith graph-admitted .long) full graph-admitted refl (omega arith))
+        ∙ graph-endless (take maxRegisters buffer) k
+
+    machine-spent : runMachine machineWith buffer 0 k ≡ Spent k 0
+    unfolding machineOf machineTable concatMap wordlessMachine machine clock P11
+    machine-spent =
+        accepted (machineRunner (machineOf machineWith)) unread buffer 0 k (machineRefusal machineWith buffer 0)
+        (refuse-none machineWith buffer 0 machine-long full machine-admitted refl (omega arith))
+        ∙ machine-endless (take maxRegisters buffer) (length-take-le maxRegisters buffer full) k
+
+module _ (graph : List ℕ) (long : graphWords ≤ length graph) where
+  text-read : readWords p11Text graph ≡ graphTable P11 ++ drop graphWords graph
+  unfolding readWords p11Text P11
+  text-read = rw (le-ltb (length graph) graphWords long)
+
+  pub run-graph-endless : (buffer : List ℕ) → maxRegisters ≤ length buffer → (k : ℕ) → runGraph (readWords p11Text graph) buffer 0 k ≡ Spent k 0
+  run-graph-endless buffer full k = rw text-read (graph-spent (drop graphWords graph) buffer full k)
+
+  module _ (made : List ℕ) (room : machineWords ≤ length made) where
+    table-made : synthesisWords (readWords p11Text graph) made ≡ machineTable (machine P11) ++ drop machineWords made
+    unfolding graphOf graphTable concatMap P11
+    table-made =
+        let t = graphTable P11 ++ drop graphWords graph in
+        rw text-read (made-words t made (admitted-made t made (graph-admitted (drop graphWords graph)) room))
+
+    pub run-machine-endless : (buffer : List ℕ) → maxRegisters ≤ length buffer → (k : ℕ)
+        → runMachine (synthesisWords (readWords p11Text graph) made) buffer 0 k ≡ Spent k 0
+    run-machine-endless buffer full k = rw table-made (machine-spent (drop machineWords made) buffer full k)

@@ -1,1 +1,4 @@
+pub mod ByWord
 pub mod Endless
+pub mod WorkedExamples
+pub mod RunsAhead

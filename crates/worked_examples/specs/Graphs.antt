@@ -24,6 +24,9 @@ sub d a b = record { code = 4; d = d; a = a; b = b }
 abbrev add : ℕ → ℕ → ℕ → Instruction
 add d a b = record { code = 3; d = d; a = a; b = b }
 
+abbrev put : ℕ → ℕ → Instruction
+put d literal = record { code = 1; d = d; a = literal; b = 0 }
+
 abbrev sampled : ℕ → Instruction
 sampled d = record { code = 20; d = d; a = 0; b = 0 }
 
@@ -73,3 +76,12 @@ Rates =
 -- R-3: both edges of block 0 lead to block 3, and block 1 waits for blocks of higher numbers
 unfoldable pub Twins : CFG
 Twins = graph 2 (block [] (ite Eq 3 3) ∷ block [] Halt ∷ block [] (Goto 1) ∷ block [] (ite Eq 2 1) ∷ [])
+
+-- two cycles from block 0, with work in each, and then a halt: blocks 1 and 2 are a state of their own
+unfoldable pub Twice : CFG
+Twice =
+    graph 2 (
+    block (put 0 1 ∷ []) (Goto 1)
+    ∷ block (put 1 2 ∷ []) (ite Eq 1 2)
+    ∷ block [] Halt
+    ∷ [])

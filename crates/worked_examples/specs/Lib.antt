@@ -1,3 +1,9 @@
 pub mod Graphs
 pub mod Texts
+pub mod Rows
+pub mod ThroughTables
+pub mod Orders
+pub mod Admission
+pub mod Kept
+pub mod RunsAhead
 pub mod Table

@@ -1,49 +1,37 @@
 -- The worked examples P1 to P13, answers of R-1, placements of R-3 and captures of R-12, as one table of computed tests, and one theorem that all hold. Assumes nothing.
-use Prim.Native.Nat.{ℕ}
+use Prim.Native.Nat.{ℕ, _≤_}
 use Prim.Native.String.{String}
 use mathlib.Core.Bool.{Bool, true, false, not, _&&_}
 use mathlib.Core.List.{List, [], _∷_, _++_, map}
+use mathlib.Core.Path.{_≡_}
 use lib.ListN.{length, replicate}
 use lib.Dec.{T, eqb}
 use Rattle.word.specs.Word.{evalOf}
 use Rattle.runs.specs.Lists.{same, every, concatMap}
-use Rattle.runs.specs.Runs.{numberOf, outcomeOf, countOf, nextOf}
+use Rattle.runs.specs.Runs.{startAt, unread, answer}
 use Rattle.runs.specs.Operations.{answered, registersLeft}
-use Rattle.runs.specs.declared.RunAnswer.{RunAnswer}
+use Rattle.runs.specs.declared.RunAnswer.the-variants.{Spent}
 use Rattle.cfg.specs.Layout.{graphWords}
-use Rattle.cfg.specs.Graph.{CFG, runBlock}
+use Rattle.cfg.specs.Graph.{CFG, runBlock, graphRunner}
 use Rattle.cfg.specs.Table.{tableOf as graphTable, graphOf, admitted as graphAdmitted}
 use Rattle.cfg.specs.Run.{refusal as graphRefusal, runAnswer as runGraph, runRegisters as graphRegisters, wordsRefusal as graphWordsRefusal, wordsAnswer as runGraphOn, wordsRegisters as graphRegistersOn}
-use Rattle.capture.specs.Capture.{compareCaptures, refusalNumber, faultyRecording, faultyLine, sharedCount, differsFlag, differingCycle}
-use Rattle.cfg_text.specs.Read.{readAnswer, readWords, numberOf as readNumber, lineOf as readLine}
-use Rattle.fsmd.specs.Machine.{State, clock}
+use Rattle.capture.specs.Capture.{compareCaptures}
+use Rattle.cfg_text.specs.Read.{readAnswer, readWords}
+use Rattle.fsmd.specs.Layout.{maxRegisters, machineWords}
+use Rattle.fsmd.specs.Machine.{State, clock, machineRunner}
 use Rattle.fsmd.specs.Table.{tableOf as machineTable, machineOf, admitted as machineAdmitted}
 use Rattle.fsmd.specs.Run.{refusal as machineRefusal, runAnswer as runMachine, runRegisters as machineRegisters, wordsRefusal as machineWordsRefusal, wordsAnswer as runMachineOn, wordsRegisters as machineRegistersOn}
 use Rattle.grouping.specs.Grouping.{groups}
 use Rattle.placement.specs.Counts.{lowered, Choice, Edge, blocksOf, choicesOf, lowerings}
-use Rattle.synthesis.specs.Synthesis.{machine}
+use Rattle.synthesis.specs.Synthesis.{machine, synthesisWords}
 use Rattle.worked_examples.specs.Graphs.{P7, P9, P10, P11, P12, Figure5, Rates, Twins}
-use Rattle.worked_examples.specs.Texts.{lines, gotoTwo, gotoOne, eight, nine, p7Text, recorded, sixteen}
-
--- an example's name, and whether it holds
-pub record Row : Type 0 where
-  pub example : String
-  pub holds : Bool
-
-abbrev row : String → Bool → Row
-row e b = record { example = e; holds = b }
-
--- number and line of a reading into a table of zeros
-abbrev reading : List ℕ → List ℕ
-reading text = let r = readAnswer text (replicate graphWords 0) in readNumber r ∷ readLine r ∷ []
-
--- number, outcome, count and next of a run
-abbrev fields : RunAnswer → List ℕ
-fields r = numberOf r ∷ outcomeOf r ∷ countOf r ∷ nextOf r ∷ []
-
--- sixteen register words
-abbrev regs : ℕ → ℕ → List ℕ
-regs a b = a ∷ b ∷ replicate 14 0
+use Rattle.worked_examples.specs.Rows.{Row, row, reading, fields, regs, agree, differ, refused}
+use Rattle.worked_examples.specs.Texts.{lines, gotoTwo, gotoOne, eight, nine, p7Text, p11Text, recorded, sixteen}
+use Rattle.worked_examples.specs.ThroughTables.{throughTables}
+use Rattle.worked_examples.specs.Orders.{orders}
+use Rattle.worked_examples.specs.Admission.{admission}
+use Rattle.worked_examples.specs.Kept.{kept}
+use Rattle.worked_examples.specs.RunsAhead.{ahead}
 
 -- wires of each state
 abbrev wireCounts : CFG → List ℕ
@@ -65,22 +53,6 @@ countsBefore g k = map (λ (c : Choice). map (c .counts) (c .unplaced)) (choices
 
 abbrev loweredBy : CFG → ℕ → List ℕ
 loweredBy g k = concatMap (λ (e : Edge). e .source ∷ e .way ∷ e .target ∷ []) (lowerings g (groups g) k)
-
--- two recordings compared: the refusal's number, recording and line; the cycles shared, whether one differs, and the first that does
-module _ (r : ℕ) (one two : List ℕ) where
-  abbrev compared : List ℕ
-  compared =
-      let a = compareCaptures r one two in
-      refusalNumber a ∷ faultyRecording a ∷ faultyLine a ∷ sharedCount a ∷ differsFlag a ∷ differingCycle a ∷ []
-
-  abbrev agree : ℕ → Bool
-  agree n = same compared (0 ∷ 0 ∷ 0 ∷ n ∷ 0 ∷ 0 ∷ [])
-
-  abbrev differ : ℕ → ℕ → Bool
-  differ n c = same compared (0 ∷ 0 ∷ 0 ∷ n ∷ 1 ∷ c ∷ [])
-
-  abbrev refused : ℕ → ℕ → ℕ → Bool
-  refused k i n = same compared (k ∷ i ∷ n ∷ 0 ∷ 0 ∷ 0 ∷ [])
 
 unfoldable pub rows : List Row
 unfolding compareCaptures recorded sixteen choicesOf lowered lowerings concatMap Twins evalOf groups machine answered registersLeft graphRefusal graphWordsRefusal graphOf runBlock machineRefusal machineWordsRefusal machineOf clock graphTable machineTable graphAdmitted machineAdmitted readAnswer readWords P7 P9 P10 P11 P12 Figure5 Rates gotoTwo gotoOne eight nine p7Text
@@ -195,6 +167,19 @@ rows =
     ∷ row "a fault behind the last shared cycle" (refused 1 recorded (lines ("0,0,7" ∷ "7,0,0" ∷ "7,0,0" ∷ [])) 18 2 3)
     ∷ []
 
-pub all-hold : T (every (λ (r : Row). r .holds) rows)
-unfolding rows
-all-hold = tt
+-- every row of the table
+abbrev pub table : List Row
+table = rows ++ (throughTables ++ (orders ++ (admission ++ (kept ++ ahead))))
+
+-- The worked examples, as one statement.
+pub record WorkedExamples : Type 0 where
+  -- each row holds
+  pub rows-hold : T (every (λ (r : Row). r .holds) table)
+  -- P11 never halts: graph and machine are spent at every budget, on all registers
+  pub graph-endless : (rs : List ℕ) (k : ℕ) → answer (graphRunner P11 []) unread k (startAt 0 rs) ≡ Spent k 0
+  pub machine-endless : (rs : List ℕ) → length rs ≡ maxRegisters → (k : ℕ) → answer (machineRunner (machine P11)) unread k (startAt 0 rs) ≡ Spent k 0
+  -- and so the operations answer, from its text on, whatever the tables and the register buffer held
+  pub run-graph-endless : (graph : List ℕ) → graphWords ≤ length graph
+      → (buffer : List ℕ) → maxRegisters ≤ length buffer → (k : ℕ) → runGraph (readWords p11Text graph) buffer 0 k ≡ Spent k 0
+  pub run-machine-endless : (graph : List ℕ) → graphWords ≤ length graph → (made : List ℕ) → machineWords ≤ length made
+      → (buffer : List ℕ) → maxRegisters ≤ length buffer → (k : ℕ) → runMachine (synthesisWords (readWords p11Text graph) made) buffer 0 k ≡ Spent k 0

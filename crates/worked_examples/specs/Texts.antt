@@ -48,6 +48,23 @@ p7Text =
     ∷ "halt"
     ∷ [])
 
+-- P9 to P12 as text
+unfoldable pub p9Text : List ℕ
+p9Text =
+    lines (
+    "graph,5,2" ∷ "block,0" ∷ "ite,eq,0,1,1,2" ∷ "block,1" ∷ "ite,eq,0,1,1,3" ∷ "block,2" ∷ "ite,eq,0,1,3,4" ∷ "block,3" ∷ "goto,4" ∷ "block,4" ∷ "halt" ∷ [])
+
+unfoldable pub p10Text : List ℕ
+p10Text =
+    lines (
+    "graph,4,2" ∷ "block,0" ∷ "ite,eq,0,1,1,2" ∷ "block,1" ∷ "ite,eq,0,1,2,3" ∷ "block,2" ∷ "goto,1" ∷ "block,3" ∷ "halt" ∷ [])
+
+unfoldable pub p11Text : List ℕ
+p11Text = lines ("graph,1,1" ∷ "block,0" ∷ "goto,0" ∷ [])
+
+unfoldable pub p12Text : List ℕ
+p12Text = lines ("graph,3,1" ∷ "block,0" ∷ "goto,1" ∷ "block,1" ∷ "halt" ∷ "block,2" ∷ "goto,1" ∷ [])
+
 -- R-12: a recording of one register, and one of sixteen
 unfoldable pub recorded : List ℕ
 recorded = lines ("0,0,7" ∷ "2,1,8" ∷ "5,0,9" ∷ [])

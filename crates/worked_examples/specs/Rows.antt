@@ -1,0 +1,71 @@
+-- A row of the table, and what its tests read: the fields of answers. Assumes nothing.
+use Prim.Native.Nat.{ℕ}
+use Prim.Native.String.{String}
+use mathlib.Core.Bool.{Bool}
+use mathlib.Core.List.{List, [], _∷_}
+use lib.ListN.{replicate}
+use Rattle.runs.specs.Lists.{same}
+use Rattle.runs.specs.Runs.{numberOf, outcomeOf, countOf, nextOf}
+use Rattle.runs.specs.declared.RunAnswer.{RunAnswer}
+use Rattle.cfg.specs.Layout.{graphWords}
+use Rattle.capture.specs.Capture.{compareCaptures, refusalNumber, faultyRecording, faultyLine, sharedCount, differsFlag, differingCycle}
+use Rattle.cfg_text.specs.Read.{readAnswer, numberOf as readNumber, lineOf as readLine}
+use Rattle.fsmd.specs.Layout.{machineWords}
+use Rattle.synthesis.specs.declared.SynthesisAnswer.{SynthesisAnswer}
+use Rattle.synthesis.specs.declared.SynthesisAnswer.the-variants.{Refused, Made}
+
+-- an example's name, and whether it holds
+pub record Row : Type 0 where
+  pub example : String
+  pub holds : Bool
+
+abbrev pub row : String → Bool → Row
+row e b = record { example = e; holds = b }
+
+-- tables of zeros
+abbrev pub noGraph : List ℕ
+noGraph = replicate graphWords 0
+
+abbrev pub noMachine : List ℕ
+noMachine = replicate machineWords 0
+
+-- number and line of a reading into a table
+abbrev pub readingInto : List ℕ → List ℕ → List ℕ
+readingInto table text = let r = readAnswer text table in readNumber r ∷ readLine r ∷ []
+
+-- and into a table of zeros
+abbrev pub reading : List ℕ → List ℕ
+reading text = readingInto noGraph text
+
+-- number, outcome, count and next of a run
+abbrev pub fields : RunAnswer → List ℕ
+fields r = numberOf r ∷ outcomeOf r ∷ countOf r ∷ nextOf r ∷ []
+
+-- a run that is refused with number n: zero in every other field
+abbrev pub refusedWith : ℕ → RunAnswer → Bool
+refusedWith n r = same (fields r) (n ∷ 0 ∷ 0 ∷ 0 ∷ [])
+
+-- sixteen register words
+abbrev pub regs : ℕ → ℕ → List ℕ
+regs a b = a ∷ b ∷ replicate 14 0
+
+-- the number of Synthesise's answer
+abbrev pub synthesisNumber : SynthesisAnswer → ℕ
+synthesisNumber (Refused n) = n
+synthesisNumber Made = 0
+
+-- two recordings compared: the refusal's number, recording and line; the cycles shared, whether one differs, and the first that does
+module _ (r : ℕ) (one two : List ℕ) where
+  abbrev pub compared : List ℕ
+  compared =
+      let a = compareCaptures r one two in
+      refusalNumber a ∷ faultyRecording a ∷ faultyLine a ∷ sharedCount a ∷ differsFlag a ∷ differingCycle a ∷ []
+
+  abbrev pub agree : ℕ → Bool
+  agree n = same compared (0 ∷ 0 ∷ 0 ∷ n ∷ 0 ∷ 0 ∷ [])
+
+  abbrev pub differ : ℕ → ℕ → Bool
+  differ n c = same compared (0 ∷ 0 ∷ 0 ∷ n ∷ 1 ∷ c ∷ [])
+
+  abbrev pub refused : ℕ → ℕ → ℕ → Bool
+  refused k i n = same compared (k ∷ i ∷ n ∷ 0 ∷ 0 ∷ 0 ∷ [])

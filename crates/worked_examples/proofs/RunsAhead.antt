@@ -93,6 +93,13 @@ halting-runs-ahead =
     (λ a b c d e f g h i j k l m n o p. refl)
     (λ a b c d e f g h i j k l m n o p. record { first = refl; second = refl; registers = refl })
 
+-- so both are refuted
+pub idling-refuted : Agreement (graphTable Twice) idling → ⊥
+idling-refuted = runs-ahead-refuted idling idling-runs-ahead
+
+pub halting-refuted : Agreement (graphTable Twice) halting → ⊥
+halting-refuted = runs-ahead-refuted halting halting-runs-ahead
+
 -- ---- and the machine that Synthesise makes is not refuted
 
 twice-made : synthesisAnswer (graphTable Twice) noMachine ≡ Made

@@ -1,12 +1,10 @@
 -- The graph table ("Graph table" of paper 01): the words of a graph, the graph of some words, and which words are admitted. Assumes nothing.
-use Prim.Native.Nat.{ℕ, _+_, _-_, _*_}
+use Prim.Native.Nat.{ℕ, _+_, _*_}
 use mathlib.Core.Bool.{Bool, true, false, _&&_}
 use mathlib.Core.List.{List, [], _∷_, _++_, map}
 use lib.ListN.{length, getD, take}
 use lib.Dec.{eqb}
-use Rattle.word.specs.declared.Comparison.{Comparison}
-use Rattle.word.specs.declared.Comparison.the-variants.{Eq, Ne, Lt, Ge, Ltu, Geu}
-use Rattle.word.specs.Word.{choose, codeOf as comparisonCode}
+use Rattle.word.specs.Word.{choose, comparisonAt, codeOf as comparisonCode}
 use Rattle.runs.specs.Lists.{upFrom, same, padded, concatMap}
 use Rattle.cfg.specs.declared.Instruction.{Instruction}
 use Rattle.cfg.specs.declared.Condition.{Condition}
@@ -37,9 +35,6 @@ unfolding concatMap blockWordsOf
 tableOf g = length (g .blocks) ∷ g .registers ∷ padded allBlockWords 0 (concatMap blockWordsOf (g .blocks))
 
 -- ---- the graph of a table; what a word that no graph has stands for is of no matter
-
-abbrev pub comparisonAt : ℕ → Comparison
-comparisonAt k = getD (Eq ∷ Ne ∷ Lt ∷ Ge ∷ Ltu ∷ Geu ∷ []) (k - 12) Eq
 
 -- instruction i of the block whose words begin at o
 unfoldable pub instructionAt : List ℕ → ℕ → ℕ → Instruction

@@ -9,12 +9,12 @@ ghost use mathlib.Core.List.{map};
 ghost use Prim.Native.Nat.{_+_, _-_, _≤_, _<_};
 ghost use lib.ListN.{length};
 ghost use lib.Dec.{ltb, eqb};
-ghost use Rattle.word.specs.Word.{choose, arity, codeOf};
+ghost use Rattle.word.specs.Word.{choose, arity, codeOf, comparisonAt};
 ghost use Rattle.runs.specs.Lists.{upFrom, every};
 ghost use Rattle.cfg.specs.declared.Ending.the-variants.{Ite};
 ghost use Rattle.cfg.specs.Layout.{maxBlocks, maxInstructions, endingWords, blockWords, graphWords};
 ghost use Rattle.cfg.specs.Graph.{wordless, validInstruction, validEnding};
-ghost use Rattle.cfg.specs.Table.{comparisonAt, instructionAt, graphOf, admitted};
+ghost use Rattle.cfg.specs.Table.{instructionAt, graphOf, admitted};
 ghost use Rattle.cfg.specs.Fits.{zeros, endingFits, passes, blockPasses};
 
 // The words from `from` up to `to` are 0.

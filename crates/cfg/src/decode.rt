@@ -9,7 +9,7 @@ ghost use mathlib.Core.Path.{_≡_};
 ghost use Prim.Native.Nat.{_+_, _≤_, _<_};
 ghost use lib.ListN.{length, getD};
 ghost use Rattle.cfg.specs.Layout.{maxBlocks, maxInstructions, headWords, blockWords, endingWords, graphWords};
-ghost use Rattle.cfg.specs.Table.{comparisonAt, instructionAt, endingAt, blockAt};
+ghost use Rattle.cfg.specs.Table.{instructionAt, endingAt, blockAt};
 
 // B and R.
 pub fn head_of(table: &[u32]) -> Graph
@@ -19,20 +19,6 @@ pub fn head_of(table: &[u32]) -> Graph
     Graph {
         blocks: table[0],
         registers: table[1],
-    }
-}
-
-// The comparison of a code; a code that is none gives the first.
-pub fn comparison_of(code: u32) -> Comparison
-    ensures { λ r. ⌜ r ≡ comparisonAt code ⌝ }
-{
-    match code {
-        13 => Comparison::Ne,
-        14 => Comparison::Lt,
-        15 => Comparison::Ge,
-        16 => Comparison::Ltu,
-        17 => Comparison::Geu,
-        _ => Comparison::Eq,
     }
 }
 
@@ -59,7 +45,7 @@ pub fn ending_at(table: &[u32], at: usize) -> Ending
     match kind {
         1 => Ending::Goto(table[at + 4]),
         2 => {
-            let c = comparison_of(table[at + 1]);
+            let c = Comparison::decode(table[at + 1]);
             Ending::Ite(
                 Condition {
                     comparison: c,

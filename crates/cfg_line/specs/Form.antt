@@ -4,9 +4,8 @@ use mathlib.Core.Bool.{_&&_}
 use mathlib.Core.List.{List, [], _∷_}
 use mathlib.Core.Option.{Option, none, some}
 use lib.Dec.{leb}
-use Rattle.word.specs.Word.{choose}
+use Rattle.word.specs.Word.{choose, comparisonAt}
 use Rattle.cfg.specs.Layout.{maxBlocks, maxRegisters}
-use Rattle.cfg.specs.Table.{comparisonAt}
 use Rattle.cfg.specs.declared.Instruction.{Instruction}
 use Rattle.delimited.specs.Parts.{Fields, splitAt}
 use Rattle.cfg_line.specs.declared.Keyword.{Keyword}

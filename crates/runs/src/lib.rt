@@ -25,13 +25,13 @@ pub fn load(buffer: &[u32]) -> Registers
     requires { ⌜ fileWords ≤ length (now buffer) ⌝ }
     ensures { λ r. ⌜ r .words ≡ take fileWords (now (buffer .entry)) ⌝ }
 {
-    let mut words = [0u32; Registers::COUNT];
+    let mut file = Registers::zero();
     let mut i = 0;
     while i < Registers::COUNT {
-        words[i] = buffer[i];
+        file.words[i] = buffer[i];
         i += 1;
     }
-    Registers { words }
+    file
 }
 
 // The file's words as the first 16 of a buffer; the others stay.

@@ -3,14 +3,12 @@ use Prim.Native.Nat.{ℕ, suc, _+_, _-_, _*_, _/_, _%_, _^_}
 use mathlib.Core.Bool.{Bool, true, false, not}
 use lib.IntN.{ℤ, pos, negsuc}
 use lib.Signed.{ltZ, leZ, shrZ}
-use mathlib.Core.List.{List, [], _∷_, _++_}
-use lib.ListN.{getD, replicate}
+use mathlib.Core.List.{List, [], _∷_}
+use lib.ListN.{getD}
 use lib.Dec.{ltb, leb, eqb}
 use lib.Bits.{bitAnd, bitOr, bitXor}
 use Rattle.word.specs.declared.Comparison.{Comparison}
 use Rattle.word.specs.declared.Comparison.the-variants.{Eq, Ne, Lt, Ge, Ltu, Geu}
-use Rattle.word.specs.declared.MaybeComparison.{MaybeComparison}
-use Rattle.word.specs.declared.MaybeComparison.the-variants.{Is, None}
 
 -- the first where the test holds, else the second
 abbrev pub choose {ℓ} : {X : Type ℓ} → Bool → X → X → X
@@ -76,13 +74,9 @@ codeOf Ge = 15
 codeOf Ltu = 16
 codeOf Geu = 17
 
--- the comparisons by code, from code 0: the first stands at 12
-abbrev pub comparisons : List MaybeComparison
-comparisons = replicate 12 None ++ (Is Eq ∷ Is Ne ∷ Is Lt ∷ Is Ge ∷ Is Ltu ∷ Is Geu ∷ [])
-
--- the comparison of a code, if it has one
-unfoldable pub comparisonAt : ℕ → MaybeComparison
-comparisonAt code = getD comparisons code None
+-- the comparison of a code; what a code that is none stands for is of no matter
+abbrev pub comparisonAt : ℕ → Comparison
+comparisonAt code = getD (Eq ∷ Ne ∷ Lt ∷ Ge ∷ Ltu ∷ Geu ∷ []) (code - 12) Eq
 
 -- a comparison's value is 1 or 0
 abbrev pub truth : Bool → ℕ

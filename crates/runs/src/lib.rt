@@ -20,6 +20,13 @@ pub enum RunAnswer {
     Dry(u32, u32),
 }
 
+impl RunAnswer {
+    // The most blocks that a graph has, and states that a machine has.
+    pub const PLACES: usize = 64;
+    // No block and no state.
+    pub const NONE: u32 = 255;
+}
+
 // The first 16 words of a buffer.
 pub fn load(buffer: &[u32]) -> Registers
     requires { ⌜ fileWords ≤ length (now buffer) ⌝ }

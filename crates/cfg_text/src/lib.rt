@@ -1,16 +1,18 @@
 // Reading a graph's text into its table. The text is read from front to back into a local table, which is copied at the end.
 use cfg::Block;
 use cfg::Condition;
+use cfg::Ending;
 use cfg::Graph;
 use cfg::Instruction;
 use cfg_line::Line;
+use word::Code;
 ghost use mathlib.Core.Path.{_≡_};
 ghost use mathlib.Core.List.{List, [], _∷_, _++_};
 ghost use Prim.Native.Nat.{ℕ, _+_, _*_, _≤_, _<_};
 ghost use lib.ListN.{length, take, drop, set};
 ghost use lib.Seq.{sets};
 ghost use Rattle.word.specs.Word.{codeOf};
-ghost use Rattle.cfg.specs.Layout.{maxBlocks, maxInstructions, graphWords, blockOffset, codeOffset, endingOffset, instructionWords};
+ghost use Rattle.cfg.specs.Layout.{maxBlocks, maxInstructions, headWords, graphWords, blockOffset, codeOffset, endingOffset, instructionWords};
 ghost use Rattle.cfg.specs.Table.{instructionWordsOf};
 ghost use Rattle.cfg_text.specs.Walk.{Progress, start, between, inside, allBelow, instructionRegisters, next, finish};
 ghost use Rattle.cfg_text.specs.Read.{maxText, readText, readAnswer, readWords};
@@ -45,9 +47,6 @@ pub enum Moved {
     Stop(ReadAnswer),
 }
 
-// The longest text.
-const TEXT: usize = 16384;
-
 // The refusal of a line that is not due.
 fn misfit(l: Line) -> u32
     ensures { λ r. ⌜ r ≡ misfitOf l ⌝ }
@@ -75,7 +74,7 @@ fn registers_below(i: Instruction, registers: u32) -> bool
     if registers <= i.d {
         return false;
     }
-    if i.code == 1 {
+    if i.code == Code::SET {
         return true;
     }
     let operands = word::arity(i.code);
@@ -93,14 +92,14 @@ fn registers_below(i: Instruction, registers: u32) -> bool
 
 // Line n, where the graph line is due.
 fn at_start(l: Line, words: &mut [u32], n: u32) -> Moved
-    requires { ⌜ 2 ≤ length (now words) ⌝ }
+    requires { ⌜ headWords ≤ length (now words) ⌝ }
     ensures { λ m. ⌜ (now (words .entry) ≡ filled start → Agrees n m (now (words .exit)) (next start l)) ⌝ }
 {
     let Line::Graph(b, r) = l else {
         return Moved::Stop(ReadAnswer::Refused(misfit(l), n));
     };
-    words[0] = b;
-    words[1] = r;
+    words[Graph::BLOCK_COUNT] = b;
+    words[Graph::REGISTER_COUNT] = r;
     Moved::Go(Place {
         due: Due::Block,
         blocks: b,
@@ -151,8 +150,8 @@ fn end_block(
     words[start] = p.count;
     let at = start + Block::ENDING;
     put_four(words, at, kind, c, a, b);
-    words[at + 4] = t;
-    words[at + 5] = f;
+    words[at + Ending::TRUE] = t;
+    words[at + Ending::FALSE] = f;
     Moved::Go(Place {
         due: Due::Block,
         blocks: p.blocks,
@@ -196,7 +195,7 @@ fn goto(p: Place, t: u32, words: &mut [u32], n: u32) -> Moved
     if p.blocks <= t {
         return Moved::Stop(ReadAnswer::Refused(5, n));
     }
-    end_block(p, words, 1, 0, 0, 0, t, 0)
+    end_block(p, words, Ending::GOTO, 0, 0, 0, t, 0)
 }
 
 // Its registers, then its targets.
@@ -219,7 +218,7 @@ fn ite(p: Place, c: Condition, t: u32, f: u32, words: &mut [u32], n: u32) -> Mov
         return Moved::Stop(ReadAnswer::Refused(5, n));
     }
     let k = c.comparison;
-    end_block(p, words, 2, k.code(), c.a, c.b, t, f)
+    end_block(p, words, Ending::ITE, k.code(), c.a, c.b, t, f)
 }
 
 // Line n, where an instruction or an ending is due.
@@ -233,7 +232,7 @@ fn in_block(p: Place, l: Line, words: &mut [u32], n: u32) -> Moved
         Line::Instruction(i) => join(p, i, words, n),
         Line::Goto(t) => goto(p, t, words, n),
         Line::Ite(c, t, f) => ite(p, c, t, f, words, n),
-        Line::Halt => end_block(p, words, 3, 0, 0, 0, 0, 0),
+        Line::Halt => end_block(p, words, Ending::HALT, 0, 0, 0, 0, 0),
         Line::Graph(_, _) => Moved::Stop(ReadAnswer::Refused(3, n)),
         Line::Block(_) => Moved::Stop(ReadAnswer::Refused(3, n)),
         Line::NoForm => Moved::Stop(ReadAnswer::Refused(2, n)),
@@ -315,7 +314,7 @@ pub fn read_text(text: &[u8], table: &mut [u32]) -> ReadAnswer
     ensures answer { λ r. ⌜ r ≡ readAnswer (now (text .entry)) (now (table .entry)) ⌝ }
     ensures words { λ r. ⌜ now (table .exit) ≡ readWords (now (text .entry)) (now (table .entry)) ⌝ }
 {
-    if TEXT < text.len() {
+    if Graph::TEXT < text.len() {
         return ReadAnswer::Refused(1, 0);
     }
     if table.len() < Graph::WORDS {

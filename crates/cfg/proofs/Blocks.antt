@@ -1,34 +1,16 @@
--- What a table's words stand for: comparisons, endings, blocks. Assumes nothing.
+-- What a table's words stand for: endings, blocks. Assumes nothing.
 use Prim.Native.Nat.{ℕ, zero, suc, _+_, _-_, _<_}
 use native.Mathlib.Omega.{arith}
 use mathlib.Core.Path.{_≡_, refl}
 use mathlib.Core.List.{List, [], _∷_}
 use lib.ListN.{length, getD}
 use borrow.Author.Tests.{eq-eqb, ne-eqb}
-use Rattle.word.specs.declared.Comparison.the-variants.{Eq, Ne, Lt, Ge, Ltu, Geu}
+use Rattle.word.specs.Word.{comparisonAt}
 use Rattle.runs.proofs.ListLaws.{getD-map-upFrom}
 use Rattle.cfg.specs.declared.Ending.the-variants.{Goto, Ite, Halt}
 use Rattle.cfg.specs.Layout.{maxInstructions, endingOffset, blockOffset}
 use Rattle.cfg.specs.Graph.{noInstruction}
-use Rattle.cfg.specs.Table.{comparisonAt, instructionAt, endingAt, blockAt}
-
--- ---- comparisons
-
-abbrev pub NoComparison : ℕ → Type 0
-NoComparison k = (((((Unit {0}) × (k ≡ 13 → ⊥)) × (k ≡ 14 → ⊥)) × (k ≡ 15 → ⊥)) × (k ≡ 16 → ⊥)) × (k ≡ 17 → ⊥)
-
--- a code past the first comparison's that is none
-pub no-comparison : (k : ℕ) → NoComparison k → comparisonAt k ≡ Eq
-no-comparison k h = go (k - 12) refl
-  where
-    go : (m : ℕ) → k - 12 ≡ m → getD (Eq ∷ Ne ∷ Lt ∷ Ge ∷ Ltu ∷ Geu ∷ []) m Eq ≡ Eq
-    go zero e = refl
-    go (suc zero) e = absurd (h .0 .0 .0 .0 .1 (omega arith))
-    go (suc (suc zero)) e = absurd (h .0 .0 .0 .1 (omega arith))
-    go (suc (suc (suc zero))) e = absurd (h .0 .0 .1 (omega arith))
-    go (suc (suc (suc (suc zero)))) e = absurd (h .0 .1 (omega arith))
-    go (suc (suc (suc (suc (suc zero))))) e = absurd (h .1 (omega arith))
-    go (suc (suc (suc (suc (suc (suc m)))))) e = refl
+use Rattle.cfg.specs.Table.{instructionAt, endingAt, blockAt}
 
 -- ---- endings by their kind
 

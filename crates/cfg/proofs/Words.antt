@@ -10,7 +10,7 @@ use lib.ListN.{length, getD, take, drop, replicate, length-drop, length-append, 
 use lib.Seq.{drop-cons, take-add, drop-drop, length-take-le}
 use borrow.Author.Tests.{eq-eqb, ne-eqb, lt-leb, le-leb}
 use Rattle.word.specs.declared.Comparison.the-variants.{Eq, Ne, Lt, Ge, Ltu, Geu}
-use Rattle.word.specs.Word.{codeOf as comparisonCode}
+use Rattle.word.specs.Word.{comparisonAt, codeOf as comparisonCode}
 use Rattle.runs.specs.Lists.{upFrom, same, every, padded, concatMap}
 use Rattle.runs.proofs.ListLaws.{eqb-sym, same-front, same-append, same-zeros, every-and, every-map, padded-append, take-map-upFrom, drop-map-upFrom}
 use Rattle.cfg.specs.declared.Instruction.{Instruction}
@@ -18,7 +18,7 @@ use Rattle.cfg.specs.declared.Ending.the-variants.{Ite}
 use Rattle.cfg.specs.declared.Block.{Block}
 use Rattle.cfg.specs.Layout.{maxBlocks, maxRegisters, maxInstructions, headWords, instructionWords, codeWords, endingWords, codeOffset, endingOffset, lastOffset, blockWords, allBlockWords, graphWords, blockOffset}
 use Rattle.cfg.specs.Graph.{CFG, unused, codeOf, validInstruction, validEnding, validBlock, validGraph}
-use Rattle.cfg.specs.Table.{instructionWordsOf, endingWordsOf, blockWordsOf, tableOf, comparisonAt, instructionAt, endingAt, blockAt, graphOf, admitted}
+use Rattle.cfg.specs.Table.{instructionWordsOf, endingWordsOf, blockWordsOf, tableOf, instructionAt, endingAt, blockAt, graphOf, admitted}
 use Rattle.cfg.specs.Fits.{zeros, endingFits, blockFits}
 use Rattle.cfg.proofs.Lengths.{ending-length, block-length}
 use Rattle.cfg.proofs.Blocks.{count-at, ending-of, ending-goto, ending-ite, ending-halt}

@@ -4,6 +4,7 @@ use mathlib.Core.Bool.{Bool, not, _&&_, _||_}
 use mathlib.Core.List.{List}
 use lib.ListN.{take, drop}
 use lib.Dec.{eqb}
+use Rattle.word.specs.Word.{inCode}
 use Rattle.runs.specs.Lists.{same, every}
 use Rattle.cfg.specs.Layout.{endingWords, blockWords, blockOffset}
 use Rattle.cfg.specs.declared.Instruction.{Instruction}
@@ -26,7 +27,7 @@ blockFits b r t n = validBlock b r (blockAt t n) && same (blockWordsOf (blockAt 
 
 -- code 20 passes only where words are given
 abbrev pub passes : Bool → Instruction → Bool
-passes words i = words || not (eqb (i .code) 20)
+passes words i = words || not (eqb (i .code) inCode)
 
 -- and so do the instructions of block n
 abbrev pub blockPasses : Bool → ℕ → ℕ → List ℕ → ℕ → Bool

@@ -4,7 +4,7 @@ use mathlib.Core.Bool.{Bool, true, not, _&&_, _||_}
 use mathlib.Core.List.{List, [], _∷_}
 use lib.ListN.{length, getD, set, take, drop, replicate}
 use lib.Dec.{eqb, leb, ltb}
-use Rattle.word.specs.Word.{choose, evalOf, arity, compareOf}
+use Rattle.word.specs.Word.{choose, evalOf, arity, compareOf, setCode, sxCode, inCode, firstCode}
 use Rattle.runs.specs.Lists.{mem, every}
 use Rattle.runs.specs.Runs.{Place, standing, halted, Moved, Runner}
 use Rattle.cfg.specs.declared.Instruction.{Instruction}
@@ -45,7 +45,7 @@ successors g n = targets (blockOf g n .ending)
 
 -- the word that code k gives of operands a and b, where `at` reads a register; a set's a is its literal
 abbrev pub valueOf : ℕ → (ℕ → ℕ) → ℕ → ℕ → ℕ → ℕ
-valueOf sampled at k a b = evalOf sampled k (choose (eqb k 1) a (at a)) (at b) 0
+valueOf sampled at k a b = evalOf sampled k (choose (eqb k setCode) a (at a)) (at b) 0
 
 -- an instruction writes one register and no other
 unfoldable pub execute : ℕ → Instruction → List ℕ → List ℕ
@@ -77,20 +77,20 @@ graphRunner g starters = record { unit = λ sampled n rs. runBlock sampled (bloc
 
 -- no instruction reads the sampled word
 unfoldable pub wordless : CFG → Bool
-wordless g = every (λ b. every (λ i. not (eqb (i .code) 20)) (codeOf b)) (g .blocks)
+wordless g = every (λ b. every (λ i. not (eqb (i .code) inCode)) (codeOf b)) (g .blocks)
 
 -- ---- which graphs there are
 
 -- codes 1 to 11, and 20
 abbrev pub instructionCode : ℕ → Bool
-instructionCode k = leb 1 k && leb k 11 || eqb k 20
+instructionCode k = leb firstCode k && leb k sxCode || eqb k inCode
 
 -- a known code; registers below R where the code reads one, and 0 where it does not
 unfoldable pub validInstruction : ℕ → Instruction → Bool
 unfolding arity
 validInstruction r i =
     instructionCode (i .code) && ltb (i .d) r
-    && choose (eqb (arity (i .code)) 0) (eqb (i .a) 0) (eqb (i .code) 1 || ltb (i .a) r)
+    && choose (eqb (arity (i .code)) 0) (eqb (i .a) 0) (eqb (i .code) setCode || ltb (i .a) r)
     && choose (eqb (arity (i .code)) 2) (ltb (i .b) r) (eqb (i .b) 0)
 
 unfoldable pub validEnding : ℕ → ℕ → Ending → Bool

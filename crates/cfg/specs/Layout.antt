@@ -1,19 +1,37 @@
--- Limits of a graph, and the numbers of its table: nothing else writes them. Assumes nothing.
+-- Limits of a graph, and the numbers of its table: no other definition writes them. Assumes nothing.
 use Prim.Native.Nat.{ℕ, _+_, _*_}
+use Rattle.word.specs.RegisterFile.{fileWords}
+use Rattle.runs.specs.Runs.{maxPlaces}
 
--- "The limits are 64 blocks, 16 registers, 8 instructions a block"
+-- "The limits are 64 blocks, 16 registers, 8 instructions a block"; a machine has the first two as well
 abbrev pub maxBlocks : ℕ
-maxBlocks = 64
+maxBlocks = maxPlaces
 
 abbrev pub maxRegisters : ℕ
-maxRegisters = 16
+maxRegisters = fileWords
 
 abbrev pub maxInstructions : ℕ
 maxInstructions = 8
 
 -- B and R
+abbrev pub blockCountOffset : ℕ
+blockCountOffset = 0
+
+abbrev pub registerCountOffset : ℕ
+registerCountOffset = 1
+
 abbrev pub headWords : ℕ
 headWords = 2
+
+-- "code, d, a or literal, b": from an instruction's first word, its code
+abbrev pub dOffset : ℕ
+dOffset = 1
+
+abbrev pub aOffset : ℕ
+aOffset = 2
+
+abbrev pub bOffset : ℕ
+bOffset = 3
 
 abbrev pub instructionWords : ℕ
 instructionWords = 4
@@ -21,6 +39,31 @@ instructionWords = 4
 -- the words of a block's eight instructions
 abbrev pub codeWords : ℕ
 codeWords = maxInstructions * instructionWords
+
+-- "ending kind (1 goto, 2 ite, 3 halt), comparison (its code), a, b, t, f": from an ending's first word, its kind
+abbrev pub gotoKind : ℕ
+gotoKind = 1
+
+abbrev pub iteKind : ℕ
+iteKind = 2
+
+abbrev pub haltKind : ℕ
+haltKind = 3
+
+abbrev pub comparisonOffset : ℕ
+comparisonOffset = 1
+
+abbrev pub endingAOffset : ℕ
+endingAOffset = 2
+
+abbrev pub endingBOffset : ℕ
+endingBOffset = 3
+
+abbrev pub trueOffset : ℕ
+trueOffset = 4
+
+abbrev pub falseOffset : ℕ
+falseOffset = 5
 
 abbrev pub endingWords : ℕ
 endingWords = 6

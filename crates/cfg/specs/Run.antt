@@ -2,7 +2,7 @@
 use Prim.Native.Nat.{ℕ}
 use mathlib.Core.Bool.{Bool, not, _&&_, _||_}
 use mathlib.Core.List.{List, []}
-use lib.ListN.{length, getD}
+use lib.ListN.{length}
 use lib.Dec.{ltb}
 use Rattle.word.specs.Word.{choose}
 use Rattle.runs.specs.Lists.{mem, every}
@@ -11,7 +11,7 @@ use Rattle.runs.specs.Operations.{answered, registersLeft}
 use Rattle.runs.specs.declared.RunAnswer.{RunAnswer}
 use Rattle.cfg.specs.Layout.{maxRegisters, graphWords}
 use Rattle.cfg.specs.Graph.{wordless, graphRunner}
-use Rattle.cfg.specs.Table.{graphOf, admitted}
+use Rattle.cfg.specs.Table.{blockCount, graphOf, admitted}
 
 abbrev pub short : List ℕ → List ℕ → Bool
 short t rs = ltb (length t) graphWords || ltb (length rs) maxRegisters
@@ -25,7 +25,7 @@ refusal t rs start =
     choose (short t rs) 7
     (choose (not (admitted t)) 6
     (choose (not (wordless (graphOf t))) 12
-    (choose (not (ltb start (getD t 0 0))) 9 0)))
+    (choose (not (ltb start (blockCount t))) 9 0)))
 
 abbrev pub runAnswer : List ℕ → List ℕ → ℕ → ℕ → RunAnswer
 runAnswer t rs start budget = answered (refusal t rs start) (graphRunner (graphOf t) []) unread rs start budget
@@ -45,8 +45,8 @@ unfolding admitted
 wordsRefusal t rs start starters =
     choose (short t rs) 7
     (choose (not (admitted t)) 6
-    (choose (not (ltb start (getD t 0 0))) 9
-    (choose (not (startersFit (getD t 0 0) start starters)) 11 0)))
+    (choose (not (ltb start (blockCount t))) 9
+    (choose (not (startersFit (blockCount t) start starters)) 11 0)))
 
 abbrev pub wordsAnswer : List ℕ → List ℕ → ℕ → ℕ → List ℕ → List ℕ → RunAnswer
 wordsAnswer t rs start budget words starters =

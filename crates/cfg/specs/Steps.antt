@@ -4,7 +4,7 @@ use mathlib.Core.Path.{_≡_}
 use lib.ListN.{length, getD}
 use mathlib.Core.List.{List}
 use lib.Dec.{eqb}
-use Rattle.word.specs.Word.{choose}
+use Rattle.word.specs.Word.{choose, setCode}
 use Rattle.runs.specs.Lists.{mem}
 use Rattle.runs.specs.Runs.{Place, standing, halted, Runner}
 use Rattle.cfg.specs.declared.Instruction.{Instruction}
@@ -19,7 +19,7 @@ use Rattle.cfg.specs.Graph.{CFG, noInstruction, blockOf, runBlock}
 
 -- an instruction reads registers of the register file; a set reads none
 pub record Within (i : Instruction) : Type 0 where
-  pub first : (i .code ≡ 1 → ⊥) → i .a < maxRegisters
+  pub first : (i .code ≡ setCode → ⊥) → i .a < maxRegisters
   pub second : i .b < maxRegisters
 
 pub record IteWithin (c : Condition) : Type 0 where

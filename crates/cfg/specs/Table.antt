@@ -1,19 +1,17 @@
 -- The graph table ("Graph table" of paper 01): the words of a graph, the graph of some words, and which words are admitted. Assumes nothing.
-use Prim.Native.Nat.{ℕ, _+_, _-_, _*_}
+use Prim.Native.Nat.{ℕ, _+_, _*_}
 use mathlib.Core.Bool.{Bool, true, false, _&&_}
 use mathlib.Core.List.{List, [], _∷_, _++_, map}
 use lib.ListN.{length, getD, take}
 use lib.Dec.{eqb}
-use Rattle.word.specs.declared.Comparison.{Comparison}
-use Rattle.word.specs.declared.Comparison.the-variants.{Eq, Ne, Lt, Ge, Ltu, Geu}
-use Rattle.word.specs.Word.{choose, codeOf as comparisonCode}
+use Rattle.word.specs.Word.{choose, comparisonAt, codeOf as comparisonCode}
 use Rattle.runs.specs.Lists.{upFrom, same, padded, concatMap}
 use Rattle.cfg.specs.declared.Instruction.{Instruction}
 use Rattle.cfg.specs.declared.Condition.{Condition}
 use Rattle.cfg.specs.declared.Ending.{Ending}
 use Rattle.cfg.specs.declared.Ending.the-variants.{Goto, Ite, Halt}
 use Rattle.cfg.specs.declared.Block.{Block}
-use Rattle.cfg.specs.Layout.{maxInstructions, instructionWords, codeOffset, endingOffset, allBlockWords, graphWords, blockOffset}
+use Rattle.cfg.specs.Layout.{maxInstructions, blockCountOffset, registerCountOffset, dOffset, aOffset, bOffset, instructionWords, gotoKind, iteKind, haltKind, comparisonOffset, endingAOffset, endingBOffset, trueOffset, falseOffset, codeOffset, endingOffset, allBlockWords, graphWords, blockOffset}
 use Rattle.cfg.specs.Graph.{CFG, validGraph}
 
 -- ---- words of a graph
@@ -23,9 +21,9 @@ instructionWordsOf i = i .code ∷ i .d ∷ i .a ∷ i .b ∷ []
 
 -- kind, comparison, a, b, t, f
 abbrev pub endingWordsOf : Ending → List ℕ
-endingWordsOf (Goto t) = 1 ∷ 0 ∷ 0 ∷ 0 ∷ t ∷ 0 ∷ []
-endingWordsOf (Ite c t f) = 2 ∷ comparisonCode (c .comparison) ∷ c .a ∷ c .b ∷ t ∷ f ∷ []
-endingWordsOf Halt = 3 ∷ 0 ∷ 0 ∷ 0 ∷ 0 ∷ 0 ∷ []
+endingWordsOf (Goto t) = gotoKind ∷ 0 ∷ 0 ∷ 0 ∷ t ∷ 0 ∷ []
+endingWordsOf (Ite c t f) = iteKind ∷ comparisonCode (c .comparison) ∷ c .a ∷ c .b ∷ t ∷ f ∷ []
+endingWordsOf Halt = haltKind ∷ 0 ∷ 0 ∷ 0 ∷ 0 ∷ 0 ∷ []
 
 -- the count, eight instructions, the ending and one zero
 unfoldable pub blockWordsOf : Block → List ℕ
@@ -38,21 +36,28 @@ tableOf g = length (g .blocks) ∷ g .registers ∷ padded allBlockWords 0 (conc
 
 -- ---- the graph of a table; what a word that no graph has stands for is of no matter
 
-abbrev pub comparisonAt : ℕ → Comparison
-comparisonAt k = getD (Eq ∷ Ne ∷ Lt ∷ Ge ∷ Ltu ∷ Geu ∷ []) (k - 12) Eq
+-- B and R
+abbrev pub blockCount : List ℕ → ℕ
+blockCount t = getD t blockCountOffset 0
+
+abbrev pub registerCount : List ℕ → ℕ
+registerCount t = getD t registerCountOffset 0
 
 -- instruction i of the block whose words begin at o
 unfoldable pub instructionAt : List ℕ → ℕ → ℕ → Instruction
 instructionAt t o i =
     let p = o + codeOffset + instructionWords * i in
-    record { code = getD t p 0; d = getD t (p + 1) 0; a = getD t (p + 2) 0; b = getD t (p + 3) 0 }
+    record { code = getD t p 0; d = getD t (p + dOffset) 0; a = getD t (p + aOffset) 0; b = getD t (p + bOffset) 0 }
 
--- the ending whose words begin at o: 1 goto, 2 ite, 3 halt
+-- the ending whose words begin at o; goto's target stands in t
 unfoldable pub endingAt : List ℕ → ℕ → Ending
 endingAt t o =
-    choose (eqb (getD t o 0) 1) (Goto (getD t (o + 4) 0))
-    (choose (eqb (getD t o 0) 2)
-    (Ite (record { comparison = comparisonAt (getD t (o + 1) 0); a = getD t (o + 2) 0; b = getD t (o + 3) 0 }) (getD t (o + 4) 0) (getD t (o + 5) 0))
+    choose (eqb (getD t o 0) gotoKind) (Goto (getD t (o + trueOffset) 0))
+    (choose (eqb (getD t o 0) iteKind)
+    (Ite
+    (record { comparison = comparisonAt (getD t (o + comparisonOffset) 0); a = getD t (o + endingAOffset) 0; b = getD t (o + endingBOffset) 0 })
+    (getD t (o + trueOffset) 0)
+    (getD t (o + falseOffset) 0))
     Halt)
 
 unfoldable pub blockAt : List ℕ → ℕ → Block
@@ -67,7 +72,7 @@ blockAt t n =
 
 unfoldable pub graphOf : List ℕ → CFG
 unfolding blockAt
-graphOf t = record { registers = getD t 1 0; blocks = map (blockAt t) (upFrom 0 (getD t 0 0)) }
+graphOf t = record { registers = registerCount t; blocks = map (blockAt t) (upFrom 0 (blockCount t)) }
 
 -- ---- admitted tables: the first words are those of a valid graph
 -- (that these are the tables that reading makes is proved beside reading)

@@ -1,20 +1,23 @@
 // Which tables are admitted: the words of a valid graph, and every unused word 0.
 use crate::Block;
+use crate::Ending;
 use crate::Graph;
 use crate::Instruction;
 use crate::decode;
+use word::Code;
+use word::Comparison;
 ghost use mathlib.Core.Path.{_≡_};
 ghost use mathlib.Core.Bool.{_&&_, _||_};
 ghost use mathlib.Core.List.{map};
 ghost use Prim.Native.Nat.{_+_, _-_, _≤_, _<_};
 ghost use lib.ListN.{length};
 ghost use lib.Dec.{ltb, eqb};
-ghost use Rattle.word.specs.Word.{choose, arity, codeOf};
+ghost use Rattle.word.specs.Word.{choose, arity, codeOf, comparisonAt, sxCode};
 ghost use Rattle.runs.specs.Lists.{upFrom, every};
 ghost use Rattle.cfg.specs.declared.Ending.the-variants.{Ite};
 ghost use Rattle.cfg.specs.Layout.{maxBlocks, maxInstructions, endingWords, blockWords, graphWords};
 ghost use Rattle.cfg.specs.Graph.{wordless, validInstruction, validEnding};
-ghost use Rattle.cfg.specs.Table.{comparisonAt, instructionAt, graphOf, admitted};
+ghost use Rattle.cfg.specs.Table.{instructionAt, graphOf, admitted};
 ghost use Rattle.cfg.specs.Fits.{zeros, endingFits, passes, blockPasses};
 
 // The words from `from` up to `to` are 0.
@@ -45,12 +48,12 @@ fn second_valid(i: Instruction, registers: u32) -> bool
     }
 }
 
-// Code 20, for the codes above 11: nothing is read, and words must be given.
+// An `in`, for the codes above those that read registers: nothing is read, and words must be given.
 fn sample_valid(i: Instruction, registers: u32, words: bool) -> bool
-    requires { ⌜ 11 < i .code ⌝ }
+    requires { ⌜ sxCode < i .code ⌝ }
     ensures { λ r. ⌜ r ≡ (validInstruction registers i && passes words i) ⌝ }
 {
-    if i.code != Instruction::IN {
+    if i.code != Code::IN {
         return false;
     }
     if registers <= i.d {
@@ -68,16 +71,16 @@ fn sample_valid(i: Instruction, registers: u32, words: bool) -> bool
 fn instruction_valid(i: Instruction, registers: u32, words: bool) -> bool
     ensures { λ r. ⌜ r ≡ (validInstruction registers i && passes words i) ⌝ }
 {
-    if i.code < 1 {
+    if i.code < Code::FIRST {
         return false;
     }
-    if 11 < i.code {
+    if Code::SX < i.code {
         return sample_valid(i, registers, words);
     }
     if registers <= i.d {
         return false;
     }
-    if i.code == 1 {
+    if i.code == Code::SET {
         return second_valid(i, registers);
     }
     if registers <= i.a {
@@ -125,10 +128,10 @@ fn goto_fits(c: u32, a: u32, b: u32, t: u32, f: u32, blocks: u32) -> bool
 fn ite_fits(head: Graph, c: u32, a: u32, b: u32, t: u32, f: u32) -> bool
     ensures { λ r. ⌜ r ≡ (eqb (codeOf (comparisonAt c)) c && validEnding (head .blocks) (head .registers) (Ite (record { comparison = comparisonAt c; a = a; b = b }) t f)) ⌝ }
 {
-    if c < 12 {
+    if c < Comparison::FIRST {
         return false;
     }
-    if 17 < c {
+    if Comparison::LAST < c {
         return false;
     }
     if head.registers <= a {
@@ -167,15 +170,15 @@ fn ending_fits(table: &[u32], at: usize, head: Graph) -> bool
     ensures { λ r. ⌜ r ≡ endingFits (head .blocks) (head .registers) (now (table .entry)) at ⌝ }
 {
     let kind = table[at];
-    let c = table[at + 1];
-    let a = table[at + 2];
-    let b = table[at + 3];
-    let t = table[at + 4];
-    let f = table[at + 5];
+    let c = table[at + Ending::COMPARISON];
+    let a = table[at + Ending::A];
+    let b = table[at + Ending::B];
+    let t = table[at + Ending::TRUE];
+    let f = table[at + Ending::FALSE];
     match kind {
-        1 => goto_fits(c, a, b, t, f, head.blocks),
-        2 => ite_fits(head, c, a, b, t, f),
-        3 => halt_fits(c, a, b, t, f),
+        Ending::GOTO => goto_fits(c, a, b, t, f, head.blocks),
+        Ending::ITE => ite_fits(head, c, a, b, t, f),
+        Ending::HALT => halt_fits(c, a, b, t, f),
         _ => false,
     }
 }

@@ -7,32 +7,18 @@ use crate::Instruction;
 use word::Comparison;
 ghost use mathlib.Core.Path.{_≡_};
 ghost use Prim.Native.Nat.{_+_, _≤_, _<_};
-ghost use lib.ListN.{length, getD};
+ghost use lib.ListN.{length};
 ghost use Rattle.cfg.specs.Layout.{maxBlocks, maxInstructions, headWords, blockWords, endingWords, graphWords};
-ghost use Rattle.cfg.specs.Table.{comparisonAt, instructionAt, endingAt, blockAt};
+ghost use Rattle.cfg.specs.Table.{blockCount, registerCount, instructionAt, endingAt, blockAt};
 
 // B and R.
 pub fn head_of(table: &[u32]) -> Graph
     requires { ⌜ headWords ≤ length (now table) ⌝ }
-    ensures { λ r. ⌜ (r .blocks ≡ getD (now (table .entry)) 0 0) × (r .registers ≡ getD (now (table .entry)) 1 0) ⌝ }
+    ensures { λ r. ⌜ (r .blocks ≡ blockCount (now (table .entry))) × (r .registers ≡ registerCount (now (table .entry))) ⌝ }
 {
     Graph {
-        blocks: table[0],
-        registers: table[1],
-    }
-}
-
-// The comparison of a code; a code that is none gives the first.
-pub fn comparison_of(code: u32) -> Comparison
-    ensures { λ r. ⌜ r ≡ comparisonAt code ⌝ }
-{
-    match code {
-        13 => Comparison::Ne,
-        14 => Comparison::Lt,
-        15 => Comparison::Ge,
-        16 => Comparison::Ltu,
-        17 => Comparison::Geu,
-        _ => Comparison::Eq,
+        blocks: table[Graph::BLOCK_COUNT],
+        registers: table[Graph::REGISTER_COUNT],
     }
 }
 
@@ -44,9 +30,9 @@ pub fn instruction_at(table: &[u32], start: usize, i: usize) -> Instruction
     let at = start + Block::CODE + Instruction::WORDS * i;
     Instruction {
         code: table[at],
-        d: table[at + 1],
-        a: table[at + 2],
-        b: table[at + 3],
+        d: table[at + Instruction::D],
+        a: table[at + Instruction::A],
+        b: table[at + Instruction::B],
     }
 }
 
@@ -57,17 +43,17 @@ pub fn ending_at(table: &[u32], at: usize) -> Ending
 {
     let kind = table[at];
     match kind {
-        1 => Ending::Goto(table[at + 4]),
-        2 => {
-            let c = comparison_of(table[at + 1]);
+        Ending::GOTO => Ending::Goto(table[at + Ending::TRUE]),
+        Ending::ITE => {
+            let c = Comparison::decode(table[at + Ending::COMPARISON]);
             Ending::Ite(
                 Condition {
                     comparison: c,
-                    a: table[at + 2],
-                    b: table[at + 3],
+                    a: table[at + Ending::A],
+                    b: table[at + Ending::B],
                 },
-                table[at + 4],
-                table[at + 5],
+                table[at + Ending::TRUE],
+                table[at + Ending::FALSE],
             )
         }
         _ => Ending::Halt,

@@ -1,5 +1,7 @@
 // The control-flow graph: limits, blocks, and the layout of its table.
+use runs::RunAnswer;
 use word::Comparison;
+use word::Registers;
 ghost use mathlib.Core.Path.{_≡_};
 ghost use Rattle.cfg.specs.Graph.{noInstruction, emptyBlock};
 
@@ -15,10 +17,16 @@ pub struct Graph {
 }
 
 impl Graph {
-    // Limits.
-    pub const BLOCKS: usize = 64;
+    // Limits, the bytes of a text among them.
+    pub const BLOCKS: usize = RunAnswer::PLACES;
 
-    pub const REGISTERS: usize = 16;
+    pub const REGISTERS: usize = Registers::COUNT;
+
+    pub const TEXT: usize = 16384;
+    // Where B and R stand.
+    pub const BLOCK_COUNT: usize = 0;
+
+    pub const REGISTER_COUNT: usize = 1;
     // Words of the head, and of the whole table.
     pub const HEAD: usize = 2;
 
@@ -34,9 +42,14 @@ pub struct Instruction {
 }
 
 impl Instruction {
+    // Where an instruction's words after its code stand, and how many there are.
+    pub const D: usize = 1;
+
+    pub const A: usize = 2;
+
+    pub const B: usize = 3;
+
     pub const WORDS: usize = 4;
-    // The code that gives the sampled word.
-    pub const IN: u32 = 20;
 
     // The words of no instruction.
     pub fn none() -> Instruction
@@ -67,6 +80,23 @@ pub enum Ending {
 }
 
 impl Ending {
+    // The kinds, an ending's first word.
+    pub const GOTO: u32 = 1;
+
+    pub const ITE: u32 = 2;
+
+    pub const HALT: u32 = 3;
+    // Where the words after the kind stand, and how many there are. The target of a goto stands where that of a true condition does.
+    pub const COMPARISON: usize = 1;
+
+    pub const A: usize = 2;
+
+    pub const B: usize = 3;
+
+    pub const TRUE: usize = 4;
+
+    pub const FALSE: usize = 5;
+
     pub const WORDS: usize = 6;
 }
 

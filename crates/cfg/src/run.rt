@@ -7,18 +7,19 @@ use crate::admission;
 use crate::decode;
 use crate::starters;
 use runs::RunAnswer;
+use word::Code;
 use word::Registers;
 ghost use mathlib.Core.Bool.{true};
 ghost use mathlib.Core.List.{_++_};
 ghost use mathlib.Core.Path.{_≡_};
 ghost use Prim.Native.Nat.{_≤_, _<_};
 ghost use lib.Dec.{eqb};
-ghost use lib.ListN.{length, getD, take, drop};
-ghost use Rattle.word.specs.Word.{choose, evalOf};
+ghost use lib.ListN.{length, take, drop};
+ghost use Rattle.word.specs.Word.{choose, evalOf, setCode};
 ghost use Rattle.runs.specs.Runs.{startAt, upTo, answer, registersAfter};
 ghost use Rattle.cfg.specs.Graph.{codeOf, executeAll, leave};
 ghost use Rattle.cfg.specs.Layout.{maxBlocks, maxRegisters, graphWords};
-ghost use Rattle.cfg.specs.Table.{blockAt, graphOf, admitted};
+ghost use Rattle.cfg.specs.Table.{blockCount, blockAt, graphOf, admitted};
 ghost use Rattle.cfg.specs.Steps.{EndingWithin, BlockWithin, placeOf, markedRunner};
 ghost use Rattle.cfg.specs.Run.{runAnswer, runRegisters, wordsAnswer, wordsRegisters};
 
@@ -36,9 +37,9 @@ pub struct Ran {
 
 // What the instruction writes, of the words in the registers that its operands name.
 fn value_of(sampled: u32, i: Instruction, x: u32, y: u32) -> u32
-    ensures { λ r. ⌜ r ≡ evalOf sampled (i .code) (choose (eqb (i .code) 1) (i .a) x) y 0 ⌝ }
+    ensures { λ r. ⌜ r ≡ evalOf sampled (i .code) (choose (eqb (i .code) setCode) (i .a) x) y 0 ⌝ }
 {
-    if i.code == 1 {
+    if i.code == Code::SET {
         return i.a;
     }
     word::eval(sampled, i.code, x, y, 0)
@@ -98,7 +99,7 @@ fn run_blocks(
     limit: u32,
     marks: &[u32],
 ) -> Ran
-    requires { ⌜ (admitted (now table) ≡ true) × (start < getD (now table) 0 0) × (length (now marks) ≡ maxBlocks) ⌝ }
+    requires { ⌜ (admitted (now table) ≡ true) × (start < blockCount (now table)) × (length (now marks) ≡ maxBlocks) ⌝ }
     ensures { λ r. ⌜ (r .answer ≡ answer (markedRunner (graphOf (now (table .entry))) (now (marks .entry))) (upTo limit (now (words .entry))) budget (startAt start (file .words))) × (r .registers .words ≡ registersAfter (markedRunner (graphOf (now (table .entry))) (now (marks .entry))) (upTo limit (now (words .entry))) budget (startAt start (file .words))) ⌝ }
 {
     let mut at = start;
@@ -145,7 +146,7 @@ fn run_from(
     limit: u32,
     marks: &[u32],
 ) -> RunAnswer
-    requires { ⌜ (admitted (now table) ≡ true) × (start < getD (now table) 0 0) × (length (now marks) ≡ maxBlocks) ⌝ }
+    requires { ⌜ (admitted (now table) ≡ true) × (start < blockCount (now table)) × (length (now marks) ≡ maxBlocks) ⌝ }
     requires { ⌜ maxRegisters ≤ length (now registers) ⌝ }
     ensures { λ r. ⌜ r ≡ answer (markedRunner (graphOf (now (table .entry))) (now (marks .entry))) (upTo limit (now (words .entry))) budget (startAt start (take maxRegisters (now (registers .entry)))) ⌝ }
     ensures { λ _. ⌜ now (registers .exit) ≡ registersAfter (markedRunner (graphOf (now (table .entry))) (now (marks .entry))) (upTo limit (now (words .entry))) budget (startAt start (take maxRegisters (now (registers .entry)))) ++ drop maxRegisters (now (registers .entry)) ⌝ }
@@ -174,7 +175,7 @@ pub fn run_graph(table: &[u32], registers: &mut [u32], start: u32, budget: u32) 
         }
         return RunAnswer::Refused(6);
     }
-    if table[0] <= start {
+    if table[Graph::BLOCK_COUNT] <= start {
         return RunAnswer::Refused(9);
     }
     let marks = [0u32; Graph::BLOCKS];
@@ -202,7 +203,7 @@ pub fn run_graph_with_words(
     if !admission::is_admitted(table) {
         return RunAnswer::Refused(6);
     }
-    let blocks = table[0];
+    let blocks = table[Graph::BLOCK_COUNT];
     if blocks <= start {
         return RunAnswer::Refused(9);
     }

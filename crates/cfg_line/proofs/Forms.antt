@@ -7,7 +7,7 @@ use Prim.Native.Nat.{ℕ, _+_}
 use native.Mathlib.Omega.{arith}
 use lib.ListN.{length, drop}
 use Rattle.word.specs.declared.Comparison.{Comparison}
-use Rattle.cfg.specs.Table.{comparisonAt}
+use Rattle.word.specs.Word.{comparisonAt}
 use Rattle.delimited.specs.declared.Field.{Field}
 use Rattle.delimited.specs.declared.Field.the-variants.{Value, Bad}
 use Rattle.delimited.specs.Parts.{Fields}

@@ -4,8 +4,7 @@ use mathlib.Core.Bool.{Bool, _&&_}
 use mathlib.Core.List.{List, [], _∷_}
 use lib.ListN.{length}
 use lib.Dec.{ltb}
-use Rattle.word.specs.Word.{choose}
-use Rattle.cfg.specs.Table.{comparisonAt}
+use Rattle.word.specs.Word.{choose, comparisonAt}
 use Rattle.delimited.specs.declared.Field.{Field}
 use Rattle.delimited.specs.declared.Field.the-variants as field
 use Rattle.delimited.specs.Parts.{Fields}

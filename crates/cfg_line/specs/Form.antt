@@ -4,9 +4,8 @@ use mathlib.Core.Bool.{_&&_}
 use mathlib.Core.List.{List, [], _∷_}
 use mathlib.Core.Option.{Option, none, some}
 use lib.Dec.{leb}
-use Rattle.word.specs.Word.{choose}
+use Rattle.word.specs.Word.{choose, comparisonAt, setCode, inCode}
 use Rattle.cfg.specs.Layout.{maxBlocks, maxRegisters}
-use Rattle.cfg.specs.Table.{comparisonAt}
 use Rattle.cfg.specs.declared.Instruction.{Instruction}
 use Rattle.delimited.specs.Parts.{Fields, splitAt}
 use Rattle.cfg_line.specs.declared.Keyword.{Keyword}
@@ -55,8 +54,8 @@ formOf keyword.Goto fs = number (λ t. end (line.Goto t)) fs
 formOf keyword.Ite fs =
     field comparisonOf (λ c. number (λ a. number (λ b. number (λ t. number (λ f. end (iteLine c a b t f)))))) fs
 formOf keyword.Halt fs = end line.Halt fs
-formOf keyword.Set fs = number (λ d. field literalOf (λ a. end (instruction 1 d a 0))) fs
-formOf keyword.In fs = number (λ d. end (instruction 20 d 0 0)) fs
+formOf keyword.Set fs = number (λ d. field literalOf (λ a. end (instruction setCode d a 0))) fs
+formOf keyword.In fs = number (λ d. end (instruction inCode d 0 0)) fs
 formOf (keyword.Unary k) fs = number (λ d. number (λ a. end (instruction k d a 0))) fs
 formOf (keyword.Binary k) fs = number (λ d. number (λ a. number (λ b. end (instruction k d a b)))) fs
 formOf keyword.Nothing fs = line.NoForm

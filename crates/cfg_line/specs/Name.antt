@@ -3,7 +3,7 @@ use Prim.Native.Nat.{ℕ, suc}
 use mathlib.Core.List.{List, [], _∷_}
 use mathlib.Core.Option.{Option, none, some}
 use lib.Dec.{eqb}
-use Rattle.word.specs.Word.{choose, arity}
+use Rattle.word.specs.Word.{choose, arity, setCode, firstCode, firstComparison}
 use Rattle.runs.specs.Lists.{same, orElse}
 use Rattle.delimited.specs.Parts.{bytes}
 use Rattle.cfg_line.specs.declared.Keyword.{Keyword}
@@ -37,12 +37,12 @@ codeIn k (n ∷ ns) f = orElse (same f n) k (codeIn (suc k) ns f)
 -- a field as a comparison's code
 unfoldable pub comparisonOf : List ℕ → Option ℕ
 unfolding comparisonNames
-comparisonOf f = codeIn 12 comparisonNames f
+comparisonOf f = codeIn firstComparison comparisonNames f
 
 -- an instruction: set, one of one operand, or one of two
 abbrev pub operation : Option ℕ → Keyword
 operation none = Nothing
-operation (some k) = choose (eqb k 1) Set (choose (eqb (arity k) 1) (Unary k) (Binary k))
+operation (some k) = choose (eqb k setCode) Set (choose (eqb (arity k) 1) (Unary k) (Binary k))
 
 -- what a line's first field names
 unfoldable pub keywordOf : List ℕ → Keyword
@@ -54,4 +54,4 @@ keywordOf f =
     (choose (same f (bytes "ite")) Ite
     (choose (same f (bytes "halt")) Halt
     (choose (same f (bytes "in")) In
-    (operation (codeIn 1 instructionNames f)))))))
+    (operation (codeIn firstCode instructionNames f)))))))

@@ -4,6 +4,7 @@ use cfg::Condition;
 use cfg::Graph;
 use cfg::Instruction;
 use delimited::Field;
+use word::Code;
 use word::Comparison;
 ghost use mathlib.Core.Path.{_≡_};
 ghost use mathlib.Core.Bool.{true};
@@ -209,7 +210,7 @@ fn set_form(text: &[u8], at: usize) -> Parsed
     };
     Parsed {
         line: Line::Instruction(Instruction {
-            code: 1,
+            code: Code::SET,
             d: d,
             a: a,
             b: 0,
@@ -226,7 +227,7 @@ fn in_form(text: &[u8], at: usize) -> Parsed
     };
     Parsed {
         line: Line::Instruction(Instruction {
-            code: 20,
+            code: Code::IN,
             d: d,
             a: 0,
             b: 0,

@@ -76,10 +76,10 @@ module _ (text w : List ℕ) (p : Place) (at n : ℕ) (R : Reached text w p at n
         ∙ R .going
 
     -- the next line
-    pub reached-next : (q : Place) → Agrees (Go q) v (next (R .progress) (X .line)) → Reached text v q (X .next) (n + 1)
+    pub reached-next : (q : Place) → Agrees n (Go q) v (next (R .progress) (X .line)) → Reached text v q (X .next) (n + 1)
     reached-next q a = by (next (R .progress) (X .line)) refl a
       where
-        by : (y : Next) → next (R .progress) (X .line) ≡ y → Agrees (Go q) v y → Reached text v q (X .next) (n + 1)
+        by : (y : Next) → next (R .progress) (X .line) ≡ y → Agrees n (Go q) v y → Reached text v q (X .next) (n + 1)
         by (refuse m) e s = absurd s
         by (go z) e s =
             let g : next (R .progress) (parsedAt byName at (drop at text) .line) ≡ go z = ap (λ (Y : Parsed). next (R .progress) (Y .line)) (sym eX) ∙ e in
@@ -93,18 +93,18 @@ module _ (text w : List ℕ) (p : Place) (at n : ℕ) (R : Reached text w p at n
               line = omega arith;
             }
 
-    pub reached-ahead : (q : Place) → Agrees (Go q) v (next (R .progress) (X .line)) → at < X .next
+    pub reached-ahead : (q : Place) → Agrees n (Go q) v (next (R .progress) (X .line)) → at < X .next
     reached-ahead q a = by (next (R .progress) (X .line)) refl a
       where
-        by : (y : Next) → next (R .progress) (X .line) ≡ y → Agrees (Go q) v y → at < X .next
+        by : (y : Next) → next (R .progress) (X .line) ≡ y → Agrees n (Go q) v y → at < X .next
         by (refuse m) e s = absurd s
         by (go z) e s = rw eX (ahead (R .progress) z text at (ap (λ (Y : Parsed). next (R .progress) (Y .line)) (sym eX) ∙ e))
 
     -- a line that is refused
-    pub reached-stop : (k : ℕ) → Agrees (Stop k) v (next (R .progress) (X .line)) → Answers (Refused k n) v (readText text)
-    reached-stop k a = by (next (R .progress) (X .line)) refl a
+    pub reached-stop : (r : ReadAnswer) → Agrees n (Stop r) v (next (R .progress) (X .line)) → Answers r v (readText text)
+    reached-stop r a = by (next (R .progress) (X .line)) refl a
       where
-        by : (y : Next) → next (R .progress) (X .line) ≡ y → Agrees (Stop k) v y → Answers (Refused k n) v (readText text)
+        by : (y : Next) → next (R .progress) (X .line) ≡ y → Agrees n (Stop r) v y → Answers r v (readText text)
         by (go z) e s = absurd s
         by (refuse m) e s =
-            refusal k n v (sym on-turn ∙ ap (λ (y : Next). proceed y n (λ z. walk z (suc n) (splitAt 10 (drop (X .next) text)))) e ∙ ap (λ (j : ℕ). refused j n) (sym s))
+            rw s (refusal m n v (sym on-turn ∙ ap (λ (y : Next). proceed y n (λ z. walk z (suc n) (splitAt 10 (drop (X .next) text)))) e))

@@ -98,21 +98,21 @@ module _ (P : Progress → Type 0) {p : Place} {w : List ℕ} where
 
 -- ---- a block begins
 
-module _ (p : Place) (w : List ℕ) (b r : ℕ) (bs : List Block) (s : Stands p w (between b r bs)) (n : ℕ) where
+module _ (p : Place) (w : List ℕ) (b r : ℕ) (bs : List Block) (s : Stands p w (between b r bs)) (n m : ℕ) where
   done-is : p .done ≡ length bs
   done-is = ap (λ (x : Place). x .done) (s .place)
 
   blocks-is : p .blocks ≡ b
   blocks-is = ap (λ (x : Place). x .blocks) (s .place)
 
-  pub not-next : (n ≡ p .done → ⊥) → Agrees (Stop 3) w (opened n b r bs)
+  pub not-next : (n ≡ p .done → ⊥) → Agrees m (Stop (Refused 3 m)) w (opened n b r bs)
   not-next h = rw (ne-eqb n (length bs) (λ e. h (e ∙ sym done-is))) refl
 
-  pub past-last : n ≡ p .done → p .blocks ≤ n → Agrees (Stop 3) w (opened n b r bs)
+  pub past-last : n ≡ p .done → p .blocks ≤ n → Agrees m (Stop (Refused 3 m)) w (opened n b r bs)
   past-last e l = rw (eq-eqb n (length bs) (e ∙ done-is), le-ltb n b (rw blocks-is at l)) refl
 
   pub begins : n ≡ p .done → n < p .blocks
-      → Agrees (Go (record { due = due.Inside; blocks = p .blocks; registers = p .registers; done = p .done; count = 0 })) w (opened n b r bs)
+      → Agrees m (Go (record { due = due.Inside; blocks = p .blocks; registers = p .registers; done = p .done; count = 0 })) w (opened n b r bs)
   begins e l =
       rw (eq-eqb n (length bs) (e ∙ done-is), lt-ltb n b (rw blocks-is at l))
       (record {
@@ -127,7 +127,7 @@ module _ (p : Place) (w : List ℕ) (b r : ℕ) (bs : List Block) (s : Stands p 
 one-more : {A : Type 0} (xs : List A) (y : A) → length xs + 1 ≡ length (xs ++ (y ∷ []))
 one-more xs y = rw length-append (omega arith)
 
-module _ (p : Place) (w : List ℕ) (b r : ℕ) (bs : List Block) (is : List Instruction) (s : Stands p w (inside b r bs is)) where
+module _ (p : Place) (w : List ℕ) (b r : ℕ) (bs : List Block) (is : List Instruction) (s : Stands p w (inside b r bs is)) (m : ℕ) where
   pub in-blocks : p .blocks ≡ b
   in-blocks = ap (λ (x : Place). x .blocks) (s .place)
 
@@ -140,35 +140,35 @@ module _ (p : Place) (w : List ℕ) (b r : ℕ) (bs : List Block) (is : List Ins
   in-count : p .count ≡ length is
   in-count = ap (λ (x : Place). x .count) (s .place)
 
-  pub ninth : (i : Instruction) → 8 ≤ p .count → Agrees (Stop 3) w (joined i b r bs is)
+  pub ninth : (i : Instruction) → 8 ≤ p .count → Agrees m (Stop (Refused 3 m)) w (joined i b r bs is)
   ninth i h = rw (le-ltb (length is) 8 (rw in-count at h)) refl
 
-  pub bad-register : (i : Instruction) (v : List ℕ) → p .count < 8 → allBelow (p .registers) (instructionRegisters i) ≡ false → Agrees (Stop 4) v (joined i b r bs is)
+  pub bad-register : (i : Instruction) (v : List ℕ) → p .count < 8 → allBelow (p .registers) (instructionRegisters i) ≡ false → Agrees m (Stop (Refused 4 m)) v (joined i b r bs is)
   bad-register i v h e = rw (lt-ltb (length is) 8 (rw in-count at h), rw in-registers at e) refl
 
   pub joins : (i : Instruction) (v : List ℕ) → p .count < 8 → allBelow (p .registers) (instructionRegisters i) ≡ true
       → v ≡ sets w (blockOffset (p .done) + codeOffset + instructionWords * p .count) (instructionWordsOf i)
-      → Agrees (Go (record { due = due.Inside; blocks = p .blocks; registers = p .registers; done = p .done; count = p .count + 1 })) v (joined i b r bs is)
-  joins i v h e m =
+      → Agrees m (Go (record { due = due.Inside; blocks = p .blocks; registers = p .registers; done = p .done; count = p .count + 1 })) v (joined i b r bs is)
+  joins i v h e ev =
       rw (lt-ltb (length is) 8 (rw in-count at h), rw in-registers at e)
       (record {
         place = ap (λ (x : Place). record { due = due.Inside; blocks = x .blocks; registers = x .registers; done = x .done; count = x .count + 1 }) (s .place)
             ∙ ap (λ (n : ℕ). record { due = due.Inside; blocks = b; registers = r; done = length bs; count = n }) (one-more is i);
-        words = m ∙ rw (s .words, in-done, in-count) (joined-words b r bs (s .whole) is i);
+        words = ev ∙ rw (s .words, in-done, in-count) (joined-words b r bs (s .whole) is i);
         whole = s .whole;
         few = omega arith;
       })
 
   module _ (e : Ending) where
-    pub bad-ending-register : (v : List ℕ) → allBelow r (endingRegisters e) ≡ false → Agrees (Stop 4) v (closed e b r bs is)
+    pub bad-ending-register : (v : List ℕ) → allBelow r (endingRegisters e) ≡ false → Agrees m (Stop (Refused 4 m)) v (closed e b r bs is)
     bad-ending-register v h = rw h refl
 
-    pub bad-target : (v : List ℕ) → allBelow r (endingRegisters e) ≡ true → allBelow b (targets e) ≡ false → Agrees (Stop 5) v (closed e b r bs is)
+    pub bad-target : (v : List ℕ) → allBelow r (endingRegisters e) ≡ true → allBelow b (targets e) ≡ false → Agrees m (Stop (Refused 5 m)) v (closed e b r bs is)
     bad-target v h g = rw (h, g) refl
 
-    pub ends : (m : Moved) (v : List ℕ) → allBelow r (endingRegisters e) ≡ true → allBelow b (targets e) ≡ true
-        → m ≡ Go (afterBlock p) → v ≡ endedAt w (p .done) (p .count) (endingWordsOf e) → Agrees m v (closed e b r bs is)
-    ends m v h g em ev =
+    pub ends : (o : Moved) (v : List ℕ) → allBelow r (endingRegisters e) ≡ true → allBelow b (targets e) ≡ true
+        → o ≡ Go (afterBlock p) → v ≡ endedAt w (p .done) (p .count) (endingWordsOf e) → Agrees m o v (closed e b r bs is)
+    ends o v h g em ev =
         rw (em, h, g)
         (record {
           place = ap afterBlock (s .place)
@@ -198,10 +198,10 @@ unfinished p w (inside b r bs is) n h s = refusal 3 n w refl
 
 module _ (p : Place) (w : List ℕ) (b r : ℕ) (bs : List Block) (n : ℕ) (s : Stands p w (between b r bs)) where
   pub missing : (p .done ≡ p .blocks → ⊥) → Answers (Refused 3 n) w (finish (between b r bs) n)
-  missing h = refusal 3 n w (rw (ne-eqb (length bs) b (λ e. h (done-is p w b r bs s n ∙ e ∙ sym (blocks-is p w b r bs s n)))))
+  missing h = refusal 3 n w (rw (ne-eqb (length bs) b (λ e. h (done-is p w b r bs s n n ∙ e ∙ sym (blocks-is p w b r bs s n n)))))
 
   pub finished : p .done ≡ p .blocks → Answers Read w (finish (between b r bs) n)
   finished h =
-      let e : length bs ≡ b = sym (done-is p w b r bs s n) ∙ h ∙ blocks-is p w b r bs s n in
+      let e : length bs ≡ b = sym (done-is p w b r bs s n n) ∙ h ∙ blocks-is p w b r bs s n n in
       rw (eq-eqb (length bs) b e)
       (record { answer = refl; words = λ g x. s .words ∙ table-words b r bs (s .whole) e ∙ ap tableOf (same-graph x) })

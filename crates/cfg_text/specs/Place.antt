@@ -19,6 +19,7 @@ use Rattle.cfg_text.specs.declared.Place.{Place}
 use Rattle.cfg_text.specs.declared.Moved.{Moved}
 use Rattle.cfg_text.specs.declared.Moved.the-variants.{Go, Stop}
 use Rattle.cfg_text.specs.declared.ReadAnswer.{ReadAnswer}
+use Rattle.cfg_text.specs.declared.ReadAnswer.the-variants.{Refused}
 use Rattle.cfg_text.specs.Walk.{Progress, start, between, inside, Next, go, refuse, Reading, refused, read}
 use Rattle.cfg_text.specs.Read.{answerOf}
 
@@ -54,12 +55,12 @@ pub record Stands (p : Place) (w : List ℕ) (q : Progress) : Type 0 where
   pub whole : every sized (blocksRead q) ≡ true
   pub few : p .count ≤ maxInstructions
 
--- the code went where the definition goes, or refused as it refuses
-abbrev pub Agrees : Moved → List ℕ → Next → Type 0
-Agrees (Go p) w (go q) = Stands p w q
-Agrees (Go p) w (refuse m) = ⊥
-Agrees (Stop k) w (go q) = ⊥
-Agrees (Stop k) w (refuse m) = k ≡ m
+-- the code went where the definition goes, or refused line n as it refuses
+abbrev pub Agrees : ℕ → Moved → List ℕ → Next → Type 0
+Agrees n (Go p) w (go q) = Stands p w q
+Agrees n (Go p) w (refuse k) = ⊥
+Agrees n (Stop r) w (go q) = ⊥
+Agrees n (Stop r) w (refuse k) = r ≡ Refused k n
 
 -- the answer of a reading, and the table where it is a graph's
 pub record Answers (r : ReadAnswer) (w : List ℕ) (x : Reading) : Type 0 where

@@ -4,7 +4,7 @@ use mathlib.Core.Bool.{Bool, true, false, _&&_}
 use mathlib.Core.List.{List, [], _∷_, _++_}
 use lib.ListN.{length, take}
 use lib.Dec.{eqb, ltb}
-use Rattle.word.specs.Word.{choose, arity}
+use Rattle.word.specs.Word.{choose, arity, setCode}
 use Rattle.runs.specs.Lists.{every, padded}
 use Rattle.cfg.specs.Layout.{maxInstructions}
 use Rattle.cfg.specs.Graph.{CFG, noInstruction, targets}
@@ -58,7 +58,7 @@ allBelow n = every (λ x. ltb x n)
 
 -- the registers that an instruction names: d and the operands that its code reads; a set's a is its literal
 abbrev pub instructionRegisters : Instruction → List ℕ
-instructionRegisters i = i .d ∷ choose (eqb (i .code) 1) [] (take (arity (i .code)) (i .a ∷ i .b ∷ []))
+instructionRegisters i = i .d ∷ choose (eqb (i .code) setCode) [] (take (arity (i .code)) (i .a ∷ i .b ∷ []))
 
 abbrev pub endingRegisters : Ending → List ℕ
 endingRegisters (ending.Goto t) = []

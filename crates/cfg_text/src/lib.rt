@@ -1,16 +1,18 @@
 // Reading a graph's text into its table. The text is read from front to back into a local table, which is copied at the end.
 use cfg::Block;
 use cfg::Condition;
+use cfg::Ending;
 use cfg::Graph;
 use cfg::Instruction;
 use cfg_line::Line;
+use word::Code;
 ghost use mathlib.Core.Path.{_≡_};
 ghost use mathlib.Core.List.{List, [], _∷_, _++_};
 ghost use Prim.Native.Nat.{ℕ, _+_, _*_, _≤_, _<_};
 ghost use lib.ListN.{length, take, drop, set};
 ghost use lib.Seq.{sets};
 ghost use Rattle.word.specs.Word.{codeOf};
-ghost use Rattle.cfg.specs.Layout.{maxBlocks, maxInstructions, graphWords, blockOffset, codeOffset, endingOffset, instructionWords};
+ghost use Rattle.cfg.specs.Layout.{maxBlocks, maxInstructions, headWords, graphWords, blockOffset, codeOffset, endingOffset, instructionWords};
 ghost use Rattle.cfg.specs.Table.{instructionWordsOf};
 ghost use Rattle.cfg_text.specs.Walk.{Progress, start, between, inside, allBelow, instructionRegisters, next, finish};
 ghost use Rattle.cfg_text.specs.Read.{maxText, readText, readAnswer, readWords};
@@ -41,12 +43,9 @@ pub struct Place {
 
 pub enum Moved {
     Go(Place),
-    // The refusal's number.
-    Stop(u32),
+    // The refusal, with its line.
+    Stop(ReadAnswer),
 }
-
-// The longest text.
-const TEXT: usize = 16384;
 
 // The refusal of a line that is not due.
 fn misfit(l: Line) -> u32
@@ -75,7 +74,7 @@ fn registers_below(i: Instruction, registers: u32) -> bool
     if registers <= i.d {
         return false;
     }
-    if i.code == 1 {
+    if i.code == Code::SET {
         return true;
     }
     let operands = word::arity(i.code);
@@ -91,16 +90,16 @@ fn registers_below(i: Instruction, registers: u32) -> bool
     i.b < registers
 }
 
-// Where the graph line is due.
-fn at_start(l: Line, words: &mut [u32]) -> Moved
-    requires { ⌜ 2 ≤ length (now words) ⌝ }
-    ensures { λ m. ⌜ (now (words .entry) ≡ filled start → Agrees m (now (words .exit)) (next start l)) ⌝ }
+// Line n, where the graph line is due.
+fn at_start(l: Line, words: &mut [u32], n: u32) -> Moved
+    requires { ⌜ headWords ≤ length (now words) ⌝ }
+    ensures { λ m. ⌜ (now (words .entry) ≡ filled start → Agrees n m (now (words .exit)) (next start l)) ⌝ }
 {
     let Line::Graph(b, r) = l else {
-        return Moved::Stop(misfit(l));
+        return Moved::Stop(ReadAnswer::Refused(misfit(l), n));
     };
-    words[0] = b;
-    words[1] = r;
+    words[Graph::BLOCK_COUNT] = b;
+    words[Graph::REGISTER_COUNT] = r;
     Moved::Go(Place {
         due: Due::Block,
         blocks: b,
@@ -110,18 +109,18 @@ fn at_start(l: Line, words: &mut [u32]) -> Moved
     })
 }
 
-// Where a block line is due, that of the next block below B.
-fn at_block(p: Place, l: Line) -> Moved
-    ensures { λ m. ⌜ ((b r : ℕ) (bs : List Block) (w : List ℕ) → Stands p w (between b r bs) → Agrees m w (next (between b r bs) l)) ⌝ }
+// Line n, where a block line is due, that of the next block below B.
+fn at_block(p: Place, l: Line, n: u32) -> Moved
+    ensures { λ m. ⌜ ((b r : ℕ) (bs : List Block) (w : List ℕ) → Stands p w (between b r bs) → Agrees n m w (next (between b r bs) l)) ⌝ }
 {
-    let Line::Block(n) = l else {
-        return Moved::Stop(misfit(l));
+    let Line::Block(k) = l else {
+        return Moved::Stop(ReadAnswer::Refused(misfit(l), n));
     };
-    if n != p.done {
-        return Moved::Stop(3);
+    if k != p.done {
+        return Moved::Stop(ReadAnswer::Refused(3, n));
     }
-    if p.blocks <= n {
-        return Moved::Stop(3);
+    if p.blocks <= k {
+        return Moved::Stop(ReadAnswer::Refused(3, n));
     }
     Moved::Go(Place {
         due: Due::Inside,
@@ -151,8 +150,8 @@ fn end_block(
     words[start] = p.count;
     let at = start + Block::ENDING;
     put_four(words, at, kind, c, a, b);
-    words[at + 4] = t;
-    words[at + 5] = f;
+    words[at + Ending::TRUE] = t;
+    words[at + Ending::FALSE] = f;
     Moved::Go(Place {
         due: Due::Block,
         blocks: p.blocks,
@@ -163,14 +162,14 @@ fn end_block(
 }
 
 // An instruction joins the block, which has room for eight.
-fn join(p: Place, i: Instruction, words: &mut [u32]) -> Moved
+fn join(p: Place, i: Instruction, words: &mut [u32], n: u32) -> Moved
     requires { ⌜ (p .done < maxBlocks) × (length (now words) ≡ graphWords) ⌝ }
     ensures { λ m. ⌜ ((b r : ℕ) (bs : List Block) (is : List Instruction)
         → Stands p (now (words .entry)) (inside b r bs is)
-        → Agrees m (now (words .exit)) (next (inside b r bs is) (Line.Instruction i))) ⌝ }
+        → Agrees n m (now (words .exit)) (next (inside b r bs is) (Line.Instruction i))) ⌝ }
 {
     if Block::INSTRUCTIONS <= (p.count as usize) {
-        return Moved::Stop(3);
+        return Moved::Stop(ReadAnswer::Refused(3, n));
     }
     if registers_below(i, p.registers) {
         let start = Graph::HEAD + Block::WORDS * (p.done as usize);
@@ -184,72 +183,72 @@ fn join(p: Place, i: Instruction, words: &mut [u32]) -> Moved
             count: p.count + 1,
         });
     }
-    Moved::Stop(4)
+    Moved::Stop(ReadAnswer::Refused(4, n))
 }
 
-fn goto(p: Place, t: u32, words: &mut [u32]) -> Moved
+fn goto(p: Place, t: u32, words: &mut [u32], n: u32) -> Moved
     requires { ⌜ (p .done < maxBlocks) × (length (now words) ≡ graphWords) ⌝ }
     ensures { λ m. ⌜ ((b r : ℕ) (bs : List Block) (is : List Instruction)
         → Stands p (now (words .entry)) (inside b r bs is)
-        → Agrees m (now (words .exit)) (next (inside b r bs is) (Line.Goto t))) ⌝ }
+        → Agrees n m (now (words .exit)) (next (inside b r bs is) (Line.Goto t))) ⌝ }
 {
     if p.blocks <= t {
-        return Moved::Stop(5);
+        return Moved::Stop(ReadAnswer::Refused(5, n));
     }
-    end_block(p, words, 1, 0, 0, 0, t, 0)
+    end_block(p, words, Ending::GOTO, 0, 0, 0, t, 0)
 }
 
 // Its registers, then its targets.
-fn ite(p: Place, c: Condition, t: u32, f: u32, words: &mut [u32]) -> Moved
+fn ite(p: Place, c: Condition, t: u32, f: u32, words: &mut [u32], n: u32) -> Moved
     requires { ⌜ (p .done < maxBlocks) × (length (now words) ≡ graphWords) ⌝ }
     ensures { λ m. ⌜ ((b r : ℕ) (bs : List Block) (is : List Instruction)
         → Stands p (now (words .entry)) (inside b r bs is)
-        → Agrees m (now (words .exit)) (next (inside b r bs is) (Line.Ite c t f))) ⌝ }
+        → Agrees n m (now (words .exit)) (next (inside b r bs is) (Line.Ite c t f))) ⌝ }
 {
     if p.registers <= c.a {
-        return Moved::Stop(4);
+        return Moved::Stop(ReadAnswer::Refused(4, n));
     }
     if p.registers <= c.b {
-        return Moved::Stop(4);
+        return Moved::Stop(ReadAnswer::Refused(4, n));
     }
     if p.blocks <= t {
-        return Moved::Stop(5);
+        return Moved::Stop(ReadAnswer::Refused(5, n));
     }
     if p.blocks <= f {
-        return Moved::Stop(5);
+        return Moved::Stop(ReadAnswer::Refused(5, n));
     }
     let k = c.comparison;
-    end_block(p, words, 2, k.code(), c.a, c.b, t, f)
+    end_block(p, words, Ending::ITE, k.code(), c.a, c.b, t, f)
 }
 
-// Where an instruction or an ending is due.
-fn in_block(p: Place, l: Line, words: &mut [u32]) -> Moved
+// Line n, where an instruction or an ending is due.
+fn in_block(p: Place, l: Line, words: &mut [u32], n: u32) -> Moved
     requires { ⌜ (p .done < maxBlocks) × (length (now words) ≡ graphWords) ⌝ }
     ensures { λ m. ⌜ ((b r : ℕ) (bs : List Block) (is : List Instruction)
         → Stands p (now (words .entry)) (inside b r bs is)
-        → Agrees m (now (words .exit)) (next (inside b r bs is) l)) ⌝ }
+        → Agrees n m (now (words .exit)) (next (inside b r bs is) l)) ⌝ }
 {
     match l {
-        Line::Instruction(i) => join(p, i, words),
-        Line::Goto(t) => goto(p, t, words),
-        Line::Ite(c, t, f) => ite(p, c, t, f, words),
-        Line::Halt => end_block(p, words, 3, 0, 0, 0, 0, 0),
-        Line::Graph(_, _) => Moved::Stop(3),
-        Line::Block(_) => Moved::Stop(3),
-        Line::NoForm => Moved::Stop(2),
+        Line::Instruction(i) => join(p, i, words, n),
+        Line::Goto(t) => goto(p, t, words, n),
+        Line::Ite(c, t, f) => ite(p, c, t, f, words, n),
+        Line::Halt => end_block(p, words, Ending::HALT, 0, 0, 0, 0, 0),
+        Line::Graph(_, _) => Moved::Stop(ReadAnswer::Refused(3, n)),
+        Line::Block(_) => Moved::Stop(ReadAnswer::Refused(3, n)),
+        Line::NoForm => Moved::Stop(ReadAnswer::Refused(2, n)),
     }
 }
 
-// One line, where it is due.
-fn step(p: Place, l: Line, words: &mut [u32]) -> Moved
+// Line n, where it is due.
+fn step(p: Place, l: Line, words: &mut [u32], n: u32) -> Moved
     requires { ⌜ Room p (now words) ⌝ }
-    ensures { λ m. ⌜ ((q : Progress) → Stands p (now (words .entry)) q → Agrees m (now (words .exit)) (next q l)) ⌝ }
+    ensures { λ m. ⌜ ((q : Progress) → Stands p (now (words .entry)) q → Agrees n m (now (words .exit)) (next q l)) ⌝ }
 {
     let due = p.due;
     match due {
-        Due::Graph => at_start(l, words),
-        Due::Block => at_block(p, l),
-        Due::Inside => in_block(p, l, words),
+        Due::Graph => at_start(l, words, n),
+        Due::Block => at_block(p, l, n),
+        Due::Inside => in_block(p, l, words, n),
     }
 }
 
@@ -284,13 +283,13 @@ fn read_lines(text: &[u8], words: &mut [u32]) -> ReadAnswer
     while at < text.len() {
         let parsed = cfg_line::parse_line(text, at);
         let l = parsed.line;
-        let moved = step(p, l, words);
+        let moved = step(p, l, words, n);
         match moved {
             Moved::Go(q) => {
                 p = q;
             }
-            Moved::Stop(k) => {
-                return ReadAnswer::Refused(k, n);
+            Moved::Stop(refusal) => {
+                return refusal;
             }
         }
         at = parsed.next;
@@ -315,7 +314,7 @@ pub fn read_text(text: &[u8], table: &mut [u32]) -> ReadAnswer
     ensures answer { λ r. ⌜ r ≡ readAnswer (now (text .entry)) (now (table .entry)) ⌝ }
     ensures words { λ r. ⌜ now (table .exit) ≡ readWords (now (text .entry)) (now (table .entry)) ⌝ }
 {
-    if TEXT < text.len() {
+    if Graph::TEXT < text.len() {
         return ReadAnswer::Refused(1, 0);
     }
     if table.len() < Graph::WORDS {

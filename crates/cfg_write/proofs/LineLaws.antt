@@ -8,11 +8,11 @@ use mathlib.Core.Option.{Option, none, some}
 use lib.Dec.{eqb, leb}
 use lib.Seq.{take-all}
 use borrow.Author.Tests.{leb-true, eqb-true, eqb-false, le-leb}
-use Rattle.word.specs.Word.{choose, arity}
+use Rattle.word.specs.Word.{choose, arity, comparisonAt}
+use Rattle.word.proofs.Laws.{comparison-code}
 use Rattle.runs.proofs.ListLaws.{and-left, and-right}
 use Rattle.decimal.specs.Decimal.{decimalOf}
 use Rattle.cfg.specs.Layout.{maxBlocks, maxRegisters}
-use Rattle.cfg.specs.Table.{comparisonAt}
 use Rattle.cfg.proofs.Admitted.{ValidInstruction}
 use Rattle.cfg.specs.declared.Instruction.{Instruction}
 use Rattle.cfg.specs.declared.Condition.{Condition}
@@ -27,7 +27,7 @@ use Rattle.cfg_line.specs.Number.{numberOf, literalOf}
 use Rattle.cfg_line.specs.Form.{field, withValue, number, end, graphLine, instruction, iteLine, formOf, byName}
 use Rattle.cfg_write.specs.Write.{instructionName, comparisonName, literalText, operandsOf, fieldsOf}
 use Rattle.cfg_write.proofs.LiteralLaws.{literal-read, literal-written}
-use Rattle.cfg_write.proofs.NameLaws.{Code, Named, Shape, literal, nothing, one, two, shape, not-one, keyword-named, comparison-read, comparison-back, comparison-written}
+use Rattle.cfg_write.proofs.NameLaws.{Code, Named, Shape, literal, nothing, one, two, shape, not-one, keyword-named, comparison-read, comparison-written}
 
 -- ---- the numbers that a line can hold
 
@@ -128,7 +128,7 @@ fields-read (line.Block n) h = number-is (λ n. end (line.Block n)) n [] h
 fields-read (line.Instruction i) h = instruction-read i h
 fields-read (line.Goto t) h = number-is (λ n. end (line.Goto n)) t [] h
 fields-read (line.Ite c t f) h =
-    rw (comparison-read (c .comparison), number-read 255 (c .a) (h .first), number-read 255 (c .b) (h .second), number-read 255 t (h .holds), number-read 255 f (h .fails), comparison-back (c .comparison))
+    rw (comparison-read (c .comparison), number-read 255 (c .a) (h .first), number-read 255 (c .b) (h .second), number-read 255 t (h .holds), number-read 255 f (h .fails), comparison-code (c .comparison))
 fields-read line.Halt h = refl
 fields-read line.NoForm h = absurd h
 

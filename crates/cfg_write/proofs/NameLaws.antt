@@ -12,10 +12,9 @@ use borrow.Author.Tests.{eqb-true, eqb-false, ne-eqb}
 use Rattle.word.proofs.Keys.{NoKey, past}
 use Rattle.word.specs.declared.Comparison.{Comparison}
 use Rattle.word.specs.declared.Comparison.the-variants.{Eq, Ne, Lt, Ge, Ltu, Geu}
-use Rattle.word.specs.Word.{choose, arity, codeOf as comparisonCode}
+use Rattle.word.specs.Word.{choose, arity, comparisonAt, codeOf as comparisonCode}
 use Rattle.runs.specs.Lists.{same, every, orElse}
 use Rattle.runs.proofs.ListLaws.{same-eq, every-at}
-use Rattle.cfg.specs.Table.{comparisonAt}
 use Rattle.cfg_line.specs.declared.Keyword.{Keyword}
 use Rattle.cfg_line.specs.declared.Keyword.the-variants.{Graph, Block, Goto, Ite, Halt, Set, In, Unary, Binary, Nothing}
 use Rattle.delimited.specs.Parts.{bytes}
@@ -176,14 +175,6 @@ comparison-read Lt = refl
 comparison-read Ge = refl
 comparison-read Ltu = refl
 comparison-read Geu = refl
-
-pub comparison-back : (c : Comparison) → comparisonAt (comparisonCode c) ≡ c
-comparison-back Eq = refl
-comparison-back Ne = refl
-comparison-back Lt = refl
-comparison-back Ge = refl
-comparison-back Ltu = refl
-comparison-back Geu = refl
 
 pub comparison-test : (p : List ℕ → Bool) → every p comparisonNames ≡ true → (c : Comparison) → p (comparisonName c) ≡ true
 unfolding comparisonName comparisonNames

@@ -17,7 +17,7 @@ use Rattle.cfg.specs.declared.Instruction.{Instruction}
 use Rattle.cfg.specs.declared.Ending.{Ending}
 use Rattle.cfg.specs.declared.Ending.the-variants.{Goto, Ite, Halt}
 use Rattle.cfg.specs.declared.Block.{Block}
-use Rattle.cfg_write.proofs.NameLaws.{comparison-back}
+use Rattle.word.proofs.Laws.{comparison-code}
 use Rattle.cfg_write.proofs.Whole.{proper}
 use Rattle.cfg_write.proofs.WalkLaws.{proper-eight}
 
@@ -54,7 +54,7 @@ block-behind front xs n e =
 ending-words : (e : Ending) (s : List ℕ) → endingAt (endingWordsOf e ++ s) 0 ≡ e
 unfolding endingAt
 ending-words (Goto t) s = refl
-ending-words (Ite c t f) s = rw (comparison-back (c .comparison))
+ending-words (Ite c t f) s = rw (comparison-code (c .comparison))
 ending-words Halt s = refl
 
 code-words : (c : ℕ) (is : List Instruction) (s : List ℕ) → length is ≡ maxInstructions → map (instructionAt (c ∷ (concatMap instructionWordsOf is ++ s)) 0) (upFrom 0 maxInstructions) ≡ is

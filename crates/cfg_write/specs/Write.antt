@@ -5,7 +5,7 @@ use mathlib.Core.List.{List, [], _∷_, _++_, map}
 use lib.ListN.{length, getD, take, drop}
 use lib.Dec.{eqb, ltb}
 use Rattle.word.specs.declared.Comparison.{Comparison}
-use Rattle.word.specs.Word.{choose, arity, codeOf as comparisonCode}
+use Rattle.word.specs.Word.{choose, arity, codeOf as comparisonCode, setCode, inCode, firstComparison}
 use Rattle.runs.specs.Lists.{concatMap}
 use Rattle.decimal.specs.Decimal.{decimalOf}
 use Rattle.cfg.specs.Layout.{graphWords}
@@ -46,11 +46,11 @@ linesOf g = line.Graph (length (g .blocks)) (g .registers) ∷ linesFrom 0 (g .b
 -- codes 1 to 11, and 20, have a name
 unfoldable pub instructionName : ℕ → List ℕ
 unfolding instructionNames
-instructionName k = choose (eqb k 20) (bytes "in") (getD ([] ∷ instructionNames) k [])
+instructionName k = choose (eqb k inCode) (bytes "in") (getD ([] ∷ instructionNames) k [])
 
 unfoldable pub comparisonName : Comparison → List ℕ
 unfolding comparisonNames
-comparisonName c = getD comparisonNames (comparisonCode c - 12) []
+comparisonName c = getD comparisonNames (comparisonCode c - firstComparison) []
 
 -- a literal by its word, which is the value modulo 2 ^ 32: from 2 ^ 31 up the value is below zero
 unfoldable pub literalText : ℕ → List ℕ
@@ -61,7 +61,7 @@ literalText w = choose (ltb w (2 ^ 31)) (decimalOf w) (45 ∷ decimalOf (2 ^ 32 
 unfoldable pub operandsOf : Instruction → List (List ℕ)
 unfolding literalText decimalOf arity
 operandsOf i =
-    choose (eqb (i .code) 1) (literalText (i .a) ∷ []) (take (arity (i .code)) (decimalOf (i .a) ∷ decimalOf (i .b) ∷ []))
+    choose (eqb (i .code) setCode) (literalText (i .a) ∷ []) (take (arity (i .code)) (decimalOf (i .a) ∷ decimalOf (i .b) ∷ []))
 
 unfoldable pub fieldsOf : Line → List (List ℕ)
 unfolding decimalOf instructionName comparisonName operandsOf

@@ -112,6 +112,6 @@ pub fn write_text(table: &[u32], out: &mut [u8]) -> WriteAnswer
     if !admission::is_admitted(table) {
         return WriteAnswer::Refused(6, 0);
     }
-    let mut text = [0u8; 16384];
+    let mut text = [0u8; Graph::TEXT];
     write_by_way_of(&mut text, table, out)
 }

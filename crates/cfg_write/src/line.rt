@@ -5,6 +5,7 @@ use cfg::Ending;
 use cfg::Instruction;
 use decimal::put_byte;
 use decimal::put_decimal;
+use word::Code;
 use word::Comparison;
 ghost use mathlib.Core.Path.{_≡_};
 ghost use mathlib.Core.List.{[], _∷_};
@@ -99,7 +100,7 @@ fn put_operands(out: &mut [u8], at: usize, i: Instruction) -> usize
     requires { ⌜ at < 2 ^ 19 ⌝ }
     ensures { λ r. ⌜ Put 22 (now (out .entry)) (now (out .exit)) at (commas (operandsOf i)) r ⌝ }
 {
-    if i.code == 1 {
+    if i.code == Code::SET {
         return put_literal(out, at, i.a);
     }
     let operands = word::arity(i.code);

@@ -97,7 +97,7 @@ pub fn run_next(answer: RunAnswer) -> u32
 {
     match answer {
         RunAnswer::Refused(_) => 0,
-        RunAnswer::Halted(_) => 255,
+        RunAnswer::Halted(_) => RunAnswer::NONE,
         RunAnswer::Spent(_, next) => next,
         RunAnswer::Dry(_, next) => next,
     }

@@ -3,21 +3,21 @@ use Prim.Native.Nat.{ℕ, _+_, _≤_, _<_}
 use mathlib.Core.Bool.{true}
 use mathlib.Core.List.{List}
 use mathlib.Core.Path.{_≡_}
-use lib.ListN.{length, getD}
+use lib.ListN.{length}
 use Rattle.runs.specs.Runs.{Moved}
 use Rattle.fsmd.specs.declared.clock.Next.{Next}
 use Rattle.fsmd.specs.Layout.{maxStates, maxRegisters, maxWires, machineWords}
 use Rattle.fsmd.specs.Machine.{toState}
-use Rattle.fsmd.specs.Table.{firstWireAt, wireCountAt, stateAt, validState}
+use Rattle.fsmd.specs.Table.{stateCount, registerCount, firstWireAt, wireCountAt, stateAt, validState}
 
 -- the table is whole, state k's record and wires lie in it, and its references are valid
 pub record Ready (t : List ℕ) (k : ℕ) : Type 0 where
   pub whole : machineWords ≤ length t
   pub state : k < maxStates
   pub wires : firstWireAt t k + wireCountAt t k ≤ maxWires
-  pub registers : getD t 1 0 ≤ maxRegisters
-  pub valid : validState (getD t 1 0) (stateAt t k) ≡ true
+  pub registers : registerCount t ≤ maxRegisters
+  pub valid : validState (registerCount t) (stateAt t k) ≡ true
 
 -- what a cycle hands back
 abbrev pub after : List ℕ → Next → Moved
-after t r = record { place = toState (getD t 0 0) (r .state); registers = r .registers .words }
+after t r = record { place = toState (stateCount t) (r .state); registers = r .registers .words }

@@ -1,23 +1,39 @@
--- Limits of a machine, and the numbers of its table: nothing else writes them. Assumes nothing.
+-- Limits of a machine, and the numbers of its table: no other definition writes them. Assumes nothing.
 use Prim.Native.Nat.{ℕ, _+_, _*_}
+use Rattle.word.specs.RegisterFile.{fileWords}
+use Rattle.runs.specs.Runs.{maxPlaces, noPlace}
 
+-- 64 states and 64 blocks, 16 registers
 abbrev pub maxStates : ℕ
-maxStates = 64
+maxStates = maxPlaces
 
 abbrev pub maxBlocks : ℕ
-maxBlocks = 64
+maxBlocks = maxPlaces
 
 abbrev pub maxRegisters : ℕ
-maxRegisters = 16
+maxRegisters = fileWords
 
 -- "The whole machine has at most 3,072 wires"
 abbrev pub maxWires : ℕ
 maxWires = 3072
 
+-- "code, a, b, c": from a wire's first word, its code
+abbrev pub wireAOffset : ℕ
+wireAOffset = 1
+
+abbrev pub wireBOffset : ℕ
+wireBOffset = 2
+
+abbrev pub wireCOffset : ℕ
+wireCOffset = 3
+
 abbrev pub wireWords : ℕ
 wireWords = 4
 
--- where in a state's record the next references are: behind first wire and wire count
+-- from the first word of a state's record, its first wire
+abbrev pub wireCountOffset : ℕ
+wireCountOffset = 1
+
 abbrev pub nextStateOffset : ℕ
 nextStateOffset = 2
 
@@ -34,6 +50,13 @@ allRecordWords = maxStates * recordWords
 
 abbrev pub allWireWords : ℕ
 allWireWords = maxWires * wireWords
+
+-- N and R
+abbrev pub stateCountOffset : ℕ
+stateCountOffset = 0
+
+abbrev pub registerCountOffset : ℕ
+registerCountOffset = 1
 
 -- where the starters, the block states, the records and the wires begin: 2, 66, 130 and 1,346
 abbrev pub startersOffset : ℕ
@@ -66,4 +89,4 @@ roomWords = 4096
 
 -- no block or no state
 abbrev pub none : ℕ
-none = 255
+none = noPlace

@@ -4,7 +4,7 @@ use mathlib.Core.Bool.{Bool, true, not}
 use mathlib.Core.List.{List, [], _∷_, _++_, map}
 use lib.ListN.{length, getD, drop}
 use lib.Dec.{eqb, ltb}
-use Rattle.word.specs.Word.{choose, evalOf}
+use Rattle.word.specs.Word.{choose, evalOf, setCode, inCode}
 use Rattle.runs.specs.Lists.{every}
 use Rattle.runs.specs.Runs.{Place, standing, halted, Moved, Runner}
 use Rattle.fsmd.specs.declared.Wire.{Wire}
@@ -36,7 +36,7 @@ stateOf m k = getD (m .states) k emptyState
 -- a wire's word, where `at` reads a reference and `sampled` is the word of the cycle; a set's a is its literal
 unfoldable pub wireValue : ℕ → (ℕ → ℕ) → Wire → ℕ
 unfolding evalOf
-wireValue sampled at w = evalOf sampled (w .code) (choose (eqb (w .code) 1) (w .a) (at (w .a))) (at (w .b)) (at (w .c))
+wireValue sampled at w = evalOf sampled (w .code) (choose (eqb (w .code) setCode) (w .a) (at (w .a))) (at (w .b)) (at (w .c))
 
 -- what references read: the sixteen registers at the start of the cycle, then the wires so far, in order
 unfoldable pub worked : ℕ → List ℕ → List Wire → List ℕ
@@ -64,4 +64,4 @@ machineRunner m = record { unit = λ sampled k rs. clock m sampled (stateOf m k)
 
 -- no wire reads the sampled word
 unfoldable pub wordless : FSMD → Bool
-wordless m = every (λ q. every (λ w. not (eqb (w .code) 20)) (q .wires)) (m .states)
+wordless m = every (λ q. every (λ w. not (eqb (w .code) inCode)) (q .wires)) (m .states)

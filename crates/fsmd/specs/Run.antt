@@ -2,7 +2,7 @@
 use Prim.Native.Nat.{ℕ}
 use mathlib.Core.Bool.{Bool, not, _||_}
 use mathlib.Core.List.{List}
-use lib.ListN.{length, getD}
+use lib.ListN.{length}
 use lib.Dec.{ltb}
 use Rattle.word.specs.Word.{choose}
 use Rattle.runs.specs.Runs.{listed, unread}
@@ -10,7 +10,7 @@ use Rattle.runs.specs.Operations.{answered, registersLeft}
 use Rattle.runs.specs.declared.RunAnswer.{RunAnswer}
 use Rattle.fsmd.specs.Layout.{maxRegisters, machineWords}
 use Rattle.fsmd.specs.Machine.{machineRunner, wordless}
-use Rattle.fsmd.specs.Table.{machineOf, admitted}
+use Rattle.fsmd.specs.Table.{stateCount, machineOf, admitted}
 
 abbrev pub short : List ℕ → List ℕ → Bool
 short t rs = ltb (length t) machineWords || ltb (length rs) maxRegisters
@@ -24,7 +24,7 @@ refusal t rs start =
     choose (short t rs) 7
     (choose (not (admitted t)) 10
     (choose (not (wordless (machineOf t))) 12
-    (choose (not (ltb start (getD t 0 0))) 9 0)))
+    (choose (not (ltb start (stateCount t))) 9 0)))
 
 abbrev pub runAnswer : List ℕ → List ℕ → ℕ → ℕ → RunAnswer
 runAnswer t rs start budget = answered (refusal t rs start) (machineRunner (machineOf t)) unread rs start budget
@@ -40,7 +40,7 @@ unfolding admitted
 wordsRefusal t rs start =
     choose (short t rs) 7
     (choose (not (admitted t)) 10
-    (choose (not (ltb start (getD t 0 0))) 9 0))
+    (choose (not (ltb start (stateCount t))) 9 0))
 
 abbrev pub wordsAnswer : List ℕ → List ℕ → ℕ → ℕ → List ℕ → RunAnswer
 wordsAnswer t rs start budget words =

@@ -4,10 +4,10 @@ use mathlib.Core.Bool.{Bool, true, _&&_, _||_}
 use mathlib.Core.List.{List, [], _∷_, _++_, map}
 use lib.ListN.{length, getD, take, drop}
 use lib.Dec.{eqb, leb, ltb}
-use Rattle.word.specs.Word.{arity}
+use Rattle.word.specs.Word.{arity, setCode, firstCode, lastCode}
 use Rattle.runs.specs.Lists.{upFrom, every, padded, concatMap}
 use Rattle.fsmd.specs.declared.Wire.{Wire}
-use Rattle.fsmd.specs.Layout.{maxStates, maxBlocks, maxRegisters, maxWires, allRecordWords, allWireWords, startersOffset, blockStatesOffset, recordOffset, nextStateOffset, nextRegistersOffset, wireOffset, none}
+use Rattle.fsmd.specs.Layout.{maxStates, maxBlocks, maxRegisters, maxWires, wireAOffset, wireBOffset, wireCOffset, wireCountOffset, stateCountOffset, registerCountOffset, allRecordWords, allWireWords, startersOffset, blockStatesOffset, recordOffset, nextStateOffset, nextRegistersOffset, wireOffset, none}
 use Rattle.fsmd.specs.Machine.{State, FSMD}
 
 -- ---- words of a machine
@@ -41,17 +41,24 @@ tableOf m =
 
 -- ---- the machine of a table
 
+-- N and R
+abbrev pub stateCount : List ℕ → ℕ
+stateCount t = getD t stateCountOffset 0
+
+abbrev pub registerCount : List ℕ → ℕ
+registerCount t = getD t registerCountOffset 0
+
 -- wire i of the whole machine
 unfoldable pub wireAt : List ℕ → ℕ → Wire
 wireAt t i =
     let p = wireOffset i in
-    record { code = getD t p 0; a = getD t (p + 1) 0; b = getD t (p + 2) 0; c = getD t (p + 3) 0 }
+    record { code = getD t p 0; a = getD t (p + wireAOffset) 0; b = getD t (p + wireBOffset) 0; c = getD t (p + wireCOffset) 0 }
 
 abbrev pub firstWireAt : List ℕ → ℕ → ℕ
 firstWireAt t k = getD t (recordOffset k) 0
 
 abbrev pub wireCountAt : List ℕ → ℕ → ℕ
-wireCountAt t k = getD t (recordOffset k + 1) 0
+wireCountAt t k = getD t (recordOffset k + wireCountOffset) 0
 
 unfoldable pub stateAt : List ℕ → ℕ → State
 unfolding wireAt
@@ -59,17 +66,17 @@ stateAt t k =
     record {
       wires = map (wireAt t) (upFrom (firstWireAt t k) (wireCountAt t k));
       next = getD t (recordOffset k + nextStateOffset) 0;
-      nextRegisters = take (getD t 1 0) (drop (recordOffset k + nextRegistersOffset) t);
+      nextRegisters = take (registerCount t) (drop (recordOffset k + nextRegistersOffset) t);
     }
 
 unfoldable pub machineOf : List ℕ → FSMD
 unfolding stateAt
 machineOf t =
     record {
-      registers = getD t 1 0;
-      starters = take (getD t 0 0) (drop startersOffset t);
+      registers = registerCount t;
+      starters = take (stateCount t) (drop startersOffset t);
       blockStates = take maxBlocks (drop blockStatesOffset t);
-      states = map (stateAt t) (upFrom 0 (getD t 0 0));
+      states = map (stateAt t) (upFrom 0 (stateCount t));
     }
 
 -- ---- refusal 10: which tables are admitted
@@ -82,8 +89,8 @@ validReference r n x = ltb x r || (leb maxRegisters x && ltb x (maxRegisters + n
 unfoldable pub validWire : ℕ → ℕ → Wire → Bool
 unfolding arity
 validWire r n w =
-    leb 1 (w .code) && leb (w .code) 20
-    && (eqb (w .code) 1 || (ltb (arity (w .code)) 1 || validReference r n (w .a)))
+    leb firstCode (w .code) && leb (w .code) lastCode
+    && (eqb (w .code) setCode || (ltb (arity (w .code)) 1 || validReference r n (w .a)))
     && (ltb (arity (w .code)) 2 || validReference r n (w .b))
     && (ltb (arity (w .code)) 3 || validReference r n (w .c))
 
@@ -111,8 +118,8 @@ within t k = leb (firstWireAt t k + wireCountAt t k) maxWires
 unfoldable pub admitted : List ℕ → Bool
 unfolding stateAt validState
 admitted t =
-    let n = getD t 0 0 in
-    let r = getD t 1 0 in
+    let n = stateCount t in
+    let r = registerCount t in
     leb 1 n && leb n maxStates && leb 1 r && leb r maxRegisters
     && every (within t) (upFrom 0 n)
     && every (λ k. every (λ j. apart t j k) (upFrom 0 k)) (upFrom 0 n)

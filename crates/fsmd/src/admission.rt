@@ -4,17 +4,20 @@ ghost use mathlib.Core.Bool.{true, _||_};
 ghost use lib.Dec.{eqb, ltb};
 ghost use mathlib.Core.List.{map};
 ghost use Prim.Native.Nat.{_+_, _<_, _≤_};
-ghost use lib.ListN.{length, getD, take, drop};
+ghost use lib.ListN.{length, take, drop};
+ghost use Rattle.word.specs.Word.{setCode};
 ghost use Rattle.runs.specs.Lists.{upFrom, every};
 ghost use Rattle.fsmd.specs.Layout.{machineWords, maxStates, maxRegisters, maxWires};
-ghost use Rattle.fsmd.specs.Table.{wireAt, stateAt, firstWireAt, wireCountAt, validReference, validWire, validWires, validState, within as withinOf, apart as apartOf, admitted as admittedOf};
+ghost use Rattle.fsmd.specs.Table.{registerCount, wireAt, stateAt, firstWireAt, wireCountAt, validReference, validWire, validWires, validState, within as withinOf, apart as apartOf, admitted as admittedOf};
 use super::Machine;
 use super::Wire;
 use super::table::first_wire;
+use super::table::head_of;
 use super::table::record;
 use super::table::wide;
 use super::table::wire;
 use super::table::wire_count;
+use word::Code;
 
 // A reference is one of the registers, or one of the first n wires of the state.
 fn valid_reference(registers: usize, n: usize, x: u32) -> bool
@@ -43,9 +46,9 @@ fn valid_operand(registers: usize, n: usize, reads: u32, place: u32, x: u32) -> 
 
 // Operand a of wire n: a set's is its literal and no reference.
 fn valid_first(registers: usize, n: usize, code: u32, reads: u32, x: u32) -> bool
-    ensures { λ v. ⌜ v ≡ (eqb code 1 || (ltb reads 1 || validReference registers n x)) ⌝ }
+    ensures { λ v. ⌜ v ≡ (eqb code setCode || (ltb reads 1 || validReference registers n x)) ⌝ }
 {
-    if code == Wire::SET {
+    if code == Code::SET {
         true
     } else {
         valid_operand(registers, n, reads, 1, x)
@@ -57,10 +60,10 @@ fn valid_wire(registers: usize, n: usize, w: Wire) -> bool
     ensures { λ v. ⌜ v ≡ validWire registers n w ⌝ }
 {
     let code = w.code;
-    if code < Wire::SET {
+    if code < Code::FIRST {
         return false;
     }
-    if Wire::IN < code {
+    if Code::LAST < code {
         return false;
     }
     let reads = word::arity(code);
@@ -108,7 +111,7 @@ fn valid_state(table: &[u32], registers: usize, k: usize) -> bool
     requires { ⌜ machineWords ≤ length (now table) ⌝ }
     requires { ⌜ k < maxStates ⌝ }
     requires { ⌜ firstWireAt (now table) k + wireCountAt (now table) k ≤ maxWires ⌝ }
-    requires { ⌜ registers ≡ getD (now table) 1 0 ⌝ }
+    requires { ⌜ registers ≡ registerCount (now table) ⌝ }
     requires { ⌜ registers ≤ maxRegisters ⌝ }
     ensures { λ v. ⌜ v ≡ validState registers (stateAt (now (table .entry)) k) ⌝ }
 {
@@ -206,7 +209,7 @@ fn all_valid(table: &[u32], registers: usize, states: usize) -> bool
     requires { ⌜ machineWords ≤ length (now table) ⌝ }
     requires { ⌜ states ≤ maxStates ⌝ }
     requires { ⌜ every (withinOf (now table)) (upFrom 0 states) ≡ true ⌝ }
-    requires { ⌜ registers ≡ getD (now table) 1 0 ⌝ }
+    requires { ⌜ registers ≡ registerCount (now table) ⌝ }
     requires { ⌜ registers ≤ maxRegisters ⌝ }
     ensures { λ v. ⌜ v ≡ every (λ k. validState registers (stateAt (now (table .entry)) k)) (upFrom 0 states) ⌝ }
 {
@@ -225,8 +228,9 @@ pub fn admitted(table: &[u32]) -> bool
     requires { ⌜ machineWords ≤ length (now table) ⌝ }
     ensures { λ v. ⌜ v ≡ admittedOf (now (table .entry)) ⌝ }
 {
-    let states = wide(table[0]);
-    let registers = wide(table[1]);
+    let head = head_of(table);
+    let states = wide(head.states);
+    let registers = wide(head.registers);
     if states < 1 {
         return false;
     }

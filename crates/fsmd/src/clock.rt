@@ -7,7 +7,7 @@ ghost use lib.ListN.{length, getD, take, drop};
 ghost use Rattle.runs.specs.Lists.{upFrom};
 ghost use Rattle.fsmd.specs.Layout.{machineWords, maxRegisters, maxWires, roomWords};
 ghost use Rattle.fsmd.specs.Machine.{wireValue, worked, clock};
-ghost use Rattle.fsmd.specs.Table.{wireAt, stateAt, machineOf, validWires};
+ghost use Rattle.fsmd.specs.Table.{registerCount, wireAt, stateAt, machineOf, validWires};
 ghost use Rattle.fsmd.specs.Clock.{Ready, after};
 use super::Machine;
 use super::Wire;
@@ -16,6 +16,7 @@ use super::table::record;
 use super::table::wide;
 use super::table::wire;
 use super::table::wire_count;
+use word::Code;
 use word::Registers;
 
 // What a cycle gives: the registers, and the word of the next state.
@@ -39,7 +40,7 @@ fn value(words: &[u32], w: Wire, sampled: u32) -> u32
     requires { ⌜ length (now words) ≡ roomWords ⌝ }
     ensures { λ v. ⌜ v ≡ wireValue sampled (λ x. getD (now (words .entry)) (x % roomWords) 0) w ⌝ }
 {
-    if w.code == Wire::SET {
+    if w.code == Code::SET {
         return w.a;
     }
     let a = wide(w.a) % Machine::REFERENCES;
@@ -52,8 +53,8 @@ fn value(words: &[u32], w: Wire, sampled: u32) -> u32
 fn work(words: &mut [u32], table: &[u32], first: usize, count: usize, sampled: u32)
     requires { ⌜ machineWords ≤ length (now table) ⌝ }
     requires { ⌜ first + count ≤ maxWires ⌝ }
-    requires { ⌜ getD (now table) 1 0 ≤ maxRegisters ⌝ }
-    requires { ⌜ validWires (getD (now table) 1 0) 0 (map (wireAt (now table)) (upFrom first count)) ≡ true ⌝ }
+    requires { ⌜ registerCount (now table) ≤ maxRegisters ⌝ }
+    requires { ⌜ validWires (registerCount (now table)) 0 (map (wireAt (now table)) (upFrom first count)) ≡ true ⌝ }
     requires { ⌜ length (now words) ≡ roomWords ⌝ }
     ensures { λ _. ⌜ take (maxRegisters + count) (now (words .exit)) ≡ worked sampled (take maxRegisters (now (words .entry))) (map (wireAt (now (table .entry))) (upFrom first count)) ⌝ }
 {
@@ -111,7 +112,7 @@ pub fn cycle(table: &[u32], k: usize, registers: Registers, sampled: u32, words:
         n,
         table,
         at + Machine::NEXT_REGISTERS,
-        wide(table[1]),
+        wide(table[Machine::REGISTER_COUNT]),
         registers,
     );
     Next {

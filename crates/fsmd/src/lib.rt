@@ -1,4 +1,7 @@
 // The synthesised machine, a finite state machine with its datapath: limits, wires, and the layout of its table.
+use runs::RunAnswer;
+use word::Registers;
+
 pub mod table; // table.rt: words of a machine table
 pub mod admission; // admission.rt: which machine tables are admitted
 pub mod sampling; // sampling.rt: whether a machine reads the sampled word
@@ -13,21 +16,27 @@ pub struct Machine {
 
 impl Machine {
     // Limits.
-    pub const STATES: usize = 64;
+    pub const STATES: usize = RunAnswer::PLACES;
 
-    pub const BLOCKS: usize = 64;
+    pub const BLOCKS: usize = RunAnswer::PLACES;
 
-    pub const REGISTERS: usize = 16;
+    pub const REGISTERS: usize = Registers::COUNT;
 
     pub const WIRES: usize = 3072;
     // No block or no state.
-    pub const NONE: u32 = 255;
-    // Where in a state's record the next references are, and the words of a record.
+    pub const NONE: u32 = RunAnswer::NONE;
+    // Where the words of a state's record after its first wire are, and how many there are.
+    pub const WIRE_COUNT: usize = 1;
+
     pub const NEXT_STATE: usize = 2;
 
     pub const NEXT_REGISTERS: usize = 3;
 
     pub const RECORD: usize = Machine::NEXT_REGISTERS + Machine::REGISTERS;
+    // Where N and R stand.
+    pub const STATE_COUNT: usize = 0;
+
+    pub const REGISTER_COUNT: usize = 1;
     // Where the starters, the block states, the records and the wires begin, and the words of the whole table.
     pub const STARTERS: usize = 2;
 
@@ -51,9 +60,12 @@ pub struct Wire {
 }
 
 impl Wire {
-    pub const WORDS: usize = 4;
-    // The first code, a set, whose a is a literal; the last one, which gives the sampled word.
-    pub const SET: u32 = 1;
+    // Where a wire's words after its code stand, and how many there are.
+    pub const A: usize = 1;
 
-    pub const IN: u32 = 20;
+    pub const B: usize = 2;
+
+    pub const C: usize = 3;
+
+    pub const WORDS: usize = 4;
 }

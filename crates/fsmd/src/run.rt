@@ -3,11 +3,11 @@ ghost use mathlib.Core.Path.{_≡_};
 ghost use mathlib.Core.Bool.{true};
 ghost use mathlib.Core.List.{_++_};
 ghost use Prim.Native.Nat.{_<_, _≤_};
-ghost use lib.ListN.{length, getD, take, drop};
+ghost use lib.ListN.{length, take, drop};
 ghost use Rattle.runs.specs.Runs.{startAt, upTo, answer, registersAfter};
 ghost use Rattle.fsmd.specs.Layout.{machineWords, maxRegisters};
 ghost use Rattle.fsmd.specs.Machine.{machineRunner};
-ghost use Rattle.fsmd.specs.Table.{machineOf, admitted as admittedOf};
+ghost use Rattle.fsmd.specs.Table.{stateCount, machineOf, admitted as admittedOf};
 ghost use Rattle.fsmd.specs.Run.{runAnswer, runRegisters, wordsAnswer, wordsRegisters};
 use super::Machine;
 use super::admission::admitted;
@@ -35,12 +35,12 @@ pub fn run(
 ) -> Ran
     requires { ⌜ machineWords ≤ length (now table) ⌝ }
     requires { ⌜ admittedOf (now table) ≡ true ⌝ }
-    requires { ⌜ start < getD (now table) 0 0 ⌝ }
+    requires { ⌜ start < stateCount (now table) ⌝ }
     requires { ⌜ limit ≤ budget ⌝ }
     ensures { λ r. ⌜ r .answer ≡ answer (machineRunner (machineOf (now (table .entry)))) (upTo limit (now (words .entry))) budget (startAt start (registers .words)) ⌝ }
     ensures { λ r. ⌜ r .registers .words ≡ registersAfter (machineRunner (machineOf (now (table .entry)))) (upTo limit (now (words .entry))) budget (startAt start (registers .words)) ⌝ }
 {
-    let states = table[0];
+    let states = table[Machine::STATE_COUNT];
     let mut room = [0u32; Machine::REFERENCES];
     let mut file = registers;
     let mut state = start;
@@ -82,7 +82,7 @@ fn run_from(
 ) -> RunAnswer
     requires { ⌜ machineWords ≤ length (now table) ⌝ }
     requires { ⌜ admittedOf (now table) ≡ true ⌝ }
-    requires { ⌜ start < getD (now table) 0 0 ⌝ }
+    requires { ⌜ start < stateCount (now table) ⌝ }
     requires { ⌜ limit ≤ budget ⌝ }
     requires { ⌜ maxRegisters ≤ length (now registers) ⌝ }
     ensures { λ r. ⌜ r ≡ answer (machineRunner (machineOf (now (table .entry)))) (upTo limit (now (words .entry))) budget (startAt start (take maxRegisters (now (registers .entry)))) ⌝ }
@@ -112,7 +112,7 @@ pub fn run_machine(table: &[u32], registers: &mut [u32], start: u32, budget: u32
     if !is_wordless(table) {
         return RunAnswer::Refused(12);
     }
-    if table[0] <= start {
+    if table[Machine::STATE_COUNT] <= start {
         return RunAnswer::Refused(9);
     }
     run_from(table, registers, start, budget, budget, &[])
@@ -139,7 +139,7 @@ pub fn run_machine_with_words(
     if !admitted(table) {
         return RunAnswer::Refused(10);
     }
-    if table[0] <= start {
+    if table[Machine::STATE_COUNT] <= start {
         return RunAnswer::Refused(9);
     }
     let limit = runs::lasting(words, budget);

@@ -5,26 +5,28 @@ ghost use mathlib.Core.List.{map};
 ghost use Prim.Native.Nat.{_+_, _≤_};
 ghost use lib.Dec.{eqb};
 ghost use lib.ListN.{length};
+ghost use Rattle.word.specs.Word.{inCode};
 ghost use Rattle.runs.specs.Lists.{every, upFrom};
 ghost use Rattle.fsmd.specs.Layout.{machineWords, maxWires};
 ghost use Rattle.fsmd.specs.Machine.{wordless};
 ghost use Rattle.fsmd.specs.Table.{wireAt, machineOf, admitted};
-use super::Wire;
+use super::Machine;
 use super::table::first_wire;
 use super::table::wide;
 use super::table::wire;
 use super::table::wire_count;
+use word::Code;
 
 // None of these wires reads the sampled word.
 fn wires_wordless(table: &[u32], first: usize, count: usize) -> bool
     requires { ⌜ machineWords ≤ length (now table) ⌝ }
     requires { ⌜ first + count ≤ maxWires ⌝ }
-    ensures { λ r. ⌜ r ≡ every (λ w. not (eqb (w .code) 20)) (map (wireAt (now (table .entry))) (upFrom first count)) ⌝ }
+    ensures { λ r. ⌜ r ≡ every (λ w. not (eqb (w .code) inCode)) (map (wireAt (now (table .entry))) (upFrom first count)) ⌝ }
 {
     let mut n = 0;
     while n < count {
         let w = wire(table, first + n);
-        if w.code == Wire::IN {
+        if w.code == Code::IN {
             return false;
         }
         n += 1;
@@ -38,7 +40,7 @@ pub fn is_wordless(table: &[u32]) -> bool
     requires { ⌜ admitted (now table) ≡ true ⌝ }
     ensures { λ r. ⌜ r ≡ wordless (machineOf (now (table .entry))) ⌝ }
 {
-    let states = wide(table[0]);
+    let states = wide(table[Machine::STATE_COUNT]);
     let mut k = 0;
     while k < states {
         if !wires_wordless(table, first_wire(table, k), wire_count(table, k)) {

@@ -3,7 +3,7 @@ ghost use mathlib.Core.Path.{_≡_};
 ghost use Prim.Native.Nat.{_+_, _<_, _≤_, _^_};
 ghost use lib.ListN.{length};
 ghost use Rattle.fsmd.specs.Layout.{machineWords, maxStates, maxWires, recordOffset};
-ghost use Rattle.fsmd.specs.Table.{wireAt, firstWireAt, wireCountAt};
+ghost use Rattle.fsmd.specs.Table.{stateCount, registerCount, wireAt, firstWireAt, wireCountAt};
 use super::Machine;
 use super::Wire;
 
@@ -12,6 +12,17 @@ pub fn wide(x: u32) -> usize
     ensures { λ r. ⌜ (r ≡ x) × (r < 2 ^ 32) ⌝ }
 {
     x as usize
+}
+
+// N and R.
+pub fn head_of(table: &[u32]) -> Machine
+    requires { ⌜ machineWords ≤ length (now table) ⌝ }
+    ensures { λ r. ⌜ (r .states ≡ stateCount (now (table .entry))) × (r .registers ≡ registerCount (now (table .entry))) ⌝ }
+{
+    Machine {
+        states: table[Machine::STATE_COUNT],
+        registers: table[Machine::REGISTER_COUNT],
+    }
 }
 
 // Wire i of the whole machine.
@@ -23,9 +34,9 @@ pub fn wire(table: &[u32], i: usize) -> Wire
     let at = Machine::WIRE_WORDS + Wire::WORDS * i;
     Wire {
         code: table[at],
-        a: table[at + 1],
-        b: table[at + 2],
-        c: table[at + 3],
+        a: table[at + Wire::A],
+        b: table[at + Wire::B],
+        c: table[at + Wire::C],
     }
 }
 
@@ -52,5 +63,5 @@ pub fn wire_count(table: &[u32], k: usize) -> usize
     requires { ⌜ k < maxStates ⌝ }
     ensures { λ r. ⌜ (r ≡ wireCountAt (now (table .entry)) k) × (r < 2 ^ 32) ⌝ }
 {
-    wide(table[record(k) + 1])
+    wide(table[record(k) + Machine::WIRE_COUNT])
 }

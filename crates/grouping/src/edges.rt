@@ -2,6 +2,7 @@
 use cfg::Block;
 use cfg::Ending;
 use cfg::Graph;
+use fsmd::Machine;
 ghost use mathlib.Core.Path.{_≡_};
 ghost use mathlib.Core.Bool.{true};
 ghost use Prim.Native.Nat.{ℕ, _<_};
@@ -12,7 +13,7 @@ ghost use Rattle.fsmd.specs.Layout.{none};
 ghost use Rattle.grouping.specs.Bytes.{edgesIn};
 
 // The byte of no block and of no state.
-pub const NONE: u8 = 255;
+pub const NONE: u8 = Machine::NONE as u8;
 
 // The byte at i, or none past the end.
 pub fn at(bytes: &[u8], i: usize) -> u8
@@ -32,7 +33,7 @@ pub fn edges_of(table: &[u32]) -> [u8; 2 * Graph::BLOCKS]
     ensures { λ r. ⌜ ((n : ℕ) → edgesIn r n ≡ successors (graphOf (now (table .entry))) n) ⌝ }
 {
     let mut edges = [NONE; 2 * Graph::BLOCKS];
-    let blocks = table[0] as usize;
+    let blocks = table[Graph::BLOCK_COUNT] as usize;
     let mut n = 0;
     while n < blocks {
         let ending = cfg::decode::ending_at(table, Graph::HEAD + Block::WORDS * n + Block::ENDING);

@@ -3,10 +3,10 @@ use crate::lines;
 use fsmd::Machine;
 ghost use mathlib.Core.Path.{_≡_};
 ghost use Prim.Native.Nat.{_+_, _≤_, _<_};
-ghost use lib.ListN.{length, getD};
+ghost use lib.ListN.{length};
 ghost use Rattle.runs.specs.Lists.{occurrences};
 ghost use Rattle.fsmd.specs.Layout.{maxBlocks};
-ghost use Rattle.fsmd.specs.Table.{wireCountAt};
+ghost use Rattle.fsmd.specs.Table.{stateCount, wireCountAt};
 ghost use Rattle.cfg_write.specs.Put.{Put};
 ghost use Rattle.listing.specs.Listing.{maxListing};
 ghost use Rattle.listing.specs.Words.{starterAt, blocksAt, wiresAt, stateLineAt, stateLinesAt, tableListing, Listable};
@@ -42,20 +42,20 @@ fn wires_of(machine: &[u32]) -> u32
     requires { ⌜ Listable (now machine) ⌝ }
     ensures { λ r. ⌜ r ≡ wiresAt (now (machine .entry)) ⌝ }
 {
-    let last = (machine[0] - 1) as usize;
+    let last = (machine[Machine::STATE_COUNT] - 1) as usize;
     let at = Machine::RECORDS + Machine::RECORD * last;
-    machine[at] + machine[at + 1]
+    machine[at] + machine[at + Machine::WIRE_COUNT]
 }
 
 // The line of a state.
 fn put_line(machine: &[u32], k: u32, out: &mut [u8], at: usize) -> usize
     requires { ⌜ Listable (now machine) ⌝ }
-    requires { ⌜ (k < getD (now machine) 0 0) × (at < 65536) ⌝ }
+    requires { ⌜ (k < stateCount (now machine)) × (at < 65536) ⌝ }
     ensures { λ r. ⌜ Put 44 (now (out .entry)) (now (out .exit)) at (stateLineAt (now (machine .entry)) k) r ⌝ }
 {
     let i = k as usize;
     let starter = machine[Machine::STARTERS + i];
-    let wires = machine[Machine::RECORDS + Machine::RECORD * i + 1];
+    let wires = machine[Machine::RECORDS + Machine::RECORD * i + Machine::WIRE_COUNT];
     lines::put_state(out, at, k, starter, blocks_of(machine, k), wires)
 }
 
@@ -65,7 +65,7 @@ fn put_lines(machine: &[u32], out: &mut [u8], at: usize) -> usize
     requires { ⌜ at ≤ 64 ⌝ }
     ensures { λ r. ⌜ Put 2816 (now (out .entry)) (now (out .exit)) at (stateLinesAt (now (machine .entry))) r ⌝ }
 {
-    let n = machine[0];
+    let n = machine[Machine::STATE_COUNT];
     let mut end = at;
     let mut k: u32 = 0;
     while k < n {
@@ -80,6 +80,6 @@ pub fn put_listing(machine: &[u32], out: &mut [u8]) -> usize
     requires { ⌜ Listable (now machine) ⌝ }
     ensures { λ r. ⌜ Put maxListing (now (out .entry)) (now (out .exit)) 0 (tableListing (now (machine .entry))) r ⌝ }
 {
-    let at = lines::put_head(out, machine[0], wires_of(machine));
+    let at = lines::put_head(out, machine[Machine::STATE_COUNT], wires_of(machine));
     put_lines(machine, out, at)
 }

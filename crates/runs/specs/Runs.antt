@@ -8,6 +8,14 @@ use Rattle.word.specs.Word.{choose}
 use Rattle.runs.specs.declared.RunAnswer.{RunAnswer}
 use Rattle.runs.specs.declared.RunAnswer.the-variants.{Refused, Halted, Spent, Dry}
 
+-- the most blocks that a graph has, and states that a machine has
+abbrev pub maxPlaces : ℕ
+maxPlaces = 64
+
+-- "for blocks and states 255 stands for none"
+abbrev pub noPlace : ℕ
+noPlace = 255
+
 -- where control stands: at a block or in a state, or it has halted
 pub data Place : Type 0 where
   standing : ℕ → Place
@@ -130,6 +138,6 @@ countOf (Dry k n) = k
 
 abbrev pub nextOf : RunAnswer → ℕ
 nextOf (Refused n) = 0
-nextOf (Halted k) = 255
+nextOf (Halted k) = noPlace
 nextOf (Spent k n) = n
 nextOf (Dry k n) = n

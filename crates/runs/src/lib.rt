@@ -20,18 +20,25 @@ pub enum RunAnswer {
     Dry(u32, u32),
 }
 
+impl RunAnswer {
+    // The most blocks that a graph has, and states that a machine has.
+    pub const PLACES: usize = 64;
+    // No block and no state.
+    pub const NONE: u32 = 255;
+}
+
 // The first 16 words of a buffer.
 pub fn load(buffer: &[u32]) -> Registers
     requires { ⌜ fileWords ≤ length (now buffer) ⌝ }
     ensures { λ r. ⌜ r .words ≡ take fileWords (now (buffer .entry)) ⌝ }
 {
-    let mut words = [0u32; Registers::COUNT];
+    let mut file = Registers::zero();
     let mut i = 0;
     while i < Registers::COUNT {
-        words[i] = buffer[i];
+        file.words[i] = buffer[i];
         i += 1;
     }
-    Registers { words }
+    file
 }
 
 // The file's words as the first 16 of a buffer; the others stay.

@@ -16,7 +16,7 @@ use Rattle.cfg.specs.Layout.{maxInstructions, blockOffset, graphWords}
 use Rattle.cfg.specs.Graph.{codeOf}
 use Rattle.cfg.specs.Table.{blockAt}
 use Rattle.fsmd.specs.declared.Wire.{Wire}
-use Rattle.fsmd.specs.Layout.{maxStates, maxBlocks, maxRegisters, maxWires, wireWords, none}
+use Rattle.fsmd.specs.Layout.{maxStates, maxBlocks, maxRegisters, maxWires, wireWords, none, wireAOffset, wireBOffset, wireCOffset}
 use Rattle.fsmd.specs.Table.{wireWordsOf}
 use Rattle.grouping.specs.Grouping.{Groups}
 use Rattle.state.specs.Wires.{wire, set-wire, select-wire, Edge, Point, Build, fresh, selects, leadsTo, towards, enter, assigns, close, after}
@@ -26,7 +26,7 @@ use Rattle.state.specs.Wires.{wire, set-wire, select-wire, Edge, Point, 
 -- the first n wires of some words
 unfoldable pub wiresIn : ℕ → List ℕ → List Wire
 wiresIn zero t = []
-wiresIn (suc n) t = wire (getD t 0 0) (getD t 1 0) (getD t 2 0) (getD t 3 0) ∷ wiresIn n (drop wireWords t)
+wiresIn (suc n) t = wire (getD t 0 0) (getD t wireAOffset 0) (getD t wireBOffset 0) (getD t wireCOffset 0) ∷ wiresIn n (drop wireWords t)
 
 -- the words with these wires at their front
 unfoldable pub stored : List Wire → List ℕ → List ℕ

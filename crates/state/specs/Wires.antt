@@ -5,7 +5,7 @@ use mathlib.Core.Bool.{Bool, true, false, not}
 use mathlib.Core.List.{List, [], _∷_, _++_}
 use lib.ListN.{length, getD, set}
 use lib.Dec.{eqb, ltb}
-use Rattle.word.specs.Word.{choose, arity, codeOf as comparisonCode}
+use Rattle.word.specs.Word.{choose, arity, codeOf as comparisonCode, setCode, andCode, orCode, andNotCode, selectCode}
 use Rattle.runs.specs.Lists.{upFrom, mem, only}
 use Rattle.runs.specs.Runs.{Place, standing, halted}
 use Rattle.cfg.specs.declared.Instruction.{Instruction}
@@ -23,20 +23,20 @@ wire code a b c = record { code = code; a = a; b = b; c = c }
 
 -- the codes that synthesis adds by itself
 abbrev pub set-wire : ℕ → Wire
-set-wire w = wire 1 w 0 0
+set-wire w = wire setCode w 0 0
 
 abbrev pub and-wire : ℕ → ℕ → Wire
-and-wire a b = wire 5 a b 0
+and-wire a b = wire andCode a b 0
 
 abbrev pub or-wire : ℕ → ℕ → Wire
-or-wire a b = wire 6 a b 0
+or-wire a b = wire orCode a b 0
 
 abbrev pub and-not-wire : ℕ → ℕ → Wire
-and-not-wire a b = wire 18 a b 0
+and-not-wire a b = wire andNotCode a b 0
 
 -- b where a is nonzero, else c
 abbrev pub select-wire : ℕ → ℕ → ℕ → Wire
-select-wire a b c = wire 19 a b c
+select-wire a b c = wire selectCode a b c
 
 -- an edge out of a placed block: where it leads, the reference that says whether it is taken, and those of the registers along it
 pub record Edge : Type 0 where
@@ -91,7 +91,7 @@ unfoldable pub instructionWire : (ℕ → ℕ) → Instruction → Wire
 unfolding arity
 instructionWire at i =
     wire (i .code)
-    (choose (ltb (arity (i .code)) 1) 0 (choose (eqb (i .code) 1) (i .a) (at (i .a))))
+    (choose (ltb (arity (i .code)) 1) 0 (choose (eqb (i .code) setCode) (i .a) (at (i .a))))
     (choose (ltb (arity (i .code)) 2) 0 (at (i .b)))
     0
 

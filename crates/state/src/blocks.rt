@@ -11,12 +11,13 @@ use cfg::Graph;
 use cfg::Instruction;
 use cfg::decode;
 use fsmd::Wire;
+use word::Code;
 ghost use mathlib.Core.Path.{_≡_};
 ghost use mathlib.Core.List.{List, [], _∷_, _++_};
 ghost use Prim.Native.Nat.{_+_, _-_, _*_, _≤_, _<_};
 ghost use lib.ListN.{length, getD, set};
 ghost use lib.Dec.{eqb, ltb};
-ghost use Rattle.word.specs.Word.{choose, arity, codeOf as comparisonCode};
+ghost use Rattle.word.specs.Word.{choose, arity, setCode, codeOf as comparisonCode};
 ghost use Rattle.fsmd.specs.Layout.{maxRegisters, maxBlocks, maxWires};
 ghost use Rattle.cfg.specs.Layout.{blockOffset, graphWords, maxInstructions};
 ghost use Rattle.cfg.specs.Graph.{codeOf};
@@ -43,12 +44,12 @@ fn set_value(values: &mut [u32], register: u32, reference: u32)
 
 // A set's is its literal.
 fn first_operand(values: &[u32], i: Instruction) -> u32
-    ensures { λ r. ⌜ r ≡ choose (ltb (arity (i .code)) 1) 0 (choose (eqb (i .code) 1) (i .a) (getD (now (values .entry)) (i .a) 0)) ⌝ }
+    ensures { λ r. ⌜ r ≡ choose (ltb (arity (i .code)) 1) 0 (choose (eqb (i .code) setCode) (i .a) (getD (now (values .entry)) (i .a) 0)) ⌝ }
 {
     if word::arity(i.code) < 1 {
         return 0;
     }
-    if i.code == 1 {
+    if i.code == Code::SET {
         return i.a;
     }
     value_of(values, i.a)

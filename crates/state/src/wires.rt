@@ -1,6 +1,7 @@
 // The wires of a state in the making: one wire, a register's selections, a join.
 use fsmd::Machine;
 use fsmd::Wire;
+use word::Code;
 ghost use mathlib.Core.Path.{_≡_};
 ghost use mathlib.Core.List.{List, [], _∷_};
 ghost use Prim.Native.Nat.{_+_, _≤_, _<_};
@@ -14,7 +15,7 @@ pub fn set_wire(word: u32) -> Wire
     ensures { λ r. ⌜ r ≡ «set-wire» word ⌝ }
 {
     Wire {
-        code: 1,
+        code: Code::SET,
         a: word,
         b: 0,
         c: 0,
@@ -25,7 +26,7 @@ pub fn and_wire(a: u32, b: u32) -> Wire
     ensures { λ r. ⌜ r ≡ «and-wire» a b ⌝ }
 {
     Wire {
-        code: 5,
+        code: Code::AND,
         a,
         b,
         c: 0,
@@ -36,7 +37,7 @@ pub fn or_wire(a: u32, b: u32) -> Wire
     ensures { λ r. ⌜ r ≡ «or-wire» a b ⌝ }
 {
     Wire {
-        code: 6,
+        code: Code::OR,
         a,
         b,
         c: 0,
@@ -47,7 +48,7 @@ pub fn and_not_wire(a: u32, b: u32) -> Wire
     ensures { λ r. ⌜ r ≡ «and-not-wire» a b ⌝ }
 {
     Wire {
-        code: 18,
+        code: Code::AND_NOT,
         a,
         b,
         c: 0,
@@ -58,7 +59,12 @@ pub fn and_not_wire(a: u32, b: u32) -> Wire
 pub fn select_wire(a: u32, b: u32, c: u32) -> Wire
     ensures { λ r. ⌜ r ≡ «select-wire» a b c ⌝ }
 {
-    Wire { code: 19, a, b, c }
+    Wire {
+        code: Code::SELECT,
+        a,
+        b,
+        c,
+    }
 }
 
 // The reference of wire `at` of the state.
@@ -76,9 +82,9 @@ pub fn emit(wires: &mut [u32], at: usize, w: Wire)
 {
     let start = Wire::WORDS * at;
     wires[start] = w.code;
-    wires[start + 1] = w.a;
-    wires[start + 2] = w.b;
-    wires[start + 3] = w.c;
+    wires[start + Wire::A] = w.a;
+    wires[start + Wire::B] = w.b;
+    wires[start + Wire::C] = w.c;
 }
 
 // For each register in rising order: the source's value where the edge is taken, else the one so far.

@@ -66,8 +66,8 @@ fn write_head(table: &mut [u32], count: u32, registers: u32, starters: &[u8], st
     ensures { λ r. ⌜ now (table .exit) ≡ withStates (count ∷ registers ∷ (now (starters .entry) ++ now (states .entry))) [] ⌝ }
 {
     clear(table);
-    table[0] = count;
-    table[1] = registers;
+    table[Machine::STATE_COUNT] = count;
+    table[Machine::REGISTER_COUNT] = registers;
     copy_bytes(table, Machine::STARTERS, starters);
     copy_bytes(table, Machine::BLOCK_STATES, states);
 }
@@ -85,7 +85,7 @@ fn write_record(
     ensures { λ r. ⌜ now (words .exit) ≡ written at (first ∷ count ∷ next ∷ now (registers .entry)) (now (words .entry)) ⌝ }
 {
     words[at] = first as u32;
-    words[at + 1] = count as u32;
+    words[at + Machine::WIRE_COUNT] = count as u32;
     words[at + Machine::NEXT_STATE] = next;
     copy_words(words, at + Machine::NEXT_REGISTERS, registers);
 }
@@ -124,7 +124,7 @@ fn one_state(
 {
     let mut blocks = [0u8; Graph::BLOCKS];
     let count = placement::place(edges, states, starts, k as u8, &mut blocks);
-    let registers = graph[1] as usize;
+    let registers = graph[Graph::REGISTER_COUNT] as usize;
     let mut values = [0u32; Machine::REGISTERS];
     let at = Machine::WIRE_WORDS + Wire::WORDS * first;
     let made = state::make(
@@ -193,13 +193,19 @@ fn fill(graph: &[u32], table: &mut [u32])
     let count = grouping.count;
     let list = grouping.starters;
     let bytes = grouping.states;
-    let blocks = graph[0] as usize;
+    let blocks = graph[Graph::BLOCK_COUNT] as usize;
     let edges = edges::edges_of(graph);
     let starts = starter_marks(&list[..count]);
     // Room for the edges of one state after another: to clear it for each would cost more than most states.
     let mut targets = [0u32; Progress::EDGES];
     let mut rows = [0u32; Progress::ROW * Progress::EDGES];
-    write_head(table, count as u32, graph[1], &list, &bytes);
+    write_head(
+        table,
+        count as u32,
+        graph[Graph::REGISTER_COUNT],
+        &list,
+        &bytes,
+    );
     all_states(
         graph,
         &edges,

@@ -9,12 +9,12 @@ use lib.Dec.{eqb}
 use borrow.Author.Tests.{eq-eqb, ne-eqb}
 use Rattle.word.specs.Word.{choose}
 use Rattle.word.specs.declared.Registers.{Registers}
-use Rattle.word.specs.RegisterFile.{withWord, wordAt}
+use Rattle.word.specs.RegisterFile.{withWord}
 
-pub write-same : (r : Registers) (i w : ℕ) → i < length (r .words) → wordAt (withWord r i w) i ≡ w
+pub write-same : (r : Registers) (i w : ℕ) → i < length (r .words) → getD (withWord r i w .words) i 0 ≡ w
 write-same r i w h = getD-set-same (r .words) i w 0 h
 
-pub write-other : (r : Registers) (i j w : ℕ) → (j ≡ i → ⊥) → wordAt (withWord r i w) j ≡ wordAt r j
+pub write-other : (r : Registers) (i j w : ℕ) → (j ≡ i → ⊥) → getD (withWord r i w .words) j 0 ≡ getD (r .words) j 0
 write-other r i j w h = getD-set-other (r .words) i j w 0 h
 
 pub write-length : (r : Registers) (i w : ℕ) → length (withWord r i w .words) ≡ length (r .words)

@@ -3,14 +3,12 @@ use Prim.Native.Nat.{ℕ, suc, _+_, _-_, _*_, _/_, _%_, _^_}
 use mathlib.Core.Bool.{Bool, true, false, not}
 use lib.IntN.{ℤ, pos, negsuc}
 use lib.Signed.{ltZ, leZ, shrZ}
-use mathlib.Core.List.{List, [], _∷_, _++_}
-use lib.ListN.{getD, replicate}
+use mathlib.Core.List.{List, [], _∷_}
+use lib.ListN.{getD}
 use lib.Dec.{ltb, leb, eqb}
 use lib.Bits.{bitAnd, bitOr, bitXor}
 use Rattle.word.specs.declared.Comparison.{Comparison}
 use Rattle.word.specs.declared.Comparison.the-variants.{Eq, Ne, Lt, Ge, Ltu, Geu}
-use Rattle.word.specs.declared.MaybeComparison.{MaybeComparison}
-use Rattle.word.specs.declared.MaybeComparison.the-variants.{Is, None}
 
 -- the first where the test holds, else the second
 abbrev pub choose {ℓ} : {X : Type ℓ} → Bool → X → X → X
@@ -76,13 +74,12 @@ codeOf Ge = 15
 codeOf Ltu = 16
 codeOf Geu = 17
 
--- the comparisons by code, from code 0: the first stands at 12
-abbrev pub comparisons : List MaybeComparison
-comparisons = replicate 12 None ++ (Is Eq ∷ Is Ne ∷ Is Lt ∷ Is Ge ∷ Is Ltu ∷ Is Geu ∷ [])
+abbrev pub firstComparison : ℕ
+firstComparison = codeOf Eq
 
--- the comparison of a code, if it has one
-unfoldable pub comparisonAt : ℕ → MaybeComparison
-comparisonAt code = getD comparisons code None
+-- the comparison of a code; what a code that is none stands for is of no matter
+abbrev pub comparisonAt : ℕ → Comparison
+comparisonAt code = getD (Eq ∷ Ne ∷ Lt ∷ Ge ∷ Ltu ∷ Geu ∷ []) (code - firstComparison) Eq
 
 -- a comparison's value is 1 or 0
 abbrev pub truth : Bool → ℕ
@@ -92,6 +89,38 @@ truth false = 0
 -- code 18: a and not b, bit by bit
 abbrev pub andNotOf : ℕ → ℕ → ℕ
 andNotOf a b = bitAnd a (2 ^ 32 - 1 - b)
+
+-- ---- the codes that are spoken of by name
+
+abbrev pub setCode : ℕ
+setCode = 1
+
+abbrev pub andCode : ℕ
+andCode = 5
+
+abbrev pub orCode : ℕ
+orCode = 6
+
+-- the last of the instructions that read registers
+abbrev pub sxCode : ℕ
+sxCode = 11
+
+abbrev pub andNotCode : ℕ
+andNotCode = 18
+
+abbrev pub selectCode : ℕ
+selectCode = 19
+
+abbrev pub inCode : ℕ
+inCode = 20
+
+abbrev pub firstCode : ℕ
+firstCode = setCode
+
+abbrev pub lastCode : ℕ
+lastCode = inCode
+
+-- ---- what they give
 
 -- the results by code, from code 0, which is none; `sampled` is the word sampled at the start of the cycle
 abbrev pub results : ℕ → ℕ → ℕ → ℕ → List ℕ

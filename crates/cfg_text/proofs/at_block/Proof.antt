@@ -9,6 +9,7 @@ use lib.Dec.{eqb, ltb}
 use denote.Ref.{now}
 use borrow.Author.Tests.{eq-eqb, ne-eqb, lt-ltb, le-ltb}
 use Rattle.cfg_line.specs.declared.Line.the-variants as line
+use Rattle.cfg_text.specs.declared.ReadAnswer.the-variants.{Refused}
 use Rattle.cfg_text.specs.Walk.{Progress, start, between, inside, next}
 use Rattle.cfg_text.specs.Place.{Stands, Agrees, Answers}
 use Rattle.cfg_text.proofs.Otherwise.{not-block}
@@ -18,25 +19,25 @@ use Rattle.cfg_text.proofs.at_block.Statement.{statement}
 use Rattle.cfg_text.proofs.at_block.Tie as tie
 
 returns : tie.Need-returns
-returns c = λ b r bs w s. rw (not-block b r bs (c .before .before .args .l) (c .before .match .keys2)) (c .misfit .ensures)
+returns c = λ b r bs w s. rw (not-block b r bs (c .before .before .args .l) (c .before .match .keys2)) (ap (λ (k : ℕ). Refused k (c .before .before .args .n)) (c .misfit .ensures))
 
 returns-2 : tie.Need-returns-2
 unfolding next
 returns-2 c =
-    let n = c .before .before .before .l .given .0 .0 in
-    λ b r bs w s. rw (c .before .before .before .l .given .1) (not-next (c .before .before .before .before .before .args .p) w b r bs s n (c .if1 .taken))
+    let k = c .before .before .before .l .given .0 .0 in
+    λ b r bs w s. rw (c .before .before .before .l .given .1) (not-next (c .before .before .before .before .before .args .p) w b r bs s k (c .before .before .before .before .before .args .n) (c .if1 .taken))
 
 returns-3 : tie.Need-returns-3
 unfolding next
 returns-3 c =
-    let n = c .before .before .before .before .before .l .given .0 .0 in
-    λ b r bs w s. rw (c .before .before .before .before .before .l .given .1) (past-last (c .before .before .before .before .before .before .before .args .p) w b r bs s n (c .before .before .if1 .left) (c .if2 .taken))
+    let k = c .before .before .before .before .before .l .given .0 .0 in
+    λ b r bs w s. rw (c .before .before .before .before .before .l .given .1) (past-last (c .before .before .before .before .before .before .before .args .p) w b r bs s k (c .before .before .before .before .before .before .before .args .n) (c .before .before .if1 .left) (c .if2 .taken))
 
 returns-4 : tie.Need-returns-4
 unfolding next
 returns-4 c =
-    let n = c .before .before .before .before .before .l .given .0 .0 in
-    λ b r bs w s. rw (c .before .before .before .before .before .l .given .1) (begins (c .before .before .before .before .before .before .before .args .p) w b r bs s n (c .before .before .if1 .left) (c .if2 .left))
+    let k = c .before .before .before .before .before .l .given .0 .0 in
+    λ b r bs w s. rw (c .before .before .before .before .before .l .given .1) (begins (c .before .before .before .before .before .before .before .args .p) w b r bs s k (c .before .before .before .before .before .before .before .args .n) (c .before .before .if1 .left) (c .if2 .left))
 
 pub at-block-spec : {M : Type 1} → statement M
 at-block-spec =

@@ -9,6 +9,7 @@ use lib.Dec.{eqb, ltb}
 use denote.Ref.{now}
 use borrow.Author.Tests.{eq-eqb, ne-eqb, lt-ltb, le-ltb}
 use Rattle.cfg_line.specs.declared.Line.the-variants as line
+use Rattle.cfg_text.specs.declared.ReadAnswer.the-variants.{Refused}
 use Rattle.cfg_text.specs.Walk.{Progress, start, between, inside, next}
 use Rattle.cfg_text.specs.Place.{Stands, Agrees, Answers}
 use Rattle.cfg_text.proofs.Otherwise.{not-graph}
@@ -18,7 +19,7 @@ use Rattle.cfg_text.proofs.at_start.Statement.{statement}
 use Rattle.cfg_text.proofs.at_start.Tie as tie
 
 returns : tie.Need-returns
-returns c = λ e. rw (not-graph (c .before .before .before .args .l) (c .before .match .keys2)) (c .misfit .ensures)
+returns c = λ e. rw (not-graph (c .before .before .before .args .l) (c .before .match .keys2)) (ap (λ (k : ℕ). Refused k (c .before .before .before .args .n)) (c .misfit .ensures))
 
 returns-2 : tie.Need-returns-2
 unfolding next

@@ -21,18 +21,20 @@ returns : tie.Need-returns
 unfolding next
 returns c =
     let p = c .before .before .before .args .p in
+    let m = c .before .before .before .args .n in
     let t = c .before .before .before .args .t in
     let w = now (c .before .before .before .args .words) in
-    λ b r bs is s. bad-target p w b r bs is s (ending.Goto t) _ refl (rw (le-ltb t b (rw (in-blocks p w b r bs is s) at (c .if1 .taken))))
+    λ b r bs is s. bad-target p w b r bs is s m (ending.Goto t) _ refl (rw (le-ltb t b (rw (in-blocks p w b r bs is s m) at (c .if1 .taken))))
 
 returns-2 : tie.Need-returns-2
 unfolding next
 returns-2 c =
     let p = c .before .before .before .before .before .before .before .args .p in
+    let m = c .before .before .before .before .before .before .before .args .n in
     let t = c .before .before .before .before .before .before .before .args .t in
     let w = now (c .before .before .before .before .before .before .before .args .words) in
     λ b r bs is s.
-    ends p w b r bs is s (ending.Goto t) _ _ refl (rw (lt-ltb t b (rw (in-blocks p w b r bs is s) at (c .before .before .before .before .if1 .left)))) (c .before .before .end-block .ensures .0) (c .before .before .end-block .ensures .1)
+    ends p w b r bs is s m (ending.Goto t) _ _ refl (rw (lt-ltb t b (rw (in-blocks p w b r bs is s m) at (c .before .before .before .before .if1 .left)))) (c .before .before .end-block .ensures .0) (c .before .before .end-block .ensures .1)
 
 pub goto-spec : {M : Type 1} → statement M
 goto-spec = tie.close (tie.spec returns (λ c κs. search needs) (λ c. search needs) returns-2)

@@ -31,7 +31,7 @@ unfolding next
 returns-4 c =
     λ b r bs is s.
     rw (c .before .before .before .before .enum-told .given .1)
-    (ends (c .before .before .before .before .before .before .before .args .p) (now (c .before .before .before .before .before .before .before .args .words)) b r bs is s ending.Halt _ _ refl refl (c .before .before .end-block .ensures .0) (c .before .before .end-block .ensures .1))
+    (ends (c .before .before .before .before .before .before .before .args .p) (now (c .before .before .before .before .before .before .before .args .words)) b r bs is s (c .before .before .before .before .before .before .before .args .n) ending.Halt _ _ refl refl (c .before .before .end-block .ensures .0) (c .before .before .end-block .ensures .1))
 
 returns-5 : tie.Need-returns-5
 unfolding next

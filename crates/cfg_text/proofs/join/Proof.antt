@@ -20,25 +20,28 @@ returns : tie.Need-returns
 unfolding next
 returns c =
     let p = c .before .before .before .args .p in
+    let m = c .before .before .before .args .n in
     let i = c .before .before .before .args .i in
     let w = now (c .before .before .before .args .words) in
-    λ b r bs is s. ninth p w b r bs is s i (c .if1 .taken)
+    λ b r bs is s. ninth p w b r bs is s m i (c .if1 .taken)
 
 returns-2 : tie.Need-returns-2
 unfolding next
 returns-2 c =
     let p = c .before .before .before .before .before .before .before .before .before .before .before .before .args .p in
+    let m = c .before .before .before .before .before .before .before .before .before .before .before .before .args .n in
     let i = c .before .before .before .before .before .before .before .before .before .before .before .before .args .i in
     let w = now (c .before .before .before .before .before .before .before .before .before .before .before .before .args .words) in
-    λ b r bs is s. joins p w b r bs is s i _ (c .before .before .before .before .before .before .before .before .before .if1 .left) (sym (c .before .before .before .before .before .before .before .before .registers-below .ensures) ∙ c .before .before .before .before .before .before .before .if2 .taken) (c .before .before .before .put-four .ensures)
+    λ b r bs is s. joins p w b r bs is s m i _ (c .before .before .before .before .before .before .before .before .before .if1 .left) (sym (c .before .before .before .before .before .before .before .before .registers-below .ensures) ∙ c .before .before .before .before .before .before .before .if2 .taken) (c .before .before .before .put-four .ensures)
 
 returns-3 : tie.Need-returns-3
 unfolding next
 returns-3 c =
     let p = c .before .before .before .before .before .args .p in
+    let m = c .before .before .before .before .before .args .n in
     let i = c .before .before .before .before .before .args .i in
     let w = now (c .before .before .before .before .before .args .words) in
-    λ b r bs is s. bad-register p w b r bs is s i _ (c .before .before .if1 .left) (sym (c .before .registers-below .ensures) ∙ c .if2 .left)
+    λ b r bs is s. bad-register p w b r bs is s m i _ (c .before .before .if1 .left) (sym (c .before .registers-below .ensures) ∙ c .if2 .left)
 
 pub join-spec : {M : Type 1} → statement M
 join-spec =

@@ -11,17 +11,17 @@ use Rattle.runs.proofs.load.Statement.{statement}
 use Rattle.runs.proofs.load.Tie as tie
 
 abbrev Inv-loop : tie.InvT-loop
-Inv-loop buffer words₀ i₀ words i = (i ≤ fileWords) × (words ≡ take i buffer ++ drop i (replicate fileWords 0))
+Inv-loop buffer file₀ i₀ file i = (i ≤ fileWords) × (file .words ≡ take i buffer ++ drop i (replicate fileWords 0))
 
 abbrev μ-loop : tie.MeasureT-loop
-μ-loop buffer words₀ i₀ words i = fileWords - i
+μ-loop buffer file₀ i₀ file i = fileWords - i
 
 loop-holds : tie.Need-loop-holds Inv-loop μ-loop
-loop-holds c = (omega arith, refl)
+loop-holds c = (omega arith, rw (c .zero .ensures))
 
 loop-again : tie.Need-loop-again Inv-loop μ-loop
 loop-again c =
-    let k = c .before .before .before in
+    let k = c .before .before .before .before .before in
     let l = c .before .before .loop in
     (omega arith, rw (l .inv .1) (copied-more (replicate fileWords 0) (k .args .buffer .now) (l .i) (c .before .loop-test .taken) (omega arith)))
 
@@ -37,6 +37,7 @@ load-spec =
     (tie.spec
     Inv-loop
     μ-loop
+    (λ c κs. search needs)
     loop-holds
     (λ c. search needs)
     (λ c. search needs)

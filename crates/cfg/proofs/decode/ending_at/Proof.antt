@@ -13,7 +13,7 @@ returns c =
 returns-2 : tie.Need-returns-2
 returns-2 c =
     let k = c .before .before .before .before .before .before .before .before .before in
-    rw (c .before .before .before .before .comparison-of .ensures) (sym (ending-ite (k .args .table .now) (k .args .at) (c .before .before .before .before .before .before .match .keys2)))
+    rw (c .before .before .before .before .decode .ensures) (sym (ending-ite (k .args .table .now) (k .args .at) (c .before .before .before .before .before .before .match .keys2)))
 
 returns-3 : tie.Need-returns-3
 returns-3 c =

@@ -12,15 +12,15 @@ use super::Machine;
 use super::Wire;
 use super::table::first_wire;
 use super::table::record;
-use super::table::wide;
 use super::table::wire;
 use super::table::wire_count;
+use buffers::word_index;
 
 // A reference is one of the registers, or one of the first n wires of the state.
 fn valid_reference(registers: usize, n: usize, x: u32) -> bool
     ensures { λ v. ⌜ v ≡ validReference registers n x ⌝ }
 {
-    let i = wide(x);
+    let i = word_index(x);
     if i < registers {
         return true;
     }
@@ -225,8 +225,8 @@ pub fn admitted(table: &[u32]) -> bool
     requires { ⌜ machineWords ≤ length (now table) ⌝ }
     ensures { λ v. ⌜ v ≡ admittedOf (now (table .entry)) ⌝ }
 {
-    let states = wide(table[0]);
-    let registers = wide(table[1]);
+    let states = word_index(table[0]);
+    let registers = word_index(table[1]);
     if states < 1 {
         return false;
     }

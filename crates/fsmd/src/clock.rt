@@ -13,9 +13,9 @@ use super::Machine;
 use super::Wire;
 use super::table::first_wire;
 use super::table::record;
-use super::table::wide;
 use super::table::wire;
 use super::table::wire_count;
+use buffers::word_index;
 use word::Registers;
 
 // What a cycle gives: the registers, and the word of the next state.
@@ -29,7 +29,7 @@ fn read(words: &[u32], n: usize, x: u32) -> u32
     requires { ⌜ n ≤ length (now words) ⌝ }
     ensures { λ v. ⌜ v ≡ getD (take n (now (words .entry))) x 0 ⌝ }
 {
-    let i = wide(x);
+    let i = word_index(x);
     if i < n { words[i] } else { 0 }
 }
 
@@ -42,9 +42,9 @@ fn value(words: &[u32], w: Wire, sampled: u32) -> u32
     if w.code == Wire::SET {
         return w.a;
     }
-    let a = wide(w.a) % Machine::REFERENCES;
-    let b = wide(w.b) % Machine::REFERENCES;
-    let c = wide(w.c) % Machine::REFERENCES;
+    let a = word_index(w.a) % Machine::REFERENCES;
+    let b = word_index(w.b) % Machine::REFERENCES;
+    let c = word_index(w.c) % Machine::REFERENCES;
     word::eval(sampled, w.code, words[a], words[b], words[c])
 }
 
@@ -111,7 +111,7 @@ pub fn cycle(table: &[u32], k: usize, registers: Registers, sampled: u32, words:
         n,
         table,
         at + Machine::NEXT_REGISTERS,
-        wide(table[1]),
+        word_index(table[1]),
         registers,
     );
     Next {

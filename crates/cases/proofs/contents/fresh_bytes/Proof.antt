@@ -1,11 +1,11 @@
--- `cases::buffers::fresh_bytes` is safe and ends: the buffer keeps its length. Assumes nothing.
+-- `cases::contents::fresh_bytes` is safe and ends: the buffer keeps its length. Assumes nothing.
 use native.Mathlib.Omega.{arith}
 use lib.ListN.{length-set, length}
 use Prim.Native.Nat.{_≤_, _-_}
 use mathlib.Core.Path.{_≡_}
 use borrow.Author.Needs.{needs}
-use Rattle.cases.proofs.buffers.fresh_bytes.Statement.{statement}
-use Rattle.cases.proofs.buffers.fresh_bytes.Tie as tie
+use Rattle.cases.proofs.contents.fresh_bytes.Statement.{statement}
+use Rattle.cases.proofs.contents.fresh_bytes.Tie as tie
 
 abbrev Inv-loop : tie.InvT-loop
 Inv-loop b₀ v₀ i₀ b v i = (i ≤ length b) × (length b ≡ length b₀)

@@ -1,11 +1,11 @@
--- `cases::buffers::fresh_words` is safe and ends: the buffer keeps its length. Assumes nothing.
+-- `cases::contents::fresh_words` is safe and ends: the buffer keeps its length. Assumes nothing.
 use native.Mathlib.Omega.{arith}
 use lib.ListN.{length-set, length}
 use Prim.Native.Nat.{_≤_, _-_}
 use mathlib.Core.Path.{_≡_}
 use borrow.Author.Needs.{needs}
-use Rattle.cases.proofs.buffers.fresh_words.Statement.{statement}
-use Rattle.cases.proofs.buffers.fresh_words.Tie as tie
+use Rattle.cases.proofs.contents.fresh_words.Statement.{statement}
+use Rattle.cases.proofs.contents.fresh_words.Tie as tie
 
 abbrev Inv-loop : tie.InvT-loop
 Inv-loop w₀ v₀ i₀ w v i = (i ≤ length w) × (length w ≡ length w₀)

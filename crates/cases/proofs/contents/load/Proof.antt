@@ -1,11 +1,11 @@
--- `cases::buffers::load` is safe and ends: the buffer keeps its length. Assumes nothing.
+-- `cases::contents::load` is safe and ends: the buffer keeps its length. Assumes nothing.
 use native.Mathlib.Omega.{arith}
 use lib.ListN.{length-set, length}
 use Prim.Native.Nat.{_≤_, _-_}
 use mathlib.Core.Path.{_≡_}
 use borrow.Author.Needs.{needs}
-use Rattle.cases.proofs.buffers.load.Statement.{statement}
-use Rattle.cases.proofs.buffers.load.Tie as tie
+use Rattle.cases.proofs.contents.load.Statement.{statement}
+use Rattle.cases.proofs.contents.load.Tie as tie
 
 abbrev Inv-loop : tie.InvT-loop
 Inv-loop w₀ s at c₀ i₀ w c i = (i ≤ length w) × (length w ≡ length w₀)

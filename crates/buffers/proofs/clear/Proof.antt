@@ -4,7 +4,7 @@ use native.Mathlib.Numerals.{add-one}
 use native.Mathlib.Omega.{arith}
 use mathlib.Core.Path.{_≡_, refl, sym, ap, _∙_}
 use mathlib.Core.List.{List, [], _∷_, _++_}
-use lib.ListN.{length, take, set, replicate, length-set, replicate-append-replicate}
+use lib.ListN.{length, take, set, replicate, replicate-append-replicate}
 use lib.Seq.{take-all, take-suc-set}
 use borrow.Author.Needs.{needs}
 use Rattle.buffers.proofs.clear.Statement.{statement}
@@ -23,7 +23,7 @@ loop-again : tie.Need-loop-again Inv-loop μ-loop
 loop-again c =
     let l = c .before .loop in (
       omega arith,
-      length-set (l .words) (l .i) 0 ∙ l .inv .1,
+      search needs,
       ap (λ (n : ℕ). take n (set (l .words) (l .i) 0)) (add-one (l .i))
           ∙ take-suc-set (l .words) (l .i) 0 (c .loop-test .taken)
           ∙ ap (λ (x : List ℕ). x ++ (0 ∷ [])) (l .inv .2)

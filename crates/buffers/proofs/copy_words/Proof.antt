@@ -3,7 +3,7 @@ use Prim.Native.Nat.{_+_, _≤_, _-_}
 use native.Mathlib.Nat.{add-zero}
 use native.Mathlib.Omega.{arith}
 use mathlib.Core.Path.{_≡_, refl, _∙_}
-use lib.ListN.{length, getD, drop, length-set, drop-of-length-le}
+use lib.ListN.{length, drop, drop-of-length-le}
 use lib.Seq.{sets}
 use borrow.Author.Needs.{needs}
 use Rattle.buffers.proofs.Copies.{sets-next}
@@ -25,7 +25,7 @@ loop-again c =
     let a = c .before .before .before .args in
     let s = a .from .now in (
       omega arith,
-      length-set (l .to) (a .at + l .i) (getD s (l .i) 0) ∙ l .inv .1,
+      search needs,
       sets-next (l .to) s (a .at) (l .i) 0 (c .before .loop-test .taken) ∙ l .inv .2,
     )
 

@@ -3,7 +3,7 @@ use Prim.Native.Nat.{ℕ, _+_, _≤_, _-_}
 use native.Mathlib.Nat.{add-zero}
 use native.Mathlib.Omega.{arith}
 use mathlib.Core.Path.{_≡_, refl, ap, _∙_}
-use lib.ListN.{length, drop, set, length-set, drop-of-length-le}
+use lib.ListN.{length, drop, set, drop-of-length-le}
 use lib.Seq.{sets}
 use borrow.Author.Needs.{needs}
 use Rattle.buffers.proofs.Copies.{sets-next}
@@ -26,7 +26,7 @@ loop-again c =
     let s = a .from .now in
     let w = c .byte-word in (
       omega (arith, c .before .before .loop-test .taken),
-      length-set (l .to) (a .at + l .i) (w .result) ∙ l .inv .1,
+      search needs,
       ap (λ (v : ℕ). sets (set (l .to) (a .at + l .i) v) (a .at + (l .i + 1)) (drop (l .i + 1) s)) (w .ensures .0)
           ∙ sets-next (l .to) s (a .at) (l .i) 0 (c .before .before .loop-test .taken) ∙ l .inv .2,
     )

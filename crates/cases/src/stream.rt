@@ -1,4 +1,5 @@
 // A case's parts, taken from a stream of bytes. Every number is a word of four bytes, the least significant first.
+use buffers::byte_word;
 ghost use mathlib.Core.Path.{_≡_};
 ghost use Prim.Native.Nat.{_≤_};
 ghost use lib.ListN.{length};
@@ -91,17 +92,11 @@ impl Case {
     pub const BYTES: usize = 29704;
 }
 
-fn wide(b: u8) -> u32
-    ensures { λ r. ⌜ r ≤ 255 ⌝ }
-{
-    b as u32
-}
-
 // The first four bytes as a word.
 fn first_word(s: &[u8]) -> u32
     requires { ⌜ 4 ≤ length (now s) ⌝ }
 {
-    wide(s[0]) + 256 * (wide(s[1]) + 256 * (wide(s[2]) + 256 * wide(s[3])))
+    byte_word(s[0]) + 256 * (byte_word(s[1]) + 256 * (byte_word(s[2]) + 256 * byte_word(s[3])))
 }
 
 // Nothing is there: 0, and no good from here on.

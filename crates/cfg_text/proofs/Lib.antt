@@ -5,5 +5,4 @@ pub mod Turns
 pub mod Otherwise
 pub mod Steps
 pub mod Reached
-pub mod Copies
 pub mod Answering

@@ -7,9 +7,9 @@ use cfg::Instruction;
 use cfg_line::Line;
 use word::Code;
 ghost use mathlib.Core.Path.{_≡_};
-ghost use mathlib.Core.List.{List, [], _∷_, _++_};
+ghost use mathlib.Core.List.{List, [], _∷_};
 ghost use Prim.Native.Nat.{ℕ, _+_, _*_, _≤_, _<_};
-ghost use lib.ListN.{length, take, drop, set};
+ghost use lib.ListN.{length, take, set};
 ghost use lib.Seq.{sets};
 ghost use Rattle.word.specs.Word.{codeOf};
 ghost use Rattle.cfg.specs.Layout.{maxBlocks, maxInstructions, headWords, graphWords, blockOffset, codeOffset, endingOffset, instructionWords};
@@ -298,17 +298,6 @@ fn read_lines(text: &[u8], words: &mut [u32]) -> ReadAnswer
     at_end(p, n)
 }
 
-fn copy(words: &[u32], table: &mut [u32])
-    requires { ⌜ (length (now words) ≡ graphWords) × (graphWords ≤ length (now table)) ⌝ }
-    ensures { λ _. ⌜ now (table .exit) ≡ now (words .entry) ++ drop graphWords (now (table .entry)) ⌝ }
-{
-    let mut i = 0;
-    while i < Graph::WORDS {
-        table[i] = words[i];
-        i += 1;
-    }
-}
-
 // On a refusal the table holds what it held; words past its length are neither read nor changed.
 pub fn read_text(text: &[u8], table: &mut [u32]) -> ReadAnswer
     ensures answer { λ r. ⌜ r ≡ readAnswer (now (text .entry)) (now (table .entry)) ⌝ }
@@ -325,6 +314,6 @@ pub fn read_text(text: &[u8], table: &mut [u32]) -> ReadAnswer
     let ReadAnswer::Read = answer else {
         return answer;
     };
-    copy(&words, table);
+    buffers::copy_words(table, 0, &words);
     ReadAnswer::Read
 }

@@ -1,7 +1,6 @@
 -- Bytes stored one after another. Assumes nothing.
-use Prim.Native.Nat.{ℕ, suc, _+_, _-_, _≤_, _<_, _^_}
+use Prim.Native.Nat.{ℕ, _+_, _-_, _≤_, _<_, _^_}
 use native.Mathlib.Omega.{arith}
-use native.Mathlib.Nat.{add-zero}
 use mathlib.Core.Path.{_≡_, refl, sym, ap, _∙_}
 use mathlib.Core.List.{List, [], _∷_, _++_, append-assoc, append-nil}
 use lib.ListN.{length, set, length-append}
@@ -9,6 +8,7 @@ use borrow.Author.Tests.{eq-eqb, ne-eqb, lt-ltb, le-ltb}
 use Rattle.word.specs.Word.{arity}
 use Rattle.cfg.specs.declared.Instruction.{Instruction}
 use lib.Seq.{sets, length-sets}
+use Rattle.buffers.proofs.Copies.{sets-append}
 use Rattle.runs.specs.Lists.{concatMap}
 use Rattle.decimal.specs.Decimal.{decimalOf}
 use Rattle.decimal.proofs.Laws.{decimal-word}
@@ -19,14 +19,6 @@ use Rattle.cfg_line.specs.declared.Line.the-variants as line
 use Rattle.cfg_write.specs.Write.{instructionName, comparisonName, literalText, operandsOf, fieldsOf, lineText}
 use Rattle.cfg_write.specs.Put.{Put, commas, numbered}
 use Rattle.cfg_write.proofs.LineLaws.{operands-set, operands-none, operands-one, operands-two}
-
--- ---- stores one after another are one store
-
-pub sets-append : (l : List ℕ) (i : ℕ) (s t : List ℕ) → sets (sets l i s) (i + length s) t ≡ sets l i (s ++ t)
-sets-append l i [] t = rw add-zero
-sets-append l i (x ∷ s) t =
-    let e : i + suc (length s) ≡ suc i + length s = omega arith in
-    rw e (sets-append (set l i x) (suc i) s t)
 
 pub put-none : (l : List ℕ) (at : ℕ) → Put 0 l l at [] at
 put-none l at = record { stored = refl; place = omega arith; near = omega arith }

@@ -5,9 +5,9 @@ use cfg::admission;
 use cfg::decode;
 ghost use mathlib.Core.Path.{_≡_};
 ghost use mathlib.Core.Bool.{true};
-ghost use mathlib.Core.List.{List, _++_, map};
+ghost use mathlib.Core.List.{List, map};
 ghost use Prim.Native.Nat.{ℕ, _+_, _≤_, _<_, _^_};
-ghost use lib.ListN.{length, getD, drop};
+ghost use lib.ListN.{length, getD};
 ghost use Rattle.runs.specs.Lists.{upFrom};
 ghost use Rattle.cfg.specs.Layout.{maxBlocks, maxInstructions, blockWords, graphWords, blockOffset};
 ghost use Rattle.cfg.specs.Table.{blockAt, graphOf, admitted};
@@ -76,18 +76,6 @@ fn put_text(out: &mut [u8], table: &[u32]) -> usize
     put_blocks(out, started, table, head.blocks as usize)
 }
 
-// Bytes over the first ones of a buffer.
-fn copy(from: &[u8], out: &mut [u8])
-    requires { ⌜ length (now from) ≤ length (now out) ⌝ }
-    ensures { λ _. ⌜ now (out .exit) ≡ now (from .entry) ++ drop (length (now (from .entry))) (now (out .entry)) ⌝ }
-{
-    let mut i = 0;
-    while i < from.len() {
-        out[i] = from[i];
-        i += 1;
-    }
-}
-
 // An admitted table, by way of a buffer that any text fits in: where the output is short, it stays as it was.
 fn write_by_way_of(text: &mut [u8], table: &[u32], out: &mut [u8]) -> WriteAnswer
     requires { ⌜ (maxText ≤ length (now text)) × (admitted (now table) ≡ true) ⌝ }
@@ -97,7 +85,7 @@ fn write_by_way_of(text: &mut [u8], table: &[u32], out: &mut [u8]) -> WriteAnswe
     if out.len() < n {
         return WriteAnswer::Refused(8, n as u32);
     }
-    copy(&text[..n], out);
+    bytes::copy(&text[..n], out);
     WriteAnswer::Written(n as u32)
 }
 

@@ -14,16 +14,16 @@ use super::Wire;
 use super::table::first_wire;
 use super::table::head_of;
 use super::table::record;
-use super::table::wide;
 use super::table::wire;
 use super::table::wire_count;
+use buffers::word_index;
 use word::Code;
 
 // A reference is one of the registers, or one of the first n wires of the state.
 fn valid_reference(registers: usize, n: usize, x: u32) -> bool
     ensures { λ v. ⌜ v ≡ validReference registers n x ⌝ }
 {
-    let i = wide(x);
+    let i = word_index(x);
     if i < registers {
         return true;
     }
@@ -229,8 +229,8 @@ pub fn admitted(table: &[u32]) -> bool
     ensures { λ v. ⌜ v ≡ admittedOf (now (table .entry)) ⌝ }
 {
     let head = head_of(table);
-    let states = wide(head.states);
-    let registers = wide(head.registers);
+    let states = word_index(head.states);
+    let registers = word_index(head.registers);
     if states < 1 {
         return false;
     }

@@ -13,9 +13,9 @@ use super::Machine;
 use super::Wire;
 use super::table::first_wire;
 use super::table::record;
-use super::table::wide;
 use super::table::wire;
 use super::table::wire_count;
+use buffers::word_index;
 use word::Code;
 use word::Registers;
 
@@ -30,7 +30,7 @@ fn read(words: &[u32], n: usize, x: u32) -> u32
     requires { ⌜ n ≤ length (now words) ⌝ }
     ensures { λ v. ⌜ v ≡ getD (take n (now (words .entry))) x 0 ⌝ }
 {
-    let i = wide(x);
+    let i = word_index(x);
     if i < n { words[i] } else { 0 }
 }
 
@@ -43,9 +43,9 @@ fn value(words: &[u32], w: Wire, sampled: u32) -> u32
     if w.code == Code::SET {
         return w.a;
     }
-    let a = wide(w.a) % Machine::REFERENCES;
-    let b = wide(w.b) % Machine::REFERENCES;
-    let c = wide(w.c) % Machine::REFERENCES;
+    let a = word_index(w.a) % Machine::REFERENCES;
+    let b = word_index(w.b) % Machine::REFERENCES;
+    let c = word_index(w.c) % Machine::REFERENCES;
     word::eval(sampled, w.code, words[a], words[b], words[c])
 }
 
@@ -112,7 +112,7 @@ pub fn cycle(table: &[u32], k: usize, registers: Registers, sampled: u32, words:
         n,
         table,
         at + Machine::NEXT_REGISTERS,
-        wide(table[Machine::REGISTER_COUNT]),
+        word_index(table[Machine::REGISTER_COUNT]),
         registers,
     );
     Next {

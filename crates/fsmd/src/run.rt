@@ -13,7 +13,7 @@ use super::Machine;
 use super::admission::admitted;
 use super::clock::cycle;
 use super::sampling::is_wordless;
-use super::table::wide;
+use buffers::word_index;
 use runs::RunAnswer;
 use word::Registers;
 
@@ -47,7 +47,7 @@ pub fn run(
     let mut count: u32 = 0;
     while count < limit {
         let sampled = runs::sampled(words, count);
-        let next = cycle(table, wide(state), file, sampled, &mut room);
+        let next = cycle(table, word_index(state), file, sampled, &mut room);
         file = next.registers;
         state = next.state;
         count += 1;

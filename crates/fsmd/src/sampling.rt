@@ -12,9 +12,9 @@ ghost use Rattle.fsmd.specs.Machine.{wordless};
 ghost use Rattle.fsmd.specs.Table.{wireAt, machineOf, admitted};
 use super::Machine;
 use super::table::first_wire;
-use super::table::wide;
 use super::table::wire;
 use super::table::wire_count;
+use buffers::word_index;
 use word::Code;
 
 // None of these wires reads the sampled word.
@@ -40,7 +40,7 @@ pub fn is_wordless(table: &[u32]) -> bool
     requires { ⌜ admitted (now table) ≡ true ⌝ }
     ensures { λ r. ⌜ r ≡ wordless (machineOf (now (table .entry))) ⌝ }
 {
-    let states = wide(table[Machine::STATE_COUNT]);
+    let states = word_index(table[Machine::STATE_COUNT]);
     let mut k = 0;
     while k < states {
         if !wires_wordless(table, first_wire(table, k), wire_count(table, k)) {

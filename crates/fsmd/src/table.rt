@@ -6,13 +6,7 @@ ghost use Rattle.fsmd.specs.Layout.{machineWords, maxStates, maxWires, r
 ghost use Rattle.fsmd.specs.Table.{stateCount, registerCount, wireAt, firstWireAt, wireCountAt};
 use super::Machine;
 use super::Wire;
-
-// A word as an index.
-pub fn wide(x: u32) -> usize
-    ensures { λ r. ⌜ (r ≡ x) × (r < 2 ^ 32) ⌝ }
-{
-    x as usize
-}
+use buffers::word_index;
 
 // N and R.
 pub fn head_of(table: &[u32]) -> Machine
@@ -54,7 +48,7 @@ pub fn first_wire(table: &[u32], k: usize) -> usize
     requires { ⌜ k < maxStates ⌝ }
     ensures { λ r. ⌜ (r ≡ firstWireAt (now (table .entry)) k) × (r < 2 ^ 32) ⌝ }
 {
-    wide(table[record(k)])
+    word_index(table[record(k)])
 }
 
 // How many wires state k has.
@@ -63,5 +57,5 @@ pub fn wire_count(table: &[u32], k: usize) -> usize
     requires { ⌜ k < maxStates ⌝ }
     ensures { λ r. ⌜ (r ≡ wireCountAt (now (table .entry)) k) × (r < 2 ^ 32) ⌝ }
 {
-    wide(table[record(k) + Machine::WIRE_COUNT])
+    word_index(table[record(k) + Machine::WIRE_COUNT])
 }

@@ -33,11 +33,11 @@ pub fn detect(edges: &[u8], states: &[u8], starters: Starters) -> Detected
     let mut found = Detected::Legal;
     seen[0] = 1;
     'visit: while depth > 0 {
-        let block = edges::wide(stack[depth - 1]);
-        let mut k = edges::wide(passed[depth - 1]);
+        let block = buffers::byte_index(stack[depth - 1]);
+        let mut k = buffers::byte_index(passed[depth - 1]);
         'edges: while k < 2 {
             let to = edges::at(edges, 2 * block + k);
-            let t = edges::wide(to);
+            let t = buffers::byte_index(to);
             k += 1;
             if t < Graph::BLOCKS {
                 if illegal(states, &starters.marks, block, t) {

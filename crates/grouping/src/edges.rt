@@ -22,12 +22,6 @@ pub fn at(bytes: &[u8], i: usize) -> u8
     if i < bytes.len() { bytes[i] } else { NONE }
 }
 
-pub fn wide(x: u8) -> usize
-    ensures { λ r. ⌜ (r ≡ x) × (r < 256) ⌝ }
-{
-    x as usize
-}
-
 pub fn edges_of(table: &[u32]) -> [u8; 2 * Graph::BLOCKS]
     requires { ⌜ admitted (now table) ≡ true ⌝ }
     ensures { λ r. ⌜ ((n : ℕ) → edgesIn r n ≡ successors (graphOf (now (table .entry))) n) ⌝ }

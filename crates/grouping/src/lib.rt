@@ -54,7 +54,7 @@ impl Starters {
         requires { ⌜ Listed self × (block < maxBlocks) ⌝ }
         ensures { λ r. ⌜ Listed r × (startersOf r ≡ withStarter block (startersOf self)) ⌝ }
     {
-        let b = edges::wide(block);
+        let b = buffers::byte_index(block);
         if self.marks[b] == 0 {
             let n = self.count;
             self.list[n] = block;

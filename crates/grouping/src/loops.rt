@@ -16,11 +16,11 @@ pub fn loop_starters(edges: &[u8]) -> Starters
     let mut depth: usize = 1;
     marks[0] = 1;
     'visit: while depth > 0 {
-        let block = edges::wide(stack[depth - 1]);
-        let mut k = edges::wide(passed[depth - 1]);
+        let block = buffers::byte_index(stack[depth - 1]);
+        let mut k = buffers::byte_index(passed[depth - 1]);
         'edges: while k < 2 {
             let to = edges::at(edges, 2 * block + k);
-            let t = edges::wide(to);
+            let t = buffers::byte_index(to);
             k += 1;
             if t < Graph::BLOCKS {
                 if marks[t] == 0 {

@@ -13,9 +13,9 @@ fn take_state(edges: &[u8], starters: &[u8], marks: &[u8], k: u8, states: &mut [
     requires { ⌜ Marking (now starters) (now marks) × (k < length (now starters)) × (length (now states) ≡ maxBlocks) ⌝ }
     ensures { λ r. ⌜ now (states .exit) ≡ taken (now (edges .entry)) (now (starters .entry)) (getD (now (starters .entry)) k 0) k (now (states .entry)) ⌝ }
 {
-    let number = edges::wide(k);
+    let number = buffers::byte_index(k);
     let first = starters[number];
-    let root = edges::wide(first);
+    let root = buffers::byte_index(first);
     if states[root] != edges::NONE {
         return;
     }
@@ -25,11 +25,11 @@ fn take_state(edges: &[u8], starters: &[u8], marks: &[u8], k: u8, states: &mut [
     states[root] = k;
     stack[0] = first;
     'visit: while depth > 0 {
-        let block = edges::wide(stack[depth - 1]);
-        let mut j = edges::wide(passed[depth - 1]);
+        let block = buffers::byte_index(stack[depth - 1]);
+        let mut j = buffers::byte_index(passed[depth - 1]);
         'edges: while j < 2 {
             let to = edges::at(edges, 2 * block + j);
-            let t = edges::wide(to);
+            let t = buffers::byte_index(to);
             j += 1;
             if t < Graph::BLOCKS {
                 if states[t] == edges::NONE {
@@ -58,7 +58,7 @@ pub fn populate(edges: &[u8], starters: Starters) -> [u8; Graph::BLOCKS]
     let marks = starters.marks;
     let mut states = [edges::NONE; Graph::BLOCKS];
     let mut k: u8 = 0;
-    while edges::wide(k) < count {
+    while buffers::byte_index(k) < count {
         take_state(edges, &list[..count], &marks, k, &mut states);
         k += 1;
     }

@@ -46,7 +46,7 @@ fn is_awaited(starts: &[u8], t: u8) -> bool
     ensures { λ r. ⌜ r ≡ awaited (now (starts .entry)) t ⌝ }
 {
     if t < PAST {
-        !mark(starts, edges::wide(t))
+        !mark(starts, buffers::byte_index(t))
     } else {
         false
     }
@@ -58,7 +58,7 @@ fn raise(starts: &[u8], waits: &mut [u8], t: u8)
     ensures { λ r. ⌜ (length (now (waits .exit)) ≡ maxBlocks) × ((x : ℕ) → countsIn (now (waits .exit)) x ≡ waiting (targetIn (now (starts .entry)) t) x + countsIn (now (waits .entry)) x) ⌝ }
 {
     if is_awaited(starts, t) {
-        let n = edges::wide(t);
+        let n = buffers::byte_index(t);
         waits[n] += 1;
     }
 }
@@ -69,7 +69,7 @@ fn lower(starts: &[u8], waits: &mut [u8], t: u8)
     ensures { λ r. ⌜ (length (now (waits .exit)) ≡ maxBlocks) × (countsIn (now (waits .exit)) ≡ lowered (targetIn (now (starts .entry)) t) (countsIn (now (waits .entry)))) ⌝ }
 {
     if is_awaited(starts, t) {
-        let n = edges::wide(t);
+        let n = buffers::byte_index(t);
         waits[n] -= 1;
     }
 }
@@ -81,7 +81,7 @@ fn count_edges(edges: &[u8], starts: &[u8], blocks: &[u8], waits: &mut [u8])
 {
     let mut i: usize = 0;
     while i < blocks.len() {
-        let u = edges::wide(blocks[i]);
+        let u = buffers::byte_index(blocks[i]);
         raise(starts, waits, edges::at(edges, 2 * u));
         raise(starts, waits, edges::at(edges, 2 * u + 1));
         i += 1;
@@ -103,7 +103,7 @@ fn choose(left: &[u8], waits: &[u8]) -> usize
 {
     let mut i: usize = 0;
     while i < left.len() {
-        if !mark(waits, edges::wide(left[i])) {
+        if !mark(waits, buffers::byte_index(left[i])) {
             return i;
         }
         i += 1;
@@ -142,7 +142,12 @@ pub fn place(edges: &[u8], states: &[u8], starts: &[u8], k: u8, blocks: &mut [u8
             break;
         }
         to_front(&mut blocks[count..n], i);
-        lower_edges(edges, starts, &mut waits, edges::wide(blocks[count]));
+        lower_edges(
+            edges,
+            starts,
+            &mut waits,
+            buffers::byte_index(blocks[count]),
+        );
         count += 1;
     }
     count

@@ -1,7 +1,7 @@
 // The operations of a case in order, each with its fields of the answer line.
 use capture::CaptureAnswer;
-use cases::buffers;
-use cases::buffers::store;
+use cases::contents;
+use cases::contents::store;
 use cases::digest;
 use cases::stream;
 use cases::stream::Captures;
@@ -19,7 +19,7 @@ fn text_of(s: &[u8], c: Case) -> &[u8] {
 }
 
 fn read(text: &[u8], graph: &mut [u32], line: &mut [u32]) {
-    buffers::fresh_words(graph);
+    contents::fresh_words(graph);
     let answer = compiler::read_text(text, graph);
     store(line, 0, fields::read_number(answer));
     store(line, 1, fields::read_line(answer));
@@ -27,7 +27,7 @@ fn read(text: &[u8], graph: &mut [u32], line: &mut [u32]) {
 }
 
 fn write_into(graph: &[u32], out: &mut [u8], line: &mut [u32]) {
-    buffers::fresh_bytes(out);
+    contents::fresh_bytes(out);
     let answer = compiler::write_text(graph, out);
     store(line, 3, fields::write_number(answer));
     store(line, 4, fields::write_length(answer));
@@ -43,7 +43,7 @@ fn write(graph: &[u32], size: u32, line: &mut [u32])
 }
 
 fn synthesise(graph: &[u32], machine: &mut [u32], line: &mut [u32]) {
-    buffers::fresh_words(machine);
+    contents::fresh_words(machine);
     let answer = compiler::synthesise(graph, machine);
     store(line, 6, fields::synthesis_number(answer));
     store(line, 7, digest::of_words(machine));
@@ -62,14 +62,14 @@ fn put_run(answer: RunAnswer, registers: &[u32], line: &mut [u32], at: usize)
 
 fn run_graph(graph: &[u32], registers: &mut [u32], s: &[u8], c: Case, line: &mut [u32]) {
     let buffer = c.registers;
-    buffers::load(registers, s, buffer.at);
+    contents::load(registers, s, buffer.at);
     let answer = compiler::run_graph(graph, registers, c.start_block, c.block_budget);
     put_run(answer, registers, line, 8);
 }
 
 fn run_machine(machine: &[u32], registers: &mut [u32], s: &[u8], c: Case, line: &mut [u32]) {
     let buffer = c.registers;
-    buffers::load(registers, s, buffer.at);
+    contents::load(registers, s, buffer.at);
     let answer = compiler::run_machine(machine, registers, c.start_state, c.cycle_budget);
     put_run(answer, registers, line, 13);
 }
@@ -96,7 +96,7 @@ fn run_graph_with_words(
     line: &mut [u32],
 ) {
     let buffer = c.registers;
-    buffers::load(registers, s, buffer.at);
+    contents::load(registers, s, buffer.at);
     let answer = compiler::run_graph_with_words(
         graph,
         registers,
@@ -117,7 +117,7 @@ fn run_machine_with_words(
     line: &mut [u32],
 ) {
     let buffer = c.registers;
-    buffers::load(registers, s, buffer.at);
+    contents::load(registers, s, buffer.at);
     let answer = compiler::run_machine_with_words(
         machine,
         registers,
@@ -142,8 +142,8 @@ fn run_on(
 {
     let given = c.words;
     let listed = c.starters;
-    buffers::load(words, s, given.at);
-    buffers::load(starters, s, listed.at);
+    contents::load(words, s, given.at);
+    contents::load(starters, s, listed.at);
     let buffer = c.registers;
     let n = buffer.count as usize;
     let mut first = [0u32; 20];
@@ -214,7 +214,7 @@ fn compare_captures(s: &[u8], captures: Captures, line: &mut [u32]) {
 }
 
 fn patch(w: &mut [u32], s: &[u8], patches: Region) {
-    buffers::patch(w, s, patches.at, patches.count);
+    contents::patch(w, s, patches.at, patches.count);
 }
 
 // Both tables, with their patches.

@@ -7,7 +7,7 @@ use mathlib.Core.Path.{_≡_, refl, sym, ap, _∙_}
 use mathlib.Core.Bool.{Bool, true, false, not}
 use mathlib.Core.List.{List, [], _∷_, _++_, append-assoc, map}
 use lib.ListN.{length, getD, set, take, drop, length-append, length-set, length-drop}
-use lib.Seq.{take-take, take-append-le, take-set-le, drop-at, take-at, take-length, getD-take, getD-set-same, getD-set-other, length-take-le, length-paste-head, paste}
+use lib.Seq.{take-take, take-append-le, take-set-le, drop-at, take-at, getD-take, getD-set-same, getD-set-other, length-take-le, sets, sets-eq}
 use lib.Dec.{eqb}
 use borrow.Author.Tests.{ne-eqb}
 use Rattle.word.specs.Word.{choose}
@@ -58,16 +58,19 @@ module _ (ts rows vs : List ℕ) (n target taken : ℕ) (h : Edged ts rows (n + 
   rows₁ = set rows (rowWords * n) taken
 
   abbrev rows′ : List ℕ
-  rows′ = paste rows₁ (rowWords * n + 1) vs (length vs)
+  rows′ = sets rows₁ (rowWords * n + 1) vs
 
   fits : rowWords * n + 1 + length vs ≤ length rows₁
   fits = omega (arith, length-set rows (rowWords * n) taken, h .each, h .few)
 
+  cut : rows′ ≡ take (rowWords * n + 1) rows₁ ++ (vs ++ drop (rowWords * n + 1 + length vs) rows₁)
+  cut = sets-eq vs rows₁ (rowWords * n + 1) fits ∙ append-assoc (take (rowWords * n + 1) rows₁) vs (drop (rowWords * n + 1 + length vs) rows₁)
+
   front : take (rowWords * n + 1) rows′ ≡ take (rowWords * n + 1) rows₁
   front =
       let l = length-take-le (rowWords * n + 1) rows₁ (omega (arith, fits)) in
-      ap (take (rowWords * n + 1)) (append-assoc (take (rowWords * n + 1) rows₁) (take (length vs) vs) (drop (rowWords * n + 1 + length vs) rows₁))
-      ∙ take-at (take (rowWords * n + 1) rows₁) (take (length vs) vs ++ drop (rowWords * n + 1 + length vs) rows₁) (rowWords * n + 1) l
+      ap (take (rowWords * n + 1)) cut
+      ∙ take-at (take (rowWords * n + 1) rows₁) (vs ++ drop (rowWords * n + 1 + length vs) rows₁) (rowWords * n + 1) l
 
   before : take (rowWords * n) rows′ ≡ take (rowWords * n) rows
   before =
@@ -86,10 +89,9 @@ module _ (ts rows vs : List ℕ) (n target taken : ℕ) (h : Edged ts rows (n + 
   last-values : take (length vs) (drop (rowWords * n + 1) rows′) ≡ vs
   last-values =
       let l = length-take-le (rowWords * n + 1) rows₁ (omega (arith, fits)) in
-      ap (λ (l : List ℕ). take (length vs) (drop (rowWords * n + 1) l)) (append-assoc (take (rowWords * n + 1) rows₁) (take (length vs) vs) (drop (rowWords * n + 1 + length vs) rows₁))
-      ∙ ap (take (length vs)) (drop-at (take (rowWords * n + 1) rows₁) (take (length vs) vs ++ drop (rowWords * n + 1 + length vs) rows₁) (rowWords * n + 1) l)
-      ∙ take-at (take (length vs) vs) (drop (rowWords * n + 1 + length vs) rows₁) (length vs) (length-take-le (length vs) vs (omega arith))
-      ∙ take-length vs
+      ap (λ (l : List ℕ). take (length vs) (drop (rowWords * n + 1) l)) cut
+      ∙ ap (take (length vs)) (drop-at (take (rowWords * n + 1) rows₁) (vs ++ drop (rowWords * n + 1 + length vs) rows₁) (rowWords * n + 1) l)
+      ∙ take-at vs (drop (rowWords * n + 1 + length vs) rows₁) (length vs) refl
 
   last : edgeIn (length vs) (set ts n target) rows′ n ≡ edgeTo target taken vs
   unfolding edgeIn

@@ -5,9 +5,9 @@ use native.Mathlib.Numerals.{add-one}
 use native.Mathlib.Omega.{arith}
 use mathlib.Core.Path.{_≡_, refl, sym, ap, _∙_}
 use mathlib.Core.Bool.{Bool, true, false, not}
-use mathlib.Core.List.{List, [], _∷_, _++_, append-nil}
-use lib.ListN.{length, getD, take, drop, length-append, length-drop, drop-of-length-le}
-use lib.Seq.{length-take-le, paste, take-length}
+use mathlib.Core.List.{List, [], _∷_, _++_}
+use lib.ListN.{length, getD, take, drop, length-append, length-drop}
+use lib.Seq.{length-take-le}
 use Rattle.runs.specs.Lists.{upFrom}
 use Rattle.fsmd.specs.declared.Wire.{Wire}
 use Rattle.fsmd.specs.Layout.{maxRegisters, maxBlocks, wireWords}
@@ -82,13 +82,6 @@ module _ (r : ℕ) (ts rows : List ℕ) (count x : ℕ) (n : ℕ) (t : List ℕ)
   pub enter-first : (i : ℕ) → x < maxBlocks → NextAt (leadsTo x) ts 0 count i → i < count → (vs : List ℕ) → vs ≡ take r (drop (rowWords * i + 1) rows) → length vs ≡ r
       → enter r false x B ≡ joins (incoming (length vs) ts rows x count (i + 1)) (pointIn (getD rows (rowWords * i) 0) vs n t)
   enter-first i some h lt vs e l = first i some h lt ∙ rw (l, e)
-
--- a whole list copied over
-pub paste-whole : (to src : List ℕ) → length src ≡ length to → paste to 0 src (length src) ≡ src
-paste-whole to src e =
-    ap (λ (l : List ℕ). l ++ drop (0 + length src) to) (take-length src)
-    ∙ ap (λ (l : List ℕ). src ++ l) (drop-of-length-le to {i = 0 + length src} (omega arith))
-    ∙ append-nil src
 
 pub source-length : (r i count : ℕ) (rows : List ℕ) → r ≤ maxRegisters → i < count → rowWords * count ≤ length rows
     → length (take r (drop (rowWords * i + 1) rows)) ≡ r

@@ -5,7 +5,6 @@ ghost use mathlib.Core.List.{List, [], _∷_, _++_};
 ghost use Prim.Native.Nat.{_+_, _*_, _≤_, _<_};
 ghost use lib.ListN.{length};
 ghost use lib.Dec.{eqb};
-ghost use lib.Seq.{paste};
 ghost use Rattle.word.specs.Word.{choose};
 ghost use Rattle.fsmd.specs.Layout.{maxRegisters, maxBlocks};
 ghost use Rattle.state.specs.Wires.{leadsTo};
@@ -44,18 +43,6 @@ pub fn use_up(targets: &mut [u32], count: usize, x: u32)
     }
 }
 
-// `from` into `to`, at `at`.
-pub fn copy(to: &mut [u32], at: usize, from: &[u32])
-    requires { ⌜ at + length (now from) ≤ length (now to) ⌝ }
-    ensures { λ _. ⌜ now (to .exit) ≡ paste (now (to .entry)) at (now (from .entry)) (length (now (from .entry))) ⌝ }
-{
-    let mut i = 0;
-    while i < from.len() {
-        to[at + i] = from[i];
-        i += 1;
-    }
-}
-
 // One more edge after the first `count`.
 pub fn add(
     targets: &mut [u32],
@@ -72,5 +59,5 @@ pub fn add(
     let row = Progress::ROW * count;
     targets[count] = target;
     rows[row] = taken;
-    copy(rows, row + 1, values);
+    buffers::copy_words(rows, row + 1, values);
 }

@@ -2,7 +2,6 @@
 use crate::Exit;
 use crate::Front;
 use crate::Progress;
-use crate::edges;
 use crate::groups;
 use crate::wires;
 use fsmd::Machine;
@@ -142,7 +141,7 @@ pub fn leave(
         };
     }
     let row = Progress::ROW * i;
-    edges::copy(values, 0, &rows[row + 1..row + 1 + values.len()]);
+    buffers::copy_words(values, 0, &rows[row + 1..row + 1 + values.len()]);
     wires::emit(
         wires,
         at,

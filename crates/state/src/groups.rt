@@ -7,19 +7,13 @@ ghost use Rattle.runs.specs.Lists.{mem};
 ghost use Rattle.fsmd.specs.Layout.{none};
 ghost use Rattle.state.specs.Making.{Grouped};
 
-fn wide(x: u8) -> u32
-    ensures { λ r. ⌜ r ≡ x ⌝ }
-{
-    x as u32
-}
-
 // An entry of a list of blocks or states; past its end there is none.
 pub fn entry(list: &[u8], i: u32) -> u32
     ensures { λ r. ⌜ r ≡ getD (now (list .entry)) i none ⌝ }
 {
     let at = i as usize;
     if at < list.len() {
-        wide(list[at])
+        buffers::byte_word(list[at])
     } else {
         Machine::NONE
     }

@@ -121,7 +121,7 @@ pub fn enter(
         return begin(wires, values, at, 0);
     }
     let row = Progress::ROW * i;
-    edges::copy(values, 0, &rows[row + 1..row + 1 + values.len()]);
+    buffers::copy_words(values, 0, &rows[row + 1..row + 1 + values.len()]);
     let front = Front {
         arrival: rows[row],
         wires: at,

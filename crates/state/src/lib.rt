@@ -45,12 +45,6 @@ impl Progress {
     pub const HALT: u32 = Machine::NONE;
 }
 
-fn wide(x: u8) -> u32
-    ensures { λ r. ⌜ r ≡ x ⌝ }
-{
-    x as u32
-}
-
 // The blocks of `order` placed one after another, from nothing.
 fn place_all(
     graph: &[u32],
@@ -73,7 +67,7 @@ fn place_all(
     let mut made = Progress { edges: 0, wires: 0 };
     let mut i = 0;
     while i < order.len() {
-        let x = wide(order[i]);
+        let x = buffers::byte_word(order[i]);
         let starter = groups::is_starter(starters, states, x);
         let next = blocks::put(graph, starter, x, made, wires, values, targets, rows);
         made = next;

@@ -3,9 +3,9 @@ use Prim.Native.Nat.{ℕ, zero, suc, _+_, _-_, _*_, _≤_, _<_}
 use native.Mathlib.Omega.{arith}
 use mathlib.Core.Bool.{true}
 use mathlib.Core.Path.{_≡_, refl, sym, _∙_, ap, subst}
-use mathlib.Core.List.{List, _∷_, _++_, append-nil}
+use mathlib.Core.List.{List, _∷_, _++_, append-assoc, append-nil}
 use lib.ListN.{length, getD, take, drop, replicate, length-drop, drop-of-length-le}
-use lib.Seq.{take-all, length-take-le, drop-drop}
+use lib.Seq.{take-all, length-take-le, drop-drop, sets, sets-eq}
 use Rattle.runs.specs.Lists.{padded, concatMap}
 use Rattle.runs.proofs.ListLaws.{padded-append}
 use Rattle.cfg.specs.Layout.{graphWords}
@@ -22,7 +22,7 @@ use Rattle.grouping.proofs.GroupingLaws.{grouped}
 use Rattle.state.specs.Wires.{Point}
 use Rattle.state.specs.Making.{wiresIn, stored, Room, Held, Grouped}
 use Rattle.state.proofs.StoredWires.{length-wiresIn}
-use Rattle.synthesis.specs.StateWords.{written, withStates, firstStates, Filled, Prepared}
+use Rattle.synthesis.specs.StateWords.{withStates, firstStates, Filled, Prepared}
 use Rattle.synthesis.proofs.SynthesisedMachine.{made-valid}
 use Rattle.synthesis.proofs.StateBlocks.{pointOf}
 use Rattle.synthesis.proofs.TableWords.{state-written}
@@ -42,12 +42,13 @@ module _ (q : State) (old new : List ℕ) (next : ℕ) (values : List ℕ) (n : 
   its-registers = ap (λ (p : Point). p .values) (h .point)
 
   -- the words behind those before it
-  its-words : (table : List ℕ) (at : ℕ) → old ≡ drop at table → take at table ++ new ≡ written at (concatMap wireWordsOf (q .wires)) table
+  its-words : (table : List ℕ) (at : ℕ) → old ≡ drop at table → at + wireWords * length (q .wires) ≤ length table → take at table ++ new ≡ sets table at (concatMap wireWordsOf (q .wires))
   unfolding stored
-  its-words table at e =
+  its-words table at e fits =
       let w : new ≡ concatMap wireWordsOf (q .wires) ++ drop (wireWords * length (q .wires)) old = h .rest ∙ ap (λ (ws : List Wire). stored ws old) its-wires in
       let m : wireWords * length (q .wires) ≡ length (concatMap wireWordsOf (q .wires)) = sym (length-wordsOf (q .wires)) in
       ap (λ (l : List ℕ). take at table ++ l) (w ∙ ap (λ (l : List ℕ). concatMap wireWordsOf (q .wires) ++ l) (ap (λ (l : List ℕ). drop (wireWords * length (q .wires)) l) e ∙ drop-drop (wireWords * length (q .wires)) at table ∙ ap (λ (i : ℕ). drop (at + i) table) m))
+      ∙ sym (sets-eq (concatMap wireWordsOf (q .wires)) table at (omega arith) ∙ append-assoc (take at table) (concatMap wireWordsOf (q .wires)) (drop (at + length (concatMap wireWordsOf (q .wires))) table))
 
 -- registers behind which the rest of the 16 is 0
 pub registers-padded : (r : ℕ) (values rest regs : List ℕ) (m : ℕ) → length values ≡ r → r ≤ maxRegisters → m ≤ r → length regs ≡ r → take m values ≡ regs → rest ≡ replicate (maxRegisters - r) 0 → values ++ rest ≡ padded maxRegisters 0 regs
@@ -69,7 +70,7 @@ module _ (t : List ℕ) (a : admitted t ≡ true) (table : List ℕ) (k first : 
     put-next = let c = first-count t k in let e = its-count (nth t k) (drop (wireOffset first) table) new next values n h in let p = f .passed in omega arith
 
     pub put-words : (sixteen : List ℕ) → sixteen ≡ padded maxRegisters 0 (nth t k .nextRegisters)
-        → written (recordOffset k) (first ∷ n ∷ next ∷ sixteen) (take (wireOffset first) table ++ new) ≡ withStates (take recordsOffset table) (firstStates t (k + 1))
+        → sets (take (wireOffset first) table ++ new) (recordOffset k) (first ∷ n ∷ next ∷ sixteen) ≡ withStates (take recordsOffset table) (firstStates t (k + 1))
     put-words sixteen e =
         let q = nth t k in
         let old = drop (wireOffset first) table in
@@ -80,12 +81,12 @@ module _ (t : List ℕ) (a : admitted t ≡ true) (table : List ℕ) (k first : 
         let few : length (firstStates t k) < maxStates = omega arith in
         let room : wireCount (firstStates t k) + length (q .wires) ≤ maxWires = first-room t a k below in
         let whole : length (take recordsOffset table) ≡ recordsOffset = length-take-le recordsOffset table (omega (arith, f .all)) in
-        ap (λ (x : List ℕ). written (recordOffset k) (first ∷ n ∷ next ∷ x) (take (wireOffset first) table ++ new)) e
-        ∙ ap (λ (x : List ℕ). written (recordOffset k) (first ∷ n ∷ next ∷ padded maxRegisters 0 (q .nextRegisters)) x) (its-words q old new next values n h table (wireOffset first) refl)
-        ∙ ap (λ (i : ℕ). written (recordOffset k) (first ∷ i ∷ next ∷ padded maxRegisters 0 (q .nextRegisters)) (written (wireOffset first) (concatMap wireWordsOf (q .wires)) table)) (its-count q old new next values n h)
-        ∙ ap (λ (i : ℕ). written (recordOffset k) (first ∷ length (q .wires) ∷ i ∷ padded maxRegisters 0 (q .nextRegisters)) (written (wireOffset first) (concatMap wireWordsOf (q .wires)) table)) (its-next q old new next values n h)
-        ∙ ap (λ (i : ℕ). written (recordOffset k) (recordOf i q) (written (wireOffset i) (concatMap wireWordsOf (q .wires)) table)) (f .passed)
-        ∙ ap (λ (i : ℕ). written (recordOffset i) (recordOf (wireCount (firstStates t k)) q) (written (wireOffset (wireCount (firstStates t k))) (concatMap wireWordsOf (q .wires)) table)) (sym (first-length t k))
+        ap (λ (x : List ℕ). sets (take (wireOffset first) table ++ new) (recordOffset k) (first ∷ n ∷ next ∷ x)) e
+        ∙ ap (λ (x : List ℕ). sets x (recordOffset k) (first ∷ n ∷ next ∷ padded maxRegisters 0 (q .nextRegisters))) (its-words q old new next values n h table (wireOffset first) refl (omega (arith, f .all, f .passed)))
+        ∙ ap (λ (i : ℕ). sets (sets table (wireOffset first) (concatMap wireWordsOf (q .wires))) (recordOffset k) (first ∷ i ∷ next ∷ padded maxRegisters 0 (q .nextRegisters))) (its-count q old new next values n h)
+        ∙ ap (λ (i : ℕ). sets (sets table (wireOffset first) (concatMap wireWordsOf (q .wires))) (recordOffset k) (first ∷ length (q .wires) ∷ i ∷ padded maxRegisters 0 (q .nextRegisters))) (its-next q old new next values n h)
+        ∙ ap (λ (i : ℕ). sets (sets table (wireOffset i) (concatMap wireWordsOf (q .wires))) (recordOffset k) (recordOf i q)) (f .passed)
+        ∙ ap (λ (i : ℕ). sets (sets table (wireOffset (wireCount (firstStates t k))) (concatMap wireWordsOf (q .wires))) (recordOffset i) (recordOf (wireCount (firstStates t k)) q)) (sym (first-length t k))
         ∙ state-written (take recordsOffset table) (firstStates t k) q whole few room table (f .words)
         ∙ ap (withStates (take recordsOffset table)) (sym (first-more t k))
 
@@ -159,9 +160,9 @@ module _ (t edges starts starters states : List ℕ) (p : Prepared t edges start
         ap (λ (x : List ℕ). new ++ x) (drop-of-length-le (drop (wireOffset first) table) {i = length table - (wireOffset first)} (omega arith)) ∙ append-nil new
 
     pub made-words : (rest table′ last : List ℕ) → rest ≡ replicate (maxRegisters - getD t 1 0) 0 → table′ ≡ take (wireOffset first) table ++ new
-        → last ≡ written (recordOffset k) (first ∷ n ∷ next ∷ (values ++ rest)) table′ → last ≡ withStates (take recordsOffset table) (firstStates t (k + 1))
+        → last ≡ sets table′ (recordOffset k) (first ∷ n ∷ next ∷ (values ++ rest)) → last ≡ withStates (take recordsOffset table) (firstStates t (k + 1))
     made-words rest table′ last z e w =
         let s : values ++ rest ≡ padded maxRegisters 0 (nth t k .nextRegisters) =
         registers-padded (getD t 1 0) values rest (nth t k .nextRegisters) m as-many registers-low m-low (put-registers t (p .admits) table k first f below)
         (its-registers (nth t k) (drop (wireOffset first) table) new next (take m values) n held) z in
-        w ∙ ap (written (recordOffset k) (first ∷ n ∷ next ∷ (values ++ rest))) e ∙ put-words t (p .admits) table k first f below new next (take m values) n held (values ++ rest) s
+        w ∙ ap (λ (l : List ℕ). sets l (recordOffset k) (first ∷ n ∷ next ∷ (values ++ rest))) e ∙ put-words t (p .admits) table k first f below new next (take m values) n held (values ++ rest) s

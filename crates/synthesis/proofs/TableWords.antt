@@ -3,54 +3,26 @@ use Prim.Native.Nat.{ℕ, _+_, _-_, _≤_, _<_}
 use native.Mathlib.Omega.{arith}
 use mathlib.Core.Path.{_≡_, refl, sym, _∙_, ap}
 use mathlib.Core.List.{List, [], _∷_, _++_, append-assoc, append-nil}
-use lib.ListN.{length, take, drop, replicate, length-append, length-replicate, replicate-append-replicate}
-use lib.Seq.{take-at, drop-at, take-append-le, drop-append-le, take-append-add, drop-append-add, drop-drop}
+use lib.ListN.{length, replicate, length-append, length-replicate, replicate-append-replicate}
+use lib.Seq.{sets}
+use Rattle.buffers.proofs.Copies.{sets-over, sets-left, sets-right}
 use Rattle.runs.specs.Lists.{padded, concatMap}
 use Rattle.runs.proofs.ListLaws.{padded-append, length-padded, concat-one}
 use Rattle.fsmd.specs.Layout.{maxStates, maxWires, allRecordWords, allWireWords, recordsOffset, machineWords, recordOffset, wireOffset}
 use Rattle.fsmd.specs.Machine.{State, wireCount}
 use Rattle.fsmd.specs.Table.{wireWordsOf, recordOf, recordsOf, wiresOf}
 use Rattle.fsmd.proofs.WrittenTable.{length-wordsOf, length-wiresOf, length-recordOf, length-recordsOf}
-use Rattle.synthesis.specs.StateWords.{written, withStates}
-
--- ---- words put over others
-
-module _ (p old q s : List ℕ) (at : ℕ) (here : length p ≡ at) (as-many : length old ≡ length s) where
-  pub written-over : written at s (p ++ (old ++ q)) ≡ p ++ (s ++ q)
-  written-over =
-      ap (λ (l : List ℕ). l ++ (s ++ drop (at + length s) (p ++ (old ++ q)))) (take-at p (old ++ q) at here)
-      ∙ ap (λ (l : List ℕ). p ++ (s ++ l)) behind
-    where
-      behind : drop (at + length s) (p ++ (old ++ q)) ≡ q
-      behind =
-          sym (drop-drop (length s) at (p ++ (old ++ q)))
-          ∙ ap (drop (length s)) (drop-at p (old ++ q) at here)
-          ∙ drop-at old q (length s) as-many
-
-module _ (a b s : List ℕ) (at : ℕ) where
-  written-inside : at + length s ≤ length a → written at s (a ++ b) ≡ written at s a ++ b
-  written-inside h =
-      ap (λ (l : List ℕ). l ++ (s ++ drop (at + length s) (a ++ b))) (take-append-le at a b (omega arith))
-      ∙ ap (λ (l : List ℕ). take at a ++ (s ++ l)) (drop-append-le (at + length s) a b h)
-      ∙ ap (λ (l : List ℕ). take at a ++ l) (sym (append-assoc s (drop (at + length s) a) b))
-      ∙ sym (append-assoc (take at a) (s ++ drop (at + length s) a) b)
-
-  written-past : (to : ℕ) → to ≡ length a + at → written to s (a ++ b) ≡ a ++ written at s b
-  written-past to e =
-      let f : to + length s ≡ length a + (at + length s) = omega arith in
-      ap (λ (l : List ℕ). l ++ (s ++ drop (to + length s) (a ++ b))) (ap (λ (i : ℕ). take i (a ++ b)) e ∙ take-append-add a b at)
-      ∙ ap (λ (l : List ℕ). (a ++ take at b) ++ (s ++ l)) (ap (λ (i : ℕ). drop i (a ++ b)) f ∙ drop-append-add a b (at + length s))
-      ∙ append-assoc a (take at b) (s ++ drop (at + length s) b)
+use Rattle.synthesis.specs.StateWords.{withStates}
 
 -- the first of the zeros behind a list
-padded-more : (n : ℕ) (l v : List ℕ) → length l + length v ≤ n → (at : ℕ) → at ≡ length l → written at v (padded n 0 l) ≡ padded n 0 (l ++ v)
+padded-more : (n : ℕ) (l v : List ℕ) → length l + length v ≤ n → (at : ℕ) → at ≡ length l → sets (padded n 0 l) at v ≡ padded n 0 (l ++ v)
 padded-more n l v h at e =
     let z : n - length l ≡ length v + (n - (length l + length v)) = omega arith in
     let m : length (l ++ v) ≡ length l + length v = length-append l v in
-    ap (λ (t : List ℕ). written at v t)
+    ap (λ (t : List ℕ). sets t at v)
     (padded-append n 0 l (omega arith) ∙ ap (λ (i : ℕ). l ++ replicate i 0) z
     ∙ ap (λ (t : List ℕ). l ++ t) (sym (replicate-append-replicate (length v) (n - (length l + length v)) 0)))
-    ∙ written-over l (replicate (length v) 0) (replicate (n - (length l + length v)) 0) v at (sym e) (length-replicate (length v) 0)
+    ∙ sets-over l (replicate (length v) 0) (replicate (n - (length l + length v)) 0) v at (sym e) (length-replicate (length v) 0)
     ∙ sym (append-assoc l v (replicate (n - (length l + length v)) 0))
     ∙ ap (λ (i : ℕ). (l ++ v) ++ replicate (n - i) 0) (sym m)
     ∙ sym (padded-append n 0 (l ++ v) (omega arith))
@@ -81,22 +53,22 @@ parts m n head records wires = head ++ (padded m 0 records ++ padded n 0 wires)
 
 module _ (m n : ℕ) (head records wires : List ℕ) (head-whole : length head ≡ recordsOffset) where
   parts-wires : (ws : List ℕ) → length wires + length ws ≤ n → (at : ℕ) → at ≡ recordsOffset + (m + length wires)
-      → written at ws (parts m n head records wires) ≡ parts m n head records (wires ++ ws)
+      → sets (parts m n head records wires) at ws ≡ parts m n head records (wires ++ ws)
   unfolding parts
   parts-wires ws h at e =
-      written-past head (padded m 0 records ++ padded n 0 wires) ws (m + length wires) at (omega arith)
+      sets-right head (padded m 0 records ++ padded n 0 wires) ws (m + length wires) at (omega arith)
       ∙ ap (λ (l : List ℕ). head ++ l)
-      (written-past (padded m 0 records) (padded n 0 wires) ws (length wires) (m + length wires) (rw length-padded refl)
+      (sets-right (padded m 0 records) (padded n 0 wires) ws (length wires) (m + length wires) (rw length-padded refl)
       ∙ ap (λ (l : List ℕ). padded m 0 records ++ l) (padded-more n wires ws h (length wires) refl))
 
   parts-record : (r : List ℕ) → length records + length r ≤ m → (at : ℕ) → at ≡ recordsOffset + length records
-      → written at r (parts m n head records wires) ≡ parts m n head (records ++ r) wires
+      → sets (parts m n head records wires) at r ≡ parts m n head (records ++ r) wires
   unfolding parts
   parts-record r h at e =
       let l : length (padded m 0 records) ≡ m = length-padded m 0 records in
-      written-past head (padded m 0 records ++ padded n 0 wires) r (length records) at (omega arith)
+      sets-right head (padded m 0 records ++ padded n 0 wires) r (length records) at (omega arith)
       ∙ ap (λ (l : List ℕ). head ++ l)
-      (written-inside (padded m 0 records) (padded n 0 wires) r (length records) (omega arith)
+      (sets-left (padded m 0 records) (padded n 0 wires) r (length records) (omega arith)
       ∙ ap (λ (l : List ℕ). l ++ padded n 0 wires) (padded-more m records r h (length records) refl))
 
 parts-none : (m n k : ℕ) (head : List ℕ) → k ≡ m + n → head ++ replicate k 0 ≡ parts m n head [] []
@@ -116,7 +88,7 @@ no-states head k e = parts-none allRecordWords allWireWords k head e
 -- the wires and then the record of a state put into a table of the states before it
 module _ (head : List ℕ) (qs : List State) (q : State) (head-whole : length head ≡ recordsOffset) (few : length qs < maxStates) (room : wireCount qs + length (q .wires) ≤ maxWires) where
   pub state-written : (t : List ℕ) → t ≡ withStates head qs
-      → written (recordOffset (length qs)) (recordOf (wireCount qs) q) (written (wireOffset (wireCount qs)) (concatMap wireWordsOf (q .wires)) t)
+      → sets (sets t (wireOffset (wireCount qs)) (concatMap wireWordsOf (q .wires))) (recordOffset (length qs)) (recordOf (wireCount qs) q)
       ≡ withStates head (qs ++ (q ∷ []))
   unfolding withStates parts
   state-written t e =
@@ -125,8 +97,8 @@ module _ (head : List ℕ) (qs : List State) (q : State) (head-whole : length he
       let b = length-wordsOf (q .wires) in
       let c = length-recordsOf 0 qs in
       let r = length-recordOf (wireCount qs) q in
-      ap (λ (l : List ℕ). written (recordOffset (length qs)) (recordOf (wireCount qs) q) (written (wireOffset (wireCount qs)) w l)) e
-      ∙ ap (λ (l : List ℕ). written (recordOffset (length qs)) (recordOf (wireCount qs) q) l)
+      ap (λ (l : List ℕ). sets (sets l (wireOffset (wireCount qs)) w) (recordOffset (length qs)) (recordOf (wireCount qs) q)) e
+      ∙ ap (λ (l : List ℕ). sets l (recordOffset (length qs)) (recordOf (wireCount qs) q))
       (parts-wires allRecordWords allWireWords head (recordsOf 0 qs) (wiresOf qs) head-whole w (omega arith) (wireOffset (wireCount qs)) (omega arith))
       ∙ parts-record allRecordWords allWireWords head (recordsOf 0 qs) (wiresOf qs ++ w) head-whole (recordOf (wireCount qs) q) (omega arith) (recordOffset (length qs)) (omega arith)
       ∙ ap (λ (l : List ℕ). parts allRecordWords allWireWords head l (wiresOf qs ++ w)) (sym (records-more 0 qs q ∙ ap (λ (i : ℕ). recordsOf 0 qs ++ recordOf i q) (omega arith)))

@@ -1,9 +1,9 @@
 -- A machine table of which some states are written, which the contracts of the table code cite. Assumes nothing.
-use Prim.Native.Nat.{ℕ, _+_}
+use Prim.Native.Nat.{ℕ}
 use mathlib.Core.Path.{_≡_}
 use mathlib.Core.Bool.{true}
 use mathlib.Core.List.{List, _++_, map}
-use lib.ListN.{length, take, drop}
+use lib.ListN.{length, take}
 use Rattle.runs.specs.Lists.{upFrom, mem, padded}
 use Rattle.cfg.specs.Graph.{successors}
 use Rattle.cfg.specs.Table.{graphOf, admitted}
@@ -14,10 +14,6 @@ use Rattle.grouping.specs.Grouping.{groups}
 use Rattle.grouping.specs.Bytes.{edgesIn}
 use Rattle.placement.specs.PlacementBytes.{marked}
 use Rattle.state.specs.Wires.{stateOf}
-
--- words t with the words s from number `at` on
-abbrev pub written : ℕ → List ℕ → List ℕ → List ℕ
-written at s t = take at t ++ (s ++ drop (at + length s) t)
 
 -- a table whose words before the records are `head`, with the records and wires of the states qs and no others
 unfoldable pub withStates : List ℕ → List State → List ℕ

@@ -10,7 +10,8 @@ ghost use mathlib.Core.Path.{_≡_};
 ghost use mathlib.Core.Bool.{true};
 ghost use mathlib.Core.List.{[], _∷_, _++_};
 ghost use Prim.Native.Nat.{ℕ, _+_, _<_, _≤_};
-ghost use lib.ListN.{length, getD, take, replicate};
+ghost use lib.ListN.{length, getD, take};
+ghost use lib.Seq.{sets};
 ghost use Rattle.runs.specs.Lists.{mem};
 ghost use Rattle.cfg.specs.Table.{graphOf, admitted};
 ghost use Rattle.fsmd.specs.Layout.{maxBlocks, maxRegisters, maxWires, recordWords, recordsOffset, machineWords};
@@ -19,57 +20,18 @@ ghost use Rattle.fsmd.specs.Table.{tableOf};
 ghost use Rattle.placement.specs.PlacementBytes.{marked};
 ghost use Rattle.state.specs.Making.{Edged};
 ghost use Rattle.synthesis.specs.Synthesis.{machine, synthesisAnswer, synthesisWords};
-ghost use Rattle.synthesis.specs.StateWords.{written, withStates, firstStates, Prepared, Filled};
-
-fn word(x: u8) -> u32
-    ensures { λ r. ⌜ r ≡ x ⌝ }
-{
-    x as u32
-}
-
-fn clear(words: &mut [u32])
-    ensures { λ r. ⌜ now (words .exit) ≡ replicate (length (now (words .entry))) 0 ⌝ }
-{
-    let mut at = 0;
-    while at < words.len() {
-        words[at] = 0;
-        at += 1;
-    }
-}
-
-// The bytes as words from number `at` on.
-fn copy_bytes(words: &mut [u32], at: usize, bytes: &[u8])
-    requires { ⌜ at + length (now bytes) ≤ length (now words) ⌝ }
-    ensures { λ r. ⌜ now (words .exit) ≡ written at (now (bytes .entry)) (now (words .entry)) ⌝ }
-{
-    let mut i = 0;
-    while i < bytes.len() {
-        words[at + i] = word(bytes[i]);
-        i += 1;
-    }
-}
-
-fn copy_words(words: &mut [u32], at: usize, source: &[u32])
-    requires { ⌜ at + length (now source) ≤ length (now words) ⌝ }
-    ensures { λ r. ⌜ now (words .exit) ≡ written at (now (source .entry)) (now (words .entry)) ⌝ }
-{
-    let mut i = 0;
-    while i < source.len() {
-        words[at + i] = source[i];
-        i += 1;
-    }
-}
+ghost use Rattle.synthesis.specs.StateWords.{withStates, firstStates, Prepared, Filled};
 
 // The words before the records; every other word becomes 0.
 fn write_head(table: &mut [u32], count: u32, registers: u32, starters: &[u8], states: &[u8])
     requires { ⌜ (length (now table) ≡ machineWords) × (length (now starters) ≡ maxBlocks) × (length (now states) ≡ maxBlocks) ⌝ }
     ensures { λ r. ⌜ now (table .exit) ≡ withStates (count ∷ registers ∷ (now (starters .entry) ++ now (states .entry))) [] ⌝ }
 {
-    clear(table);
+    buffers::clear(table);
     table[Machine::STATE_COUNT] = count;
     table[Machine::REGISTER_COUNT] = registers;
-    copy_bytes(table, Machine::STARTERS, starters);
-    copy_bytes(table, Machine::BLOCK_STATES, states);
+    buffers::widen_bytes(table, Machine::STARTERS, starters);
+    buffers::widen_bytes(table, Machine::BLOCK_STATES, states);
 }
 
 // A state's record at word `at`.
@@ -82,12 +44,12 @@ fn write_record(
     registers: &[u32],
 )
     requires { ⌜ (at + recordWords ≤ length (now words)) × (length (now registers) ≡ maxRegisters) × (first ≤ maxWires) × (count ≤ maxWires) ⌝ }
-    ensures { λ r. ⌜ now (words .exit) ≡ written at (first ∷ count ∷ next ∷ now (registers .entry)) (now (words .entry)) ⌝ }
+    ensures { λ r. ⌜ now (words .exit) ≡ sets (now (words .entry)) at (first ∷ count ∷ next ∷ now (registers .entry)) ⌝ }
 {
     words[at] = first as u32;
     words[at + Machine::WIRE_COUNT] = count as u32;
     words[at + Machine::NEXT_STATE] = next;
-    copy_words(words, at + Machine::NEXT_REGISTERS, registers);
+    buffers::copy_words(words, at + Machine::NEXT_REGISTERS, registers);
 }
 
 // A mark at each starter.
@@ -98,7 +60,7 @@ fn starter_marks(starters: &[u8]) -> [u8; Graph::BLOCKS]
     let mut marks = [0u8; Graph::BLOCKS];
     let mut i = 0;
     while i < starters.len() {
-        marks[edges::wide(starters[i])] = 1;
+        marks[buffers::byte_index(starters[i])] = 1;
         i += 1;
     }
     marks

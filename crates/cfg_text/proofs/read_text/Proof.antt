@@ -1,6 +1,12 @@
 -- `cfg_text::read_text` meets its contract. Assumes nothing.
 use mathlib.Core.Path.{_≡_, _∙_, refl, sym, ap}
+use mathlib.Core.List.{_++_}
+use Prim.Native.Nat.{ℕ}
+use native.Mathlib.Omega.{arith}
+use lib.ListN.{length, drop}
 use denote.Ref.{now}
+use Rattle.buffers.proofs.Copies.{sets-front}
+use Rattle.cfg.specs.Layout.{graphWords}
 use Rattle.cfg_text.proofs.Otherwise.{not-read}
 use Rattle.cfg_text.proofs.Answering.{blank, too-long, too-short, answered, stays, written-over}
 use borrow.Author.Needs.{needs}
@@ -43,7 +49,9 @@ returns-4 c =
     let v = c .before .before .before .before .before .before .before .before .read-lines .last .1 .0 in
     let x = c .before .before .before .before .before .before .before .before .read-lines .ensures in
     let e = c .before .before .before .before .before .enum-told .given .1 in
-    (sym e ∙ answered t w (c .before .before .before .before .before .before .before .before .before .before .before .if1 .left) (c .before .before .before .before .before .before .before .before .before .before .if2 .left) r v x, written-over t w (c .before .before .before .before .before .before .before .before .before .before .before .if1 .left) (c .before .before .before .before .before .before .before .before .before .before .if2 .left) r v x (c .before .before .copy .last .1 .0) e (c .before .before .copy .ensures))
+    let q = c .before .before .copy-words in
+    let whole : length v ≡ graphWords = omega arith in
+    (sym e ∙ answered t w (c .before .before .before .before .before .before .before .before .before .before .before .if1 .left) (c .before .before .before .before .before .before .before .before .before .before .if2 .left) r v x, written-over t w (c .before .before .before .before .before .before .before .before .before .before .before .if1 .left) (c .before .before .before .before .before .before .before .before .before .before .if2 .left) r v x (q .last .0) e (q .ensures ∙ sets-front w v (omega arith) ∙ ap (λ (n : ℕ). v ++ drop n w) whole))
 
 pub read-text-spec : {M : Type 1} → statement M
 read-text-spec =

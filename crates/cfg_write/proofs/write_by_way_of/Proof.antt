@@ -1,9 +1,9 @@
 -- `cfg_write::write_by_way_of` meets its contract. Assumes nothing.
-use mathlib.Core.Path.{sym}
+use mathlib.Core.Path.{sym, _∙_}
 use Prim.Native.Nat.{ℕ, _≤_, _<_, _^_}
 use native.Mathlib.Omega.{arith}
-use lib.ListN.{length, getD}
-use lib.Seq.{length-take-le}
+use lib.ListN.{length, getD, take}
+use lib.Seq.{length-take-le, take-length}
 use Rattle.cfg_write.proofs.PutLaws.{put-length}
 use Rattle.cfg_write.proofs.WriteLaws.{out-short, copied, text-fits}
 use borrow.Author.Needs.{needs}
@@ -47,7 +47,7 @@ returns-2 c =
     let q = c .before .before .copy in
     let fits = room (c .before .before .before .before .before) in
     let same = put-length (p .ensures) in
-    copied (k .args .table .now) (k .args .out .now) (p .result) (k .pre .1) (p .ensures .place) (k .args .text .now) (p .last .0) (q .last .1 .0) (p .ensures .stored) (omega arith) (c .before .before .before .before .before .if1 .left) (q .ensures)
+    copied (k .args .table .now) (k .args .out .now) (p .result) (k .pre .1) (p .ensures .place) (k .args .text .now) (p .last .0) (q .last .1 .0) (p .ensures .stored) (omega arith) (c .before .before .before .before .before .if1 .left) (q .ensures .1 ∙ rw (take-length (take (p .result) (p .last .0))))
 
 pub write-by-way-of-spec : {M : Type 1} → statement M
 write-by-way-of-spec =

@@ -24,7 +24,7 @@ returns c =
     let a = c .before .before .before .before .before .before .before .before .args in
     let l = c .before .before .before .before .before .loop in
     let below = c .before .before .before .before .loop-test .taken in
-    let e : eqb (countsIn (now (a .waits)) (getD (now (a .left)) (l .i) 0)) 0 ≡ true = count-zero (now (a .waits)) (getD (now (a .left)) (l .i) 0) (c .before .before .wide .result) (c .before .mark .result) true (c .before .before .wide .ensures .0) (c .before .mark .ensures) (c .if1 .taken) in
+    let e : eqb (countsIn (now (a .waits)) (getD (now (a .left)) (l .i) 0)) 0 ≡ true = count-zero (now (a .waits)) (getD (now (a .left)) (l .i) 0) (c .before .before .byte-index .result) (c .before .mark .result) true (c .before .before .byte-index .ensures .0) (c .before .mark .ensures) (c .if1 .taken) in
     record {
       within = l .inv .0;
       block = λ h. l .inv .1 ∙ first-here (λ x. eqb (countsIn (now (a .waits)) x) 0) (now (a .left)) (l .i) below e;
@@ -36,7 +36,7 @@ loop-again c =
     let a = c .before .before .before .before .before .before .before .before .args in
     let l = c .before .before .before .before .before .loop in
     let below = c .before .before .before .before .loop-test .taken in
-    let e : eqb (countsIn (now (a .waits)) (getD (now (a .left)) (l .i) 0)) 0 ≡ false = count-zero (now (a .waits)) (getD (now (a .left)) (l .i) 0) (c .before .before .wide .result) (c .before .mark .result) false (c .before .before .wide .ensures .0) (c .before .mark .ensures) (c .if1 .left) in
+    let e : eqb (countsIn (now (a .waits)) (getD (now (a .left)) (l .i) 0)) 0 ≡ false = count-zero (now (a .waits)) (getD (now (a .left)) (l .i) 0) (c .before .before .byte-index .result) (c .before .mark .result) false (c .before .before .byte-index .ensures .0) (c .before .mark .ensures) (c .if1 .left) in
     (omega arith, l .inv .1 ∙ first-on (λ x. eqb (countsIn (now (a .waits)) x) 0) (now (a .left)) (l .i) below e)
 
 returns-2 : tie.Need-returns-2 Inv-loop μ-loop

@@ -34,7 +34,7 @@ raise-requires-2 c κs =
 loop-again : tie.Need-loop-again Inv-loop μ-loop
 loop-again c =
     let l = c .before .before .before .before .before .before .before .before .before .before .before .before .before .loop in
-    let u = c .before .before .before .before .before .before .before .before .before .before .wide .ensures .0 in
+    let u = c .before .before .before .before .before .before .before .before .before .before .byte-index .ensures .0 in
     let first = c .before .before .before .before .before .before .before .raise in
     let second = c .before .before .raise2 in
     counting-on (l .inv) (c .before .before .before .before .before .before .before .before .before .before .before .before .loop-test .taken) (second .last .1 .0) (second .ensures .0) (λ x. rw (← u, ← c .before .before .before .before .before .before .before .before .at .ensures, ← c .before .before .before .at2 .ensures) (omega (arith, second .ensures .1 x, first .ensures .1 x)))

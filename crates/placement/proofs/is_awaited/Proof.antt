@@ -12,7 +12,7 @@ use Rattle.placement.proofs.is_awaited.Tie as tie
 returns : tie.Need-returns
 returns c =
     let a = c .before .before .before .before .args in
-    rw (lt-ltb (a .t) maxBlocks (c .before .before .if1 .taken)) (ap not (c .mark .ensures ∙ ap (marked (now (a .starts))) (c .before .wide .ensures .0)))
+    rw (lt-ltb (a .t) maxBlocks (c .before .before .if1 .taken)) (ap not (c .mark .ensures ∙ ap (marked (now (a .starts))) (c .before .byte-index .ensures .0)))
 
 returns-2 : tie.Need-returns-2
 returns-2 c = rw (le-ltb (c .before .before .args .t) maxBlocks (c .if1 .left)) refl

@@ -14,21 +14,21 @@ use Rattle.placement.proofs.lower.Tie as tie
 taken : (c : tie.After-slice-known2) → awaited (now (c .before .before .before .before .before .before .args .starts)) (c .before .before .before .before .before .before .args .t) ≡ true
 taken c = sym (c .before .before .before .is-awaited .ensures) ∙ c .before .before .if1 .taken
 
-within : (c : tie.After-slice-known2) → c .before .wide .result < length (now (c .before .before .before .before .before .before .args .waits))
+within : (c : tie.After-slice-known2) → c .before .byte-index .result < length (now (c .before .before .before .before .before .before .args .waits))
 within c =
     let b = c .before .before .before .before .before .before in
-    omega (arith, c .before .wide .ensures .0, b .pre .0, awaited-below (now (b .args .starts)) (b .args .t) (taken c))
+    omega (arith, c .before .byte-index .ensures .0, b .pre .0, awaited-below (now (b .args .starts)) (b .args .t) (taken c))
 
 sub-waits : tie.Need-sub-waits
 sub-waits c =
     let b = c .before .before .before .before .before .before in
-    rw (c .before .wide .ensures .0)
+    rw (c .before .byte-index .ensures .0)
     (omega (arith, b .pre .1 (b .args .t), awaited-one (now (b .args .starts)) (now (b .args .waits)) (b .args .t) (taken c)))
 
 returns : tie.Need-returns
 returns c =
     let b = c .before .before .before .before .before .before in
-    rw (c .before .wide .ensures .0) (lower-one (now (b .args .starts)) (now (b .args .waits)) (b .args .t) (taken c) (b .pre .0))
+    rw (c .before .byte-index .ensures .0) (lower-one (now (b .args .starts)) (now (b .args .waits)) (b .args .t) (taken c) (b .pre .0))
 
 returns-2 : tie.Need-returns-2
 returns-2 c =

@@ -47,7 +47,7 @@ lower-edges-requires : tie.Need-lower-edges-requires Inv-loop μ-loop
 lower-edges-requires c κs =
     let l = c .before .before .before .before .before .before .before .before .before .before .before .before .before .loop in
     let f = c .before .before .before .before .before .to-front in
-    (c .wide .ensures .1, l .inv .counts-64, enough-in (l .inv) (c .before .before .before .before .before .before .before .before .choose .result) (omega (arith, c .before .before .before .before .before .before .before .if1 .left)) (f .ensures) (c .wide .ensures .0))
+    (c .byte-index .ensures .1, l .inv .counts-64, enough-in (l .inv) (c .before .before .before .before .before .before .before .before .choose .result) (omega (arith, c .before .before .before .before .before .before .before .if1 .left)) (f .ensures) (c .byte-index .ensures .0))
 
 loop-again : tie.Need-loop-again Inv-loop μ-loop
 loop-again c =
@@ -55,7 +55,7 @@ loop-again c =
     let f = c .before .before .before .before .before .before .before .to-front in
     let o = c .before .before .before .before .before .before .before .before .before .before .choose in
     let w = c .before .lower-edges in
-    on-in (l .inv) (o .result) (omega (arith, c .before .before .before .before .before .before .before .before .before .if1 .left)) (f .ensures) (c .before .before .wide .ensures .0) (o .ensures) (w .last .1 .1 .0) (w .ensures .0) (w .ensures .1)
+    on-in (l .inv) (o .result) (omega (arith, c .before .before .before .before .before .before .before .before .before .if1 .left)) (f .ensures) (c .before .before .byte-index .ensures .0) (o .ensures) (w .last .1 .1 .0) (w .ensures .0) (w .ensures .1)
 
 returns : tie.Need-returns Inv-loop μ-loop
 returns c =

@@ -14,18 +14,18 @@ use Rattle.placement.proofs.raise.Tie as tie
 taken : (c : tie.After-slice-known2) → awaited (now (c .before .before .before .before .before .before .args .starts)) (c .before .before .before .before .before .before .args .t) ≡ true
 taken c = sym (c .before .before .before .is-awaited .ensures) ∙ c .before .before .if1 .taken
 
-within : (c : tie.After-slice-known2) → c .before .wide .result < length (now (c .before .before .before .before .before .before .args .waits))
+within : (c : tie.After-slice-known2) → c .before .byte-index .result < length (now (c .before .before .before .before .before .before .args .waits))
 within c =
     let b = c .before .before .before .before .before .before in
-    omega (arith, c .before .wide .ensures .0, b .pre .0, awaited-below (now (b .args .starts)) (b .args .t) (taken c))
+    omega (arith, c .before .byte-index .ensures .0, b .pre .0, awaited-below (now (b .args .starts)) (b .args .t) (taken c))
 
 add-waits : tie.Need-add-waits
-add-waits c = omega (arith, c .before .before .before .before .before .before .pre .1 (c .before .wide .result))
+add-waits c = omega (arith, c .before .before .before .before .before .before .pre .1 (c .before .byte-index .result))
 
 returns : tie.Need-returns
 returns c =
     let b = c .before .before .before .before .before .before in
-    rw (c .before .wide .ensures .0) (raise-one (now (b .args .starts)) (now (b .args .waits)) (b .args .t) (taken c) (b .pre .0))
+    rw (c .before .byte-index .ensures .0) (raise-one (now (b .args .starts)) (now (b .args .waits)) (b .args .t) (taken c) (b .pre .0))
 
 returns-2 : tie.Need-returns-2
 returns-2 c =

@@ -38,7 +38,7 @@ is-starter-requires c κs =
     let s = c .before .before .before .before .before .before .before .before .before .before .before .before in
     let l = c .before .before .before in
     let p = s .pre .0 .each (l .loop .i) (omega arith) .known in
-    let e = c .wide .ensures in
+    let e = c .byte-word .ensures .0 in
     (s .pre .1 .0, λ z. absurd (omega arith))
 
 put-requires : tie.Need-put-requires Inv-loop μ-loop
@@ -48,7 +48,7 @@ put-requires c κs =
     let l = c .before .before .before .before .before .before .before .before .loop in
     let v = l .inv in
     let lt : l .i < length (a .order .now) = omega arith in
-    let ex = c .before .before .before .before .before .wide .ensures in
+    let ex = c .before .before .before .before .before .byte-word .ensures .0 in
     let ec = c .before .before .before .before .is-starter .ensures in
     let few = s .pre .0 .few in
     let g = s .pre .1 .1 .0 in
@@ -62,7 +62,7 @@ put-requires c κs =
             going-room (length (a .values .now)) (a .graph .now) (a .starters .now) (a .order .now) (a .wires .now) (l .i) (l .targets) (l .rows) (l .made .edges) (l .made .wires) (l .wires) (v .1) (v .2) room,
           ),
           put-room (length (a .values .now)) (a .graph .now) (a .starters .now) (a .order .now) (a .wires .now) (l .i) (l .targets) (l .rows) (l .made .edges) (l .made .wires) (l .wires) (v .1)
-              (length (l .values)) (c .before .before .before .before .before .wide .result) (c .before .before .before .before .is-starter .result) (v .3) ex ec lt (v .2) room,
+              (length (l .values)) (c .before .before .before .before .before .byte-word .result) (c .before .before .before .before .is-starter .result) (v .3) ex ec lt (v .2) room,
         ),
       ),
     )
@@ -74,12 +74,12 @@ loop-again c =
     let l = c .before .before .before .before .before .before .before .before .before .before .before .before .before .before .before .before .before .loop in
     let v = l .inv in
     let lt : l .i < length (a .order .now) = c .before .before .before .before .before .before .before .before .before .before .before .before .before .before .before .before .loop-test .taken in
-    let ex = c .before .before .before .before .before .before .before .before .before .before .before .before .before .before .wide .ensures in
+    let ex = c .before .before .before .before .before .before .before .before .before .before .before .before .before .before .byte-word .ensures .0 in
     let ec = c .before .before .before .before .before .before .before .before .before .before .before .before .before .is-starter .ensures in
     let u = c .before .before .before .before .before .before .before .before .put in (
       omega arith,
       put-next (length (a .values .now)) (a .graph .now) (a .starters .now) (a .order .now) (a .wires .now) (l .i) (l .targets) (l .rows) (l .made .edges) (l .made .wires) (l .wires) (v .1)
-          (length (l .values)) (c .before .before .before .before .before .before .before .before .before .before .before .before .before .before .wide .result) (c .before .before .before .before .before .before .before .before .before .before .before .before .before .is-starter .result) (v .3) ex ec lt _ _ _ _ _ (u .ensures .0),
+          (length (l .values)) (c .before .before .before .before .before .before .before .before .before .before .before .before .before .before .byte-word .result) (c .before .before .before .before .before .before .before .before .before .before .before .before .before .is-starter .result) (v .3) ex ec lt _ _ _ _ _ (u .ensures .0),
       u .kept .1 .1 .1 .1 .0 ∙ v .2,
       u .kept .1 .1 .1 .1 .1 .0 ∙ v .3,
       u .kept .1 .1 .1 .1 .1 .1 .0 ∙ v .4,

@@ -20,7 +20,7 @@ returns-2 c =
 returns-3 : tie.Need-returns-3
 returns-3 c =
     let a = c .before .before .before .args in
-    let i = c .before .before .wide .result - maxRegisters in
+    let i = c .before .before .word-index .result - maxRegisters in
     rw (le-ltb (a .x) (a .registers) (omega arith), le-leb maxRegisters (a .x) (omega arith))
     (same-test (ltb i (a .n)) (ltb (a .x) (maxRegisters + a .n))
     (λ e. let h = ltb-true i (a .n) e in lt-ltb (a .x) (maxRegisters + a .n) (omega arith))

@@ -47,7 +47,7 @@ returns c =
     let f = b .before .first-wire in
     let n = l .before .before .wire-count in
     let p = l .before .before .before .«record» in
-    let m = c .before .wide in
+    let m = c .before .word-index in
     let h : length rs ≡ maxRegisters = omega (arith, s .pre .1, l .store .kept .0, ap length (l .store .ensures), length-append rs (drop maxRegisters ws), length-drop maxRegisters ws) in
     clocked (a .sampled) t (a .k) (f .result) (n .result) (p .result) (m .result) (f .ensures .0) (n .ensures .0) (p .ensures) (m .ensures .0) rs
     (take (maxRegisters + n .result) (b .work .last .0)) (c .taken .result .words) (c .before .before .before .before .read .result)

@@ -13,7 +13,7 @@ returns : tie.Need-returns
 returns c =
     let a = c .before .before .before .before .args in
     let l = now (a .words) in
-    ap (λ (i : ℕ). getD l i 0) (c .before .before .wide .ensures .0) ∙ sym (getD-take (a .n) l (a .x) 0 (omega arith))
+    ap (λ (i : ℕ). getD l i 0) (c .before .before .word-index .ensures .0) ∙ sym (getD-take (a .n) l (a .x) 0 (omega arith))
 
 returns-2 : tie.Need-returns-2
 returns-2 c =

@@ -20,9 +20,9 @@ returns-2 c =
     let a = c .before .before .before .before .before .before .before .before .before .before .args in
     let at : ℕ → ℕ = λ x. getD (now (a .words)) (x % roomWords) 0 in
     let k = a .w .code in
-    let x = c .before .before .before .before .before .before .wide in
-    let y = c .before .before .before .before .before .wide2 in
-    let z = c .before .before .before .before .wide3 in
+    let x = c .before .before .before .before .before .before .word-index in
+    let y = c .before .before .before .before .before .word-index2 in
+    let z = c .before .before .before .before .word-index3 in
     c .eval .ensures ∙ ap (λ (u : ℕ). evalOf (a .sampled) k (at u) (at (y .result)) (at (z .result))) (x .ensures .0)
     ∙ ap₂ (λ (u v : ℕ). evalOf (a .sampled) k (at (a .w .a)) (at u) (at v)) (y .ensures .0) (z .ensures .0)
     ∙ value-other (a .sampled) at (a .w) (c .before .before .before .before .before .before .before .if1 .left)

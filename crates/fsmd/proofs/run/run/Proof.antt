@@ -39,7 +39,7 @@ cycle-requires : tie.Need-cycle-requires Inv-loop μ-loop
 cycle-requires c κs =
     let b = c .before .before .before .before in
     let s = b .before .before .before .before in
-    let w = c .before .wide in
+    let w = c .before .word-index in
     let m = admitted-facts (now (s .args .table)) (s .pre .1 .0) in
     let h : w .result < getD (now (s .args .table)) 0 0 = omega arith in (
       record {
@@ -63,7 +63,7 @@ returns c =
     let ws = upTo (a .limit) (now (a .words)) in
     let c₀ = startAt (a .start) (a .registers .words) in
     let r = d .cycle .result in
-    let e = d .cycle .ensures ∙ ap₂ (λ (w k : ℕ). clock (machineOf t) w (stateAt t k) (b .loop .file .words)) (d .before .before .before .sampled .ensures) (d .before .before .wide .ensures .0) in
+    let e = d .cycle .ensures ∙ ap₂ (λ (w k : ℕ). clock (machineOf t) w (stateAt t k) (b .loop .file .words)) (d .before .before .before .sampled .ensures) (d .before .before .word-index .ensures .0) in
     let s = cycle-step t ws (a .budget) c₀ (b .loop .count) (b .loop .state) (b .loop .file .words) (after t r) (b .loop .inv .2) (b .loop .inv .0) (omega arith) (lt-ltb (b .loop .count) (a .limit) (omega arith)) e in
     let end = moved (λ k. true) (b .loop .count) (after t r) in
     let h = after-halted t r (b .loop .count) (c .if1 .taken) in
@@ -82,7 +82,7 @@ loop-again c =
     let ws = upTo (a .limit) (now (a .words)) in
     let c₀ = startAt (a .start) (a .registers .words) in
     let r = d .cycle .result in
-    let e = d .cycle .ensures ∙ ap₂ (λ (w k : ℕ). clock (machineOf t) w (stateAt t k) (b .loop .file .words)) (d .before .before .before .sampled .ensures) (d .before .before .wide .ensures .0) in
+    let e = d .cycle .ensures ∙ ap₂ (λ (w k : ℕ). clock (machineOf t) w (stateAt t k) (b .loop .file .words)) (d .before .before .before .sampled .ensures) (d .before .before .word-index .ensures .0) in
     let s = cycle-step t ws (a .budget) c₀ (b .loop .count) (b .loop .state) (b .loop .file .words) (after t r) (b .loop .inv .2) (b .loop .inv .0) (omega arith) (lt-ltb (b .loop .count) (a .limit) (omega arith)) e in (
       c .if1 .left,
       search needs,

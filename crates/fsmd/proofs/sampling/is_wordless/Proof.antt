@@ -24,8 +24,8 @@ loop-holds : tie.Need-loop-holds Inv-loop μ-loop
 loop-holds c =
     let a = c .before .before .before in
     let t = now (a .args .table) in
-    let e = c .wide .ensures .0 in
-    (omega arith, omega (arith, e, admitted-facts t (a .pre .1) .few-states), wordless-is t (c .wide .result) e)
+    let e = c .word-index .ensures .0 in
+    (omega arith, omega (arith, e, admitted-facts t (a .pre .1) .few-states), wordless-is t (c .word-index .result) e)
 
 wires-wordless-requires : tie.Need-wires-wordless-requires Inv-loop μ-loop
 wires-wordless-requires c κs =
@@ -43,7 +43,7 @@ returns c =
     let t = now (a .args .table) in
     let w = c .before .wires-wordless in
     let e = w .ensures ∙ ap₂ (wordlessWires t) (c .before .before .before .first-wire .ensures .0) (c .before .before .wire-count .ensures .0) in
-    sym (b .loop .inv .2 ∙ below-fails (wordlessState t) (b .before .wide .result) (b .loop .k) (c .before .before .before .before .loop-test .taken) (w .result) e (c .if1 .taken))
+    sym (b .loop .inv .2 ∙ below-fails (wordlessState t) (b .before .word-index .result) (b .loop .k) (c .before .before .before .before .loop-test .taken) (w .result) e (c .if1 .taken))
 
 loop-again : tie.Need-loop-again Inv-loop μ-loop
 loop-again c =
@@ -54,14 +54,14 @@ loop-again c =
     let e = w .ensures ∙ ap₂ (wordlessWires t) (c .before .before .before .first-wire .ensures .0) (c .before .before .wire-count .ensures .0) in (
       omega arith,
       omega arith,
-      b .loop .inv .2 ∙ below-passes (wordlessState t) (b .before .wide .result) (b .loop .k) (c .before .before .before .before .loop-test .taken) (w .result) e (c .if1 .left),
+      b .loop .inv .2 ∙ below-passes (wordlessState t) (b .before .word-index .result) (b .loop .k) (c .before .before .before .before .loop-test .taken) (w .result) e (c .if1 .left),
     )
 
 returns-2 : tie.Need-returns-2 Inv-loop μ-loop
 returns-2 c =
     let b = c .before in
     let t = now (b .before .before .before .before .args .table) in
-    sym (b .loop .inv .2 ∙ below-done (wordlessState t) (b .before .wide .result) (b .loop .k) (c .loop-test .left))
+    sym (b .loop .inv .2 ∙ below-done (wordlessState t) (b .before .word-index .result) (b .loop .k) (c .loop-test .left))
 
 pub is-wordless-spec : {M : Type 1} → statement M
 is-wordless-spec =

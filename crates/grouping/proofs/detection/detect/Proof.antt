@@ -31,7 +31,7 @@ abbrev μ-visit : tie.MeasureT-visit
 room : (c : tie.Then3 Inv-edges μ-edges Inv-visit μ-visit) → c .before .before .before .before .before .before .before .before .before .before .edges .depth < maxBlocks
 room c =
     let a = c .before .before .before .before .before .before .before .before in
-    detect-room (a .before .before .edges .inv .0) (a .at .result) (c .before .before .before .before .before .before .before .wide3 .result) (c .before .before .before .before .before .before .before .wide3 .ensures .0) (a .at .ensures) (a .before .edges-test .taken) (c .before .before .before .before .before .before .if1 .taken) (c .if3 .taken)
+    detect-room (a .before .before .edges .inv .0) (a .at .result) (c .before .before .before .before .before .before .before .byte-index3 .result) (c .before .before .before .before .before .before .before .byte-index3 .ensures .0) (a .at .ensures) (a .before .edges-test .taken) (c .before .before .before .before .before .before .if1 .taken) (c .if3 .taken)
 
 array-write-seen : tie.Need-array-write-seen Inv-edges μ-edges Inv-visit μ-visit
 array-write-seen c = lit< tt
@@ -39,22 +39,22 @@ array-write-seen c = lit< tt
 visit-holds : tie.Need-visit-holds Inv-edges μ-edges Inv-visit μ-visit
 visit-holds c = let a = c .before .before in (detect-begins (now (a .args .edges)) (a .args .t3) (now (a .args .states)) (a .pre), refl)
 
-sub-wide : tie.Need-sub-wide Inv-edges μ-edges Inv-visit μ-visit
-sub-wide c = omega (arith, c .visit-test .taken)
+sub-byte-index : tie.Need-sub-byte-index Inv-edges μ-edges Inv-visit μ-visit
+sub-byte-index c = omega (arith, c .visit-test .taken)
 
-array-read-wide : tie.Need-array-read-wide Inv-edges μ-edges Inv-visit μ-visit
-array-read-wide c = omega (arith, c .visit-test .taken, shallow (c .before .visit .inv .0 .on .sized))
+array-read-byte-index : tie.Need-array-read-byte-index Inv-edges μ-edges Inv-visit μ-visit
+array-read-byte-index c = omega (arith, c .visit-test .taken, shallow (c .before .visit .inv .0 .on .sized))
 
-sub-wide-2 : tie.Need-sub-wide-2 Inv-edges μ-edges Inv-visit μ-visit
-sub-wide-2 c = omega (arith, c .before .visit-test .taken)
+sub-byte-index-2 : tie.Need-sub-byte-index-2 Inv-edges μ-edges Inv-visit μ-visit
+sub-byte-index-2 c = omega (arith, c .before .visit-test .taken)
 
-array-read-wide-2 : tie.Need-array-read-wide-2 Inv-edges μ-edges Inv-visit μ-visit
-array-read-wide-2 c = omega (arith, c .before .visit-test .taken, shallow (c .before .before .visit .inv .0 .on .sized))
+array-read-byte-index-2 : tie.Need-array-read-byte-index-2 Inv-edges μ-edges Inv-visit μ-visit
+array-read-byte-index-2 c = omega (arith, c .before .visit-test .taken, shallow (c .before .before .visit .inv .0 .on .sized))
 
 edges-holds : tie.Need-edges-holds Inv-edges μ-edges Inv-visit μ-visit
 edges-holds c =
     let v = c .before .before .before .visit in
-    (detect-enters (v .inv .0) (c .before .before .visit-test .taken) (c .before .wide .result) (c .wide2 .result) (c .before .wide .ensures .0) (c .wide2 .ensures .0), v .inv .1, refl, refl)
+    (detect-enters (v .inv .0) (c .before .before .visit-test .taken) (c .before .byte-index .result) (c .byte-index2 .result) (c .before .byte-index .ensures .0) (c .byte-index2 .ensures .0), v .inv .1, refl, refl)
 
 mul-at : tie.Need-mul-at Inv-edges μ-edges Inv-visit μ-visit
 mul-at c = omega (arith, c .before .edges .inv .0 .on .is-block)
@@ -96,13 +96,13 @@ visit-less : tie.Need-visit-less Inv-edges μ-edges Inv-visit μ-visit
 visit-less c =
     let a = c .before .before .before .before .before .before .before .before in
     let i = a .before .before .edges .inv in
-    detect-falls (i .0) (a .at .result) (c .before .before .before .before .before .before .before .wide3 .result) (c .before .before .before .before .before .before .before .wide3 .ensures .0) (a .at .ensures) (a .before .edges-test .taken) (c .before .before .before .before .before .before .if1 .taken) (c .if3 .taken) (i .2) (i .3)
+    detect-falls (i .0) (a .at .result) (c .before .before .before .before .before .before .before .byte-index3 .result) (c .before .before .before .before .before .before .before .byte-index3 .ensures .0) (a .at .ensures) (a .before .edges-test .taken) (c .before .before .before .before .before .before .if1 .taken) (c .if3 .taken) (i .2) (i .3)
 
 visit-again : tie.Need-visit-again Inv-edges μ-edges Inv-visit μ-visit
 visit-again c =
     let a = c .before .before .before .before .before .before .before .before in
     let i = a .before .before .edges .inv in
-    (detect-pushes (i .0) (a .at .result) (c .before .before .before .before .before .before .before .wide3 .result) (c .before .before .before .before .before .before .before .wide3 .ensures .0) (a .at .ensures) (a .before .edges-test .taken) (c .before .before .before .before .before .before .if1 .taken) (sym (c .before .before .illegal .ensures) ∙ c .before .if2 .left) (c .if3 .taken), i .1)
+    (detect-pushes (i .0) (a .at .result) (c .before .before .before .before .before .before .before .byte-index3 .result) (c .before .before .before .before .before .before .before .byte-index3 .ensures .0) (a .at .ensures) (a .before .edges-test .taken) (c .before .before .before .before .before .before .if1 .taken) (sym (c .before .before .illegal .ensures) ∙ c .before .if2 .left) (c .if3 .taken), i .1)
 
 edges-less : tie.Need-edges-less Inv-edges μ-edges Inv-visit μ-visit
 edges-less c = omega (arith, c .before .before .before .before .before .before .before .before .before .edges-test .taken)
@@ -111,7 +111,7 @@ edges-again : tie.Need-edges-again Inv-edges μ-edges Inv-visit μ-visit
 edges-again c =
     let a = c .before .before .before .before .before .before .before .before in
     let i = a .before .before .edges .inv in
-    (detect-known (i .0) (a .at .result) (c .before .before .before .before .before .before .before .wide3 .result) (c .before .before .before .before .before .before .before .wide3 .ensures .0) (a .at .ensures) (a .before .edges-test .taken) (c .before .before .before .before .before .before .if1 .taken) (sym (c .before .before .illegal .ensures) ∙ c .before .if2 .left) (c .if3 .left), i .1, i .2, i .3)
+    (detect-known (i .0) (a .at .result) (c .before .before .before .before .before .before .before .byte-index3 .result) (c .before .before .before .before .before .before .before .byte-index3 .ensures .0) (a .at .ensures) (a .before .edges-test .taken) (c .before .before .before .before .before .before .if1 .taken) (sym (c .before .before .illegal .ensures) ∙ c .before .if2 .left) (c .if3 .left), i .1, i .2, i .3)
 
 edges-less-2 : tie.Need-edges-less-2 Inv-edges μ-edges Inv-visit μ-visit
 edges-less-2 c = omega (arith, c .before .before .before .edges-test .taken)
@@ -120,7 +120,7 @@ edges-again-2 : tie.Need-edges-again-2 Inv-edges μ-edges Inv-visit μ-visit
 edges-again-2 c =
     let a = c .before .before in
     let i = a .before .before .edges .inv in
-    (detect-none (i .0) (a .at .result) (c .before .wide3 .result) (c .before .wide3 .ensures .0) (a .at .ensures) (a .before .edges-test .taken) (c .if1 .left), i .1, i .2, i .3)
+    (detect-none (i .0) (a .at .result) (c .before .byte-index3 .result) (c .before .byte-index3 .ensures .0) (a .at .ensures) (a .before .edges-test .taken) (c .if1 .left), i .1, i .2, i .3)
 
 sub-depth : tie.Need-sub-depth Inv-edges μ-edges Inv-visit μ-visit
 sub-depth c = omega (arith, c .before .edges .inv .0 .on .some)
@@ -141,7 +141,7 @@ returns c =
 returns-2 : tie.Need-returns-2 Inv-edges μ-edges Inv-visit μ-visit
 returns-2 c =
     let a = c .before .before .before .before .before .before .before in
-    detect-stops (a .before .before .edges .inv .0) (a .at .result) (c .before .before .before .before .before .before .wide3 .result) (c .before .before .before .before .before .before .wide3 .ensures .0) (a .at .ensures) (a .before .edges-test .taken) (c .before .before .before .before .before .if1 .taken) (sym (c .before .illegal .ensures) ∙ c .if2 .taken)
+    detect-stops (a .before .before .edges .inv .0) (a .at .result) (c .before .before .before .before .before .before .byte-index3 .result) (c .before .before .before .before .before .before .byte-index3 .ensures .0) (a .at .ensures) (a .before .edges-test .taken) (c .before .before .before .before .before .if1 .taken) (sym (c .before .illegal .ensures) ∙ c .if2 .taken)
 
 pub detect-spec : {M : Type 1} → statement M
 detect-spec =
@@ -153,11 +153,11 @@ detect-spec =
     μ-visit
     array-write-seen
     visit-holds
-    sub-wide
-    array-read-wide
+    sub-byte-index
+    array-read-byte-index
     (λ c κs. search needs)
-    sub-wide-2
-    array-read-wide-2
+    sub-byte-index-2
+    array-read-byte-index-2
     (λ c κs. search needs)
     edges-holds
     mul-at

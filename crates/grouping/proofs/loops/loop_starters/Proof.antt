@@ -30,7 +30,7 @@ abbrev μ-visit : tie.MeasureT-visit
 room : (c : tie.Then2 Inv-edges μ-edges Inv-visit μ-visit) → c .before .before .before .before .before .edges .depth < maxBlocks
 room c =
     let a = c .before .before .before in
-    loop-room (a .before .before .edges .inv .0) (a .at .result) (c .before .before .wide3 .result) (c .before .before .wide3 .ensures .0) (a .at .ensures) (a .before .edges-test .taken) (c .before .if1 .taken) (c .if2 .taken)
+    loop-room (a .before .before .edges .inv .0) (a .at .result) (c .before .before .byte-index3 .result) (c .before .before .byte-index3 .ensures .0) (a .at .ensures) (a .before .edges-test .taken) (c .before .if1 .taken) (c .if2 .taken)
 
 array-write-marks : tie.Need-array-write-marks Inv-edges μ-edges Inv-visit μ-visit
 array-write-marks c = lit< tt
@@ -38,22 +38,22 @@ array-write-marks c = lit< tt
 visit-holds : tie.Need-visit-holds Inv-edges μ-edges Inv-visit μ-visit
 visit-holds c = loop-begins (now (c .before .before .args .edges)) (c .entry .result) (c .entry .ensures .0) (c .entry .ensures .1)
 
-sub-wide : tie.Need-sub-wide Inv-edges μ-edges Inv-visit μ-visit
-sub-wide c = omega (arith, c .visit-test .taken)
+sub-byte-index : tie.Need-sub-byte-index Inv-edges μ-edges Inv-visit μ-visit
+sub-byte-index c = omega (arith, c .visit-test .taken)
 
-array-read-wide : tie.Need-array-read-wide Inv-edges μ-edges Inv-visit μ-visit
-array-read-wide c = omega (arith, c .visit-test .taken, shallow (c .before .visit .inv .on .sized))
+array-read-byte-index : tie.Need-array-read-byte-index Inv-edges μ-edges Inv-visit μ-visit
+array-read-byte-index c = omega (arith, c .visit-test .taken, shallow (c .before .visit .inv .on .sized))
 
-sub-wide-2 : tie.Need-sub-wide-2 Inv-edges μ-edges Inv-visit μ-visit
-sub-wide-2 c = omega (arith, c .before .visit-test .taken)
+sub-byte-index-2 : tie.Need-sub-byte-index-2 Inv-edges μ-edges Inv-visit μ-visit
+sub-byte-index-2 c = omega (arith, c .before .visit-test .taken)
 
-array-read-wide-2 : tie.Need-array-read-wide-2 Inv-edges μ-edges Inv-visit μ-visit
-array-read-wide-2 c = omega (arith, c .before .visit-test .taken, shallow (c .before .before .visit .inv .on .sized))
+array-read-byte-index-2 : tie.Need-array-read-byte-index-2 Inv-edges μ-edges Inv-visit μ-visit
+array-read-byte-index-2 c = omega (arith, c .before .visit-test .taken, shallow (c .before .before .visit .inv .on .sized))
 
 edges-holds : tie.Need-edges-holds Inv-edges μ-edges Inv-visit μ-visit
 edges-holds c =
     let v = c .before .before .before .visit in
-    (loop-enters (v .inv) (c .before .before .visit-test .taken) (c .before .wide .result) (c .wide2 .result) (c .before .wide .ensures .0) (c .wide2 .ensures .0), refl, refl)
+    (loop-enters (v .inv) (c .before .before .visit-test .taken) (c .before .byte-index .result) (c .byte-index2 .result) (c .before .byte-index .ensures .0) (c .byte-index2 .ensures .0), refl, refl)
 
 mul-at : tie.Need-mul-at Inv-edges μ-edges Inv-visit μ-visit
 mul-at c = omega (arith, c .before .edges .inv .0 .on .is-block)
@@ -92,18 +92,18 @@ visit-less : tie.Need-visit-less Inv-edges μ-edges Inv-visit μ-visit
 visit-less c =
     let a = c .before .before .before in
     let i = a .before .before .edges .inv in
-    loop-falls (i .0) (a .at .result) (c .before .before .wide3 .result) (c .before .before .wide3 .ensures .0) (a .at .ensures) (a .before .edges-test .taken) (c .before .if1 .taken) (c .if2 .taken) (i .1) (i .2)
+    loop-falls (i .0) (a .at .result) (c .before .before .byte-index3 .result) (c .before .before .byte-index3 .ensures .0) (a .at .ensures) (a .before .edges-test .taken) (c .before .if1 .taken) (c .if2 .taken) (i .1) (i .2)
 
 visit-again : tie.Need-visit-again Inv-edges μ-edges Inv-visit μ-visit
 visit-again c =
     let a = c .before .before .before in
-    loop-pushes (a .before .before .edges .inv .0) (a .at .result) (c .before .before .wide3 .result) (c .before .before .wide3 .ensures .0) (a .at .ensures) (a .before .edges-test .taken) (c .before .if1 .taken) (c .if2 .taken)
+    loop-pushes (a .before .before .edges .inv .0) (a .at .result) (c .before .before .byte-index3 .result) (c .before .before .byte-index3 .ensures .0) (a .at .ensures) (a .before .edges-test .taken) (c .before .if1 .taken) (c .if2 .taken)
 
 array-read-if3 : tie.Need-array-read-if3 Inv-edges μ-edges Inv-visit μ-visit
 array-read-if3 c = c .before .if1 .taken
 
 with-requires : tie.Need-with-requires Inv-edges μ-edges Inv-visit μ-visit
-with-requires c κs = (c .before .before .before .before .before .before .edges .inv .0 .listed, rw (c .before .before .before .wide3 .ensures .0) at (c .before .before .if1 .taken))
+with-requires c κs = (c .before .before .before .before .before .before .edges .inv .0 .listed, rw (c .before .before .before .byte-index3 .ensures .0) at (c .before .before .if1 .taken))
 
 edges-less : tie.Need-edges-less Inv-edges μ-edges Inv-visit μ-visit
 edges-less c = omega (arith, c .before .before .before .before .before .before .edges-test .taken)
@@ -112,7 +112,7 @@ edges-again : tie.Need-edges-again Inv-edges μ-edges Inv-visit μ-visit
 edges-again c =
     let a = c .before .before .before .before .before in
     let i = a .before .before .edges .inv in (
-      loop-again (i .0) (a .at .result) (c .before .before .before .before .wide3 .result) (c .before .before .before .before .wide3 .ensures .0) (a .at .ensures) (a .before .edges-test .taken) (c .before .before .before .if1 .taken)
+      loop-again (i .0) (a .at .result) (c .before .before .before .before .byte-index3 .result) (c .before .before .before .before .byte-index3 .ensures .0) (a .at .ensures) (a .before .edges-test .taken) (c .before .before .before .if1 .taken)
           (c .before .if3 .taken) (c .with .result) (c .with .ensures .0) (c .with .ensures .1),
       i .1,
       i .2,
@@ -125,7 +125,7 @@ edges-again-2 : tie.Need-edges-again-2 Inv-edges μ-edges Inv-visit μ-visit
 edges-again-2 c =
     let a = c .before .before .before .before in
     let i = a .before .before .edges .inv in (
-      loop-known (i .0) (a .at .result) (c .before .before .before .wide3 .result) (c .before .before .before .wide3 .ensures .0) (a .at .ensures) (a .before .edges-test .taken) (c .before .before .if1 .taken)
+      loop-known (i .0) (a .at .result) (c .before .before .before .byte-index3 .result) (c .before .before .before .byte-index3 .ensures .0) (a .at .ensures) (a .before .edges-test .taken) (c .before .before .if1 .taken)
           (c .before .if2 .left) (c .if3 .left),
       i .1,
       i .2,
@@ -138,7 +138,7 @@ edges-again-3 : tie.Need-edges-again-3 Inv-edges μ-edges Inv-visit μ-visit
 edges-again-3 c =
     let a = c .before .before in
     let i = a .before .before .edges .inv in
-    (loop-none (i .0) (a .at .result) (c .before .wide3 .result) (c .before .wide3 .ensures .0) (a .at .ensures) (a .before .edges-test .taken) (c .if1 .left), i .1, i .2)
+    (loop-none (i .0) (a .at .result) (c .before .byte-index3 .result) (c .before .byte-index3 .ensures .0) (a .at .ensures) (a .before .edges-test .taken) (c .if1 .left), i .1, i .2)
 
 array-write-marks-3 : tie.Need-array-write-marks-3 Inv-edges μ-edges Inv-visit μ-visit
 array-write-marks-3 c = c .before .edges .inv .0 .on .is-block
@@ -149,7 +149,7 @@ sub-depth c = omega (arith, c .before .edges .inv .0 .on .some)
 visit-less-2 : tie.Need-visit-less-2 Inv-edges μ-edges Inv-visit μ-visit
 visit-less-2 c =
     let e = c .before .edges in
-    rw (← e .inv .1) (omega (arith, e .inv .0 .on .some, e .inv .2, used-more 0 (e .marks) (c .before .before .before .wide .result) 2 (λ h. omega arith)))
+    rw (← e .inv .1) (omega (arith, e .inv .0 .on .some, e .inv .2, used-more 0 (e .marks) (c .before .before .before .byte-index .result) 2 (λ h. omega arith)))
 
 visit-again-2 : tie.Need-visit-again-2 Inv-edges μ-edges Inv-visit μ-visit
 visit-again-2 c = loop-pops (c .before .edges .inv .0) (c .edges-test .left)
@@ -168,11 +168,11 @@ loop-starters-spec =
     (λ c κs. search needs)
     array-write-marks
     visit-holds
-    sub-wide
-    array-read-wide
+    sub-byte-index
+    array-read-byte-index
     (λ c κs. search needs)
-    sub-wide-2
-    array-read-wide-2
+    sub-byte-index-2
+    array-read-byte-index-2
     (λ c κs. search needs)
     edges-holds
     mul-at

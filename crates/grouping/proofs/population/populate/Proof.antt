@@ -20,7 +20,7 @@ abbrev μ-loop : tie.MeasureT-loop
 
 -- one more state to populate
 more : (c : tie.Then1 Inv-loop μ-loop) → c .before .before .loop .k < c .before .before .before .before .before .before .args .starters .count
-more c = omega (arith, c .if1 .taken, c .before .wide .ensures .0)
+more c = omega (arith, c .if1 .taken, c .before .byte-index .ensures .0)
 
 few : (c : tie.Start Inv-loop μ-loop) → c .args .starters .count ≤ maxBlocks
 few c = starters-few (c .args .starters) (c .pre)
@@ -52,7 +52,7 @@ returns : tie.Need-returns Inv-loop μ-loop
 returns c =
     let a = c .before .before .before .before .before .before in
     let l = c .before .before .loop in
-    populating-ends (now (a .args .edges)) (a .args .starters) (a .pre) (l .states) (l .k) (l .inv) (omega (arith, c .if1 .left, c .before .wide .ensures .0))
+    populating-ends (now (a .args .edges)) (a .args .starters) (a .pre) (l .states) (l .k) (l .inv) (omega (arith, c .if1 .left, c .before .byte-index .ensures .0))
 
 pub populate-spec : {M : Type 1} → statement M
 populate-spec =

@@ -28,24 +28,24 @@ Inv-visit edges starters marks k states₀ number first root stack₀ passed₀ 
 abbrev μ-visit : tie.MeasureT-visit
 μ-visit edges starters marks k states₀ number first root stack₀ passed₀ depth₀ states stack passed depth = 2 * (maxBlocks - used none states) + depth
 
-few : (c : tie.After-wide Inv-edges μ-edges Inv-visit μ-visit) → c .before .before .before .before .before .args .k < maxBlocks
+few : (c : tie.After-byte-index Inv-edges μ-edges Inv-visit μ-visit) → c .before .before .before .before .before .args .k < maxBlocks
 few c = let a = c .before .before .before .before .before in omega (arith, a .pre .1, a .pre .0 .few)
 
 -- the starter's byte, and that it is a block
-first-is : (c : tie.After-wide2 Inv-edges μ-edges Inv-visit μ-visit) → c .wide2 .result ≡ getD (now (c .before .before .before .before .before .before .before .args .starters)) (c .before .before .before .before .before .before .before .args .k) 0
-first-is c = c .wide2 .ensures .0 ∙ ap (λ (n : ℕ). getD (now (c .before .before .before .before .before .before .before .args .starters)) n 0) (c .before .before .wide .ensures .0)
+first-is : (c : tie.After-byte-index2 Inv-edges μ-edges Inv-visit μ-visit) → c .byte-index2 .result ≡ getD (now (c .before .before .before .before .before .before .before .args .starters)) (c .before .before .before .before .before .before .before .args .k) 0
+first-is c = c .byte-index2 .ensures .0 ∙ ap (λ (n : ℕ). getD (now (c .before .before .before .before .before .before .before .args .starters)) n 0) (c .before .before .byte-index .ensures .0)
 
-root-low : (c : tie.After-wide2 Inv-edges μ-edges Inv-visit μ-visit) → c .wide2 .result < maxBlocks
+root-low : (c : tie.After-byte-index2 Inv-edges μ-edges Inv-visit μ-visit) → c .byte-index2 .result < maxBlocks
 root-low c = rw (first-is c) (c .before .before .before .before .before .before .before .pre .0 .blocks (c .before .before .before .before .before .before .before .args .k) (c .before .before .before .before .before .before .before .pre .1))
 
 -- a block that is not taken yet finds room on the stack
 room : (c : tie.Then4 Inv-edges μ-edges Inv-visit μ-visit) → c .before .before .before .before .before .before .before .before .edges .depth < maxBlocks
 room c =
     let a = c .before .before .before .before .before .before in
-    take-room (a .before .before .edges .inv .0) (a .at .result) (c .before .before .before .before .before .wide5 .result) (c .before .before .before .before .before .wide5 .ensures .0) (a .at .ensures) (a .before .edges-test .taken) (c .before .before .before .before .if2 .taken) (c .before .before .if3 .taken)
+    take-room (a .before .before .edges .inv .0) (a .at .result) (c .before .before .before .before .before .byte-index5 .result) (c .before .before .before .before .before .byte-index5 .ensures .0) (a .at .ensures) (a .before .edges-test .taken) (c .before .before .before .before .if2 .taken) (c .before .before .if3 .taken)
 
 shared-slice-read-first : tie.Need-shared-slice-read-first Inv-edges μ-edges Inv-visit μ-visit
-shared-slice-read-first c = rw (c .before .wide .ensures .0) (c .before .before .before .before .before .before .pre .1)
+shared-slice-read-first c = rw (c .before .byte-index .ensures .0) (c .before .before .before .before .before .before .pre .1)
 
 slice-read-if1 : tie.Need-slice-read-if1 Inv-edges μ-edges Inv-visit μ-visit
 slice-read-if1 c = omega (arith, root-low (c .before), c .before .before .before .before .before .before .before .before .pre .2)
@@ -53,7 +53,7 @@ slice-read-if1 c = omega (arith, root-low (c .before), c .before .before .before
 returns : tie.Need-returns Inv-edges μ-edges Inv-visit μ-visit
 returns c =
     let a = c .before .before .before .before .before .before .before .before .before in
-    take-nothing (now (a .args .edges)) (now (a .args .starters)) (now (a .args .marks)) (getD (now (a .args .starters)) (a .args .k) 0) (c .before .before .wide2 .result) (a .args .k) (first-is (c .before .before)) (now (a .args .states)) (a .pre .2) (root-low (c .before .before)) (c .if1 .taken)
+    take-nothing (now (a .args .edges)) (now (a .args .starters)) (now (a .args .marks)) (getD (now (a .args .starters)) (a .args .k) 0) (c .before .before .byte-index2 .result) (a .args .k) (first-is (c .before .before)) (now (a .args .states)) (a .pre .2) (root-low (c .before .before)) (c .if1 .taken)
 
 slice-write-states : tie.Need-slice-write-states Inv-edges μ-edges Inv-visit μ-visit
 slice-write-states c = omega (arith, root-low (c .before .before), c .before .before .before .before .before .before .before .before .before .pre .2)
@@ -65,24 +65,24 @@ visit-holds : tie.Need-visit-holds Inv-edges μ-edges Inv-visit μ-visit
 visit-holds c =
     let a = c .before .before .before .before .before .before .before .before .before in
     let k-low : a .args .k < none = omega (arith, few (c .before .before .before .before)) in
-    take-begins (now (a .args .edges)) (now (a .args .starters)) (now (a .args .marks)) (getD (now (a .args .starters)) (c .before .before .before .before .wide .result) 0) (c .before .before .wide2 .result) (a .args .k) (c .before .before .wide2 .ensures .0) (now (a .args .states)) (a .pre .2) (root-low (c .before .before)) k-low (c .if1 .left) (a .pre .0)
+    take-begins (now (a .args .edges)) (now (a .args .starters)) (now (a .args .marks)) (getD (now (a .args .starters)) (c .before .before .before .before .byte-index .result) 0) (c .before .before .byte-index2 .result) (a .args .k) (c .before .before .byte-index2 .ensures .0) (now (a .args .states)) (a .pre .2) (root-low (c .before .before)) k-low (c .if1 .left) (a .pre .0)
 
-sub-wide : tie.Need-sub-wide Inv-edges μ-edges Inv-visit μ-visit
-sub-wide c = omega (arith, c .visit-test .taken)
+sub-byte-index : tie.Need-sub-byte-index Inv-edges μ-edges Inv-visit μ-visit
+sub-byte-index c = omega (arith, c .visit-test .taken)
 
-array-read-wide : tie.Need-array-read-wide Inv-edges μ-edges Inv-visit μ-visit
-array-read-wide c = omega (arith, c .visit-test .taken, shallow (c .before .visit .inv .on .sized))
+array-read-byte-index : tie.Need-array-read-byte-index Inv-edges μ-edges Inv-visit μ-visit
+array-read-byte-index c = omega (arith, c .visit-test .taken, shallow (c .before .visit .inv .on .sized))
 
-sub-wide-2 : tie.Need-sub-wide-2 Inv-edges μ-edges Inv-visit μ-visit
-sub-wide-2 c = omega (arith, c .before .visit-test .taken)
+sub-byte-index-2 : tie.Need-sub-byte-index-2 Inv-edges μ-edges Inv-visit μ-visit
+sub-byte-index-2 c = omega (arith, c .before .visit-test .taken)
 
-array-read-wide-2 : tie.Need-array-read-wide-2 Inv-edges μ-edges Inv-visit μ-visit
-array-read-wide-2 c = omega (arith, c .before .visit-test .taken, shallow (c .before .before .visit .inv .on .sized))
+array-read-byte-index-2 : tie.Need-array-read-byte-index-2 Inv-edges μ-edges Inv-visit μ-visit
+array-read-byte-index-2 c = omega (arith, c .before .visit-test .taken, shallow (c .before .before .visit .inv .on .sized))
 
 edges-holds : tie.Need-edges-holds Inv-edges μ-edges Inv-visit μ-visit
 edges-holds c =
     let v = c .before .before .before .visit in
-    (take-enters (v .inv) (c .before .before .visit-test .taken) (c .before .wide3 .result) (c .wide4 .result) (c .before .wide3 .ensures .0) (c .wide4 .ensures .0), refl, refl)
+    (take-enters (v .inv) (c .before .before .visit-test .taken) (c .before .byte-index3 .result) (c .byte-index4 .result) (c .before .byte-index3 .ensures .0) (c .byte-index4 .ensures .0), refl, refl)
 
 mul-at : tie.Need-mul-at Inv-edges μ-edges Inv-visit μ-visit
 mul-at c = omega (arith, c .before .edges .inv .0 .on .is-block)
@@ -124,13 +124,13 @@ visit-less : tie.Need-visit-less Inv-edges μ-edges Inv-visit μ-visit
 visit-less c =
     let a = c .before .before .before .before .before .before in
     let i = a .before .before .edges .inv in
-    take-falls (i .0) (a .at .result) (c .before .before .before .before .before .wide5 .result) (c .before .before .before .before .before .wide5 .ensures .0) (a .at .ensures) (a .before .edges-test .taken) (c .before .before .before .before .if2 .taken) (c .before .before .if3 .taken) (i .1) (i .2)
+    take-falls (i .0) (a .at .result) (c .before .before .before .before .before .byte-index5 .result) (c .before .before .before .before .before .byte-index5 .ensures .0) (a .at .ensures) (a .before .edges-test .taken) (c .before .before .before .before .if2 .taken) (c .before .before .if3 .taken) (i .1) (i .2)
 
 visit-again : tie.Need-visit-again Inv-edges μ-edges Inv-visit μ-visit
 visit-again c =
     let a = c .before .before .before .before .before .before in
     let i = a .before .before .edges .inv in
-    take-onward (take-pushes (i .0) (a .at .result) (c .before .before .before .before .before .wide5 .result) (c .before .before .before .before .before .wide5 .ensures .0) (a .at .ensures) (a .before .edges-test .taken) (c .before .before .before .before .if2 .taken) (c .before .before .if3 .taken) (c .if4 .taken)) (c .before .before .before .before .before .before .before .before .before .before .before .before .visit .inv .on .left)
+    take-onward (take-pushes (i .0) (a .at .result) (c .before .before .before .before .before .byte-index5 .result) (c .before .before .before .before .before .byte-index5 .ensures .0) (a .at .ensures) (a .before .edges-test .taken) (c .before .before .before .before .if2 .taken) (c .before .before .if3 .taken) (c .if4 .taken)) (c .before .before .before .before .before .before .before .before .before .before .before .before .visit .inv .on .left)
 
 edges-less : tie.Need-edges-less Inv-edges μ-edges Inv-visit μ-visit
 edges-less c = omega (arith, c .before .before .before .before .before .before .before .edges-test .taken)
@@ -139,7 +139,7 @@ edges-again : tie.Need-edges-again Inv-edges μ-edges Inv-visit μ-visit
 edges-again c =
     let a = c .before .before .before .before .before .before in
     let i = a .before .before .edges .inv in
-    (take-starter (i .0) (a .at .result) (c .before .before .before .before .before .wide5 .result) (c .before .before .before .before .before .wide5 .ensures .0) (a .at .ensures) (a .before .edges-test .taken) (c .before .before .before .before .if2 .taken) (c .before .before .if3 .taken) (c .if4 .left), i .1, i .2)
+    (take-starter (i .0) (a .at .result) (c .before .before .before .before .before .byte-index5 .result) (c .before .before .before .before .before .byte-index5 .ensures .0) (a .at .ensures) (a .before .edges-test .taken) (c .before .before .before .before .if2 .taken) (c .before .before .if3 .taken) (c .if4 .left), i .1, i .2)
 
 edges-less-2 : tie.Need-edges-less-2 Inv-edges μ-edges Inv-visit μ-visit
 edges-less-2 c = omega (arith, c .before .before .before .before .before .edges-test .taken)
@@ -148,7 +148,7 @@ edges-again-2 : tie.Need-edges-again-2 Inv-edges μ-edges Inv-visit μ-visit
 edges-again-2 c =
     let a = c .before .before .before .before in
     let i = a .before .before .edges .inv in
-    (take-known (i .0) (a .at .result) (c .before .before .before .wide5 .result) (c .before .before .before .wide5 .ensures .0) (a .at .ensures) (a .before .edges-test .taken) (c .before .before .if2 .taken) (c .if3 .left), i .1, i .2)
+    (take-known (i .0) (a .at .result) (c .before .before .before .byte-index5 .result) (c .before .before .before .byte-index5 .ensures .0) (a .at .ensures) (a .before .edges-test .taken) (c .before .before .if2 .taken) (c .if3 .left), i .1, i .2)
 
 edges-less-3 : tie.Need-edges-less-3 Inv-edges μ-edges Inv-visit μ-visit
 edges-less-3 c = omega (arith, c .before .before .before .edges-test .taken)
@@ -157,7 +157,7 @@ edges-again-3 : tie.Need-edges-again-3 Inv-edges μ-edges Inv-visit μ-visit
 edges-again-3 c =
     let a = c .before .before in
     let i = a .before .before .edges .inv in
-    (take-none (i .0) (a .at .result) (c .before .wide5 .result) (c .before .wide5 .ensures .0) (a .at .ensures) (a .before .edges-test .taken) (c .if2 .left), i .1, i .2)
+    (take-none (i .0) (a .at .result) (c .before .byte-index5 .result) (c .before .byte-index5 .ensures .0) (a .at .ensures) (a .before .edges-test .taken) (c .if2 .left), i .1, i .2)
 
 sub-depth : tie.Need-sub-depth Inv-edges μ-edges Inv-visit μ-visit
 sub-depth c = omega (arith, c .before .edges .inv .0 .on .some)
@@ -179,8 +179,8 @@ returns-2 c =
     let w = c .before .before .before .before in
     let k-low : a .args .k < none = omega (arith, few (c .before .before .before .before .before .before)) in
     take-ends (c .before .visit .inv) (omega (arith, c .visit-test .left))
-    ∙ take-whole (now (a .args .edges)) (now (a .args .starters)) (now (a .args .marks)) (getD (now (a .args .starters)) (c .before .before .before .before .before .before .wide .result) 0) (w .wide2 .result) (a .args .k) (w .wide2 .ensures .0) (now (a .args .states)) (a .pre .2) (root-low w) k-low (c .before .before .if1 .left)
-    ∙ ap (λ (n : ℕ). taken (now (a .args .edges)) (now (a .args .starters)) (getD (now (a .args .starters)) n 0) (a .args .k) (now (a .args .states))) (c .before .before .before .before .before .before .wide .ensures .0)
+    ∙ take-whole (now (a .args .edges)) (now (a .args .starters)) (now (a .args .marks)) (getD (now (a .args .starters)) (c .before .before .before .before .before .before .byte-index .result) 0) (w .byte-index2 .result) (a .args .k) (w .byte-index2 .ensures .0) (now (a .args .states)) (a .pre .2) (root-low w) k-low (c .before .before .if1 .left)
+    ∙ ap (λ (n : ℕ). taken (now (a .args .edges)) (now (a .args .starters)) (getD (now (a .args .starters)) n 0) (a .args .k) (now (a .args .states))) (c .before .before .before .before .before .before .byte-index .ensures .0)
 
 pub take-state-spec : {M : Type 1} → statement M
 take-state-spec =
@@ -198,11 +198,11 @@ take-state-spec =
     slice-write-states
     array-write-stack
     visit-holds
-    sub-wide
-    array-read-wide
+    sub-byte-index
+    array-read-byte-index
     (λ c κs. search needs)
-    sub-wide-2
-    array-read-wide-2
+    sub-byte-index-2
+    array-read-byte-index-2
     (λ c κs. search needs)
     edges-holds
     mul-at

@@ -11,17 +11,17 @@ use borrow.Author.Needs.{needs}
 use Rattle.state.proofs.edges.add.Statement.{statement}
 use Rattle.state.proofs.edges.add.Tie as tie
 
-copy-requires : tie.Need-copy-requires
-copy-requires c κs = simp length-set (omega arith)
+copy-words-requires : tie.Need-copy-words-requires
+copy-words-requires c κs = simp length-set (omega arith)
 
 same-length-2 : tie.Need-same-length-2
-same-length-2 c = c .before .before .copy .kept .0 ∙ simp length-set
+same-length-2 c = c .before .before .copy-words .kept .0 ∙ simp length-set
 
 returns : tie.Need-returns
 returns c =
     let a = c .before .before .before .before .before .before .before .args in
     let p = c .before .before .before .before .before .before .before .pre in
-    ap (λ (l : List ℕ). pending (length (now (a .values))) (set (now (a .targets)) (a .count) (a .target)) l (a .count + 1)) (c .before .before .copy .ensures)
+    ap (λ (l : List ℕ). pending (length (now (a .values))) (set (now (a .targets)) (a .count) (a .target)) l (a .count + 1)) (c .before .before .copy-words .ensures)
     ∙ pending-more (now (a .targets)) (now (a .rows)) (now (a .values)) (a .count) (a .target) (a .taken) (p .0) (p .1 .0) (p .1 .1)
 
 pub add-spec : {M : Type 1} → statement M
@@ -34,7 +34,7 @@ add-spec =
     (λ c. search needs)
     (λ c. search needs)
     (λ c. search needs)
-    copy-requires
+    copy-words-requires
     (λ c. search needs)
     same-length-2
     returns)

@@ -14,7 +14,8 @@ use Rattle.fsmd.specs.Layout.{maxRegisters}
 use Rattle.fsmd.specs.declared.Wire.{Wire}
 use Rattle.state.specs.Wires.{Point, closeState, exits, leaves, towards}
 use Rattle.state.specs.Making.{Room, wiresIn, pointIn, Held, pending, rowWords, appended, groupsIn}
-use Rattle.state.proofs.EnterLaws.{paste-whole, source-length}
+use Rattle.state.proofs.EnterLaws.{source-length}
+use Rattle.buffers.proofs.Copies.{sets-whole}
 use Rattle.state.proofs.StarterLaws.{used-no-starter}
 use Rattle.state.proofs.ExitLaws.{leave-none, leave-some, leave-fits}
 use Rattle.state.proofs.WalkLaws.{onward}
@@ -37,8 +38,8 @@ room-first c =
 further : (c : tie.After-reference)
     → closeState (groupsIn (now (c .before .before .before .before .before .before .before .before .before .before .before .before .before .before .before .before .before .before .before .before .before .args .starters)) (now (c .before .before .before .before .before .before .before .before .before .before .before .before .before .before .before .before .before .before .before .before .before .args .states))) (towards (leaves (groupsIn (now (c .before .before .before .before .before .before .before .before .before .before .before .before .before .before .before .before .before .before .before .before .before .args .starters)) (now (c .before .before .before .before .before .before .before .before .before .before .before .before .before .before .before .before .before .before .before .before .before .args .states)))) (pending (length (now (c .before .before .before .before .before .before .before .before .before .before .before .before .before .before .before .before .before .before .before .before .before .args .values))) (now (c .before .before .before .before .before .before .before .before .before .before .before .before .before .before .before .before .before .before .before .before .before .args .targets)) (now (c .before .before .before .before .before .before .before .before .before .before .before .before .before .before .before .before .before .before .before .before .before .args .rows)) (c .before .before .before .before .before .before .before .before .before .before .before .before .before .before .before .before .before .before .before .before .before .args .made .edges))) (wiresIn (c .before .before .before .before .before .before .before .before .before .before .before .before .before .before .before .before .before .before .before .before .before .args .made .wires) (now (c .before .before .before .before .before .before .before .before .before .before .before .before .before .before .before .before .before .before .before .before .before .args .wires)))
     ≡ exits (groupsIn (now (c .before .before .before .before .before .before .before .before .before .before .before .before .before .before .before .before .before .before .before .before .before .args .starters)) (now (c .before .before .before .before .before .before .before .before .before .before .before .before .before .before .before .before .before .before .before .before .before .args .states)))
-    (onward (length (c .before .before .before .before .before .before .before .before .before .before .copy .last .0)) (now (c .before .before .before .before .before .before .before .before .before .before .before .before .before .before .before .before .before .before .before .before .before .args .targets)) (now (c .before .before .before .before .before .before .before .before .before .before .before .before .before .before .before .before .before .before .before .before .before .args .rows)) (leaves (groupsIn (now (c .before .before .before .before .before .before .before .before .before .before .before .before .before .before .before .before .before .before .before .before .before .args .starters)) (now (c .before .before .before .before .before .before .before .before .before .before .before .before .before .before .before .before .before .before .before .before .before .args .states)))) (c .before .before .before .before .before .before .before .before .before .before .before .before .before .before .before .before .before .before .before .before .before .args .made .edges) (c .before .before .before .before .before .before .before .before .before .before .before .before .before .before .next-exit .result + 1))
-    (pointIn (c .reference .result) (c .before .before .before .before .before .before .before .before .before .before .copy .last .0) (c .before .before .before .before .before .before .before .before .before .before .before .before .before .before .before .before .before .before .before .before .before .args .made .wires + 1) (c .before .before .before .emit .last .0))
+    (onward (length (c .before .before .before .before .before .before .before .before .before .before .copy-words .last .0)) (now (c .before .before .before .before .before .before .before .before .before .before .before .before .before .before .before .before .before .before .before .before .before .args .targets)) (now (c .before .before .before .before .before .before .before .before .before .before .before .before .before .before .before .before .before .before .before .before .before .args .rows)) (leaves (groupsIn (now (c .before .before .before .before .before .before .before .before .before .before .before .before .before .before .before .before .before .before .before .before .before .args .starters)) (now (c .before .before .before .before .before .before .before .before .before .before .before .before .before .before .before .before .before .before .before .before .before .args .states)))) (c .before .before .before .before .before .before .before .before .before .before .before .before .before .before .before .before .before .before .before .before .before .args .made .edges) (c .before .before .before .before .before .before .before .before .before .before .before .before .before .before .next-exit .result + 1))
+    (pointIn (c .reference .result) (c .before .before .before .before .before .before .before .before .before .before .copy-words .last .0) (c .before .before .before .before .before .before .before .before .before .before .before .before .before .before .before .before .before .before .before .before .before .args .made .wires + 1) (c .before .before .before .emit .last .0))
 further c =
     let a = c .before .before .before .before .before .before .before .before .before .before .before .before .before .before .before .before .before .before .before .before .before .args in
     let p = c .before .before .before .before .before .before .before .before .before .before .before .before .before .before .before .before .before .before .before .before .before .pre in
@@ -51,10 +52,10 @@ further c =
     let e : rowWords * i + 1 + r - (rowWords * i + 1) ≡ r = omega arith in
     let l = source-length r i (a .made .edges) rows (p .1 .1 .0 .0) lt (omega (arith, p .0)) in
     let es : take (rowWords * i + 1 + r - (rowWords * i + 1)) (drop (rowWords * i + 1) rows) ≡ take r (drop (rowWords * i + 1) rows) = ap (λ (k : ℕ). take k (drop (rowWords * i + 1) rows)) e in
-    let ev : c .before .before .before .before .before .before .before .before .before .before .copy .last .0 ≡ take r (drop (rowWords * i + 1) rows) =
-    c .before .before .before .before .before .before .before .before .before .before .copy .ensures ∙ paste-whole vs (take (rowWords * i + 1 + r - (rowWords * i + 1)) (drop (rowWords * i + 1) rows)) (ap length es ∙ l) ∙ es in
+    let ev : c .before .before .before .before .before .before .before .before .before .before .copy-words .last .0 ≡ take r (drop (rowWords * i + 1) rows) =
+    c .before .before .before .before .before .before .before .before .before .before .copy-words .ensures ∙ sets-whole vs (take (rowWords * i + 1 + r - (rowWords * i + 1)) (drop (rowWords * i + 1) rows)) (ap length es ∙ l) ∙ es in
     leave-some g r (now (a .targets)) rows (a .made .edges) (a .made .wires) (now (a .wires)) (used-no-starter (now (a .starters)) (now (a .states)) (p .1 .0))
-    i (c .before .before .before .before .before .before .before .before .before .before .before .before .before .before .next-exit .ensures) lt (c .before .before .before .before .before .before .before .before .before .before .copy .last .0) (c .before .before .before .before .before .next-state .result) (c .reference .result) (c .before .before .before .emit .last .0) ev (ap length ev ∙ l)
+    i (c .before .before .before .before .before .before .before .before .before .before .before .before .before .before .next-exit .ensures) lt (c .before .before .before .before .before .before .before .before .before .before .copy-words .last .0) (c .before .before .before .before .before .next-state .result) (c .reference .result) (c .before .before .before .emit .last .0) ev (ap length ev ∙ l)
     (c .before .before .before .before .before .next-state .ensures)
     (c .before .before .before .emit .ensures ∙ ap (λ (w : Wire). appended (a .made .wires) (w ∷ []) (now (a .wires))) (c .before .before .before .before .set-wire .ensures))
     (c .reference .ensures)
@@ -86,7 +87,7 @@ exit-all-requires c κs =
     let l = c .before .before .before .before .before .emit .kept .0 in
     let high = c .before .before .before .before .before .before .before .before .before .before .before .before .before .before .before .before .next-exit .ensures .high in
     let lt : c .before .before .before .before .before .before .before .before .before .before .before .before .before .before .before .before .next-exit .result + 1 ≤ a .made .edges = omega (arith, c .before .before .before .before .before .before .before .before .before .before .before .before .before .before .before .if1 .left) in
-    let few : length (c .before .before .before .before .before .before .before .before .before .before .before .before .copy .last .0) ≤ maxRegisters = omega (arith, c .before .before .before .before .before .before .before .before .before .before .before .before .copy .kept .0, p .1 .1 .0 .0) in
+    let few : length (c .before .before .before .before .before .before .before .before .before .before .before .before .copy-words .last .0) ≤ maxRegisters = omega (arith, c .before .before .before .before .before .before .before .before .before .before .before .before .copy-words .kept .0, p .1 .1 .0 .0) in
     let room = subst (λ (q : Point). Room (length (q .wires)) (now (a .wires))) e (p .1 .1 .1) in
     (p .0, (p .1 .0, ((lt, few, record { fits = omega (arith, r .fits); few = r .few }), record { fits = omega (arith, room .fits); few = room .few })))
 
@@ -97,7 +98,7 @@ returns-2 c =
     let n = a .made .wires in
     let o = c .before .before .before .before .exit-all in
     let t₁ = c .before .before .before .before .before .before .before .before .before .before .emit .last .0 in
-    let vs = c .before .before .before .before .before .before .before .before .before .before .before .before .before .before .before .before .before .copy .last .0 in
+    let vs = c .before .before .before .before .before .before .before .before .before .before .before .before .before .before .before .before .before .copy-words .last .0 in
     let ref = c .before .before .before .before .before .before .before .reference .result in
     let k = o .ensures in
     let g : Held (pointIn ref vs (n + 1) t₁) (now (a .wires)) ref vs (n + 1) t₁ =
@@ -109,7 +110,7 @@ returns-2 c =
       grow-exits (groupsIn (now (a .starters)) (now (a .states)))
           (onward (length vs) (now (a .targets)) (now (a .rows)) (leaves (groupsIn (now (a .starters)) (now (a .states)))) (a .made .edges) (c .before .before .before .before .before .before .before .before .before .before .before .before .before .before .before .before .before .before .before .before .before .next-exit .result + 1)) (pointIn ref vs (n + 1) t₁),
     ) in
-    (rw (further (c .before .before .before .before .before .before .before), take-length (o .last .1 .0)) (held-on g le k), omega (arith, o .kept .1 .0, c .before .before .before .before .before .before .before .before .before .before .before .before .before .before .before .before .before .copy .kept .0))
+    (rw (further (c .before .before .before .before .before .before .before), take-length (o .last .1 .0)) (held-on g le k), omega (arith, o .kept .1 .0, c .before .before .before .before .before .before .before .before .before .before .before .before .before .before .before .before .before .copy-words .kept .0))
 
 pub leave-spec : {M : Type 1} → statement M
 leave-spec =

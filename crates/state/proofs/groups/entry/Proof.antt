@@ -10,7 +10,7 @@ use Rattle.state.proofs.groups.entry.Statement.{statement}
 use Rattle.state.proofs.groups.entry.Tie as tie
 
 returns : tie.Need-returns
-returns c = c .wide .ensures ∙ getD-any (now (c .before .before .before .before .args .list)) (c .before .before .before .before .args .i) 0 none (c .before .before .if1 .taken)
+returns c = c .byte-word .ensures .0 ∙ getD-any (now (c .before .before .before .before .args .list)) (c .before .before .before .before .args .i) 0 none (c .before .before .if1 .taken)
 
 returns-2 : tie.Need-returns-2
 returns-2 c = sym (List·getD-eq-default (now (c .before .before .args .list)) none (c .if1 .left))

@@ -9,16 +9,17 @@ use denote.Ref.{now}
 use lib.ListN.{length, getD, take, drop}
 use Rattle.state.specs.Wires.{enter}
 use Rattle.state.specs.Making.{Room, pointIn, rowWords, buildIn}
-use Rattle.state.proofs.EnterLaws.{enter-start, enter-start-length, enter-none, enter-none-length, enter-first, paste-whole, source-length}
+use Rattle.state.proofs.EnterLaws.{enter-start, enter-start-length, enter-none, enter-none-length, enter-first, source-length}
+use Rattle.buffers.proofs.Copies.{sets-whole}
 use borrow.Author.Needs.{needs}
 use Rattle.state.proofs.joins.enter.Statement.{statement}
 use Rattle.state.proofs.joins.enter.Tie as tie
 
 -- what is entered by a first edge and further ones
-further : (c : tie.After-copy)
+further : (c : tie.After-copy-words)
     → enter (length (now (c .before .before .before .before .before .before .before .before .before .before .args .values))) false (c .before .before .before .before .before .before .before .before .before .before .args .x) (buildIn (length (now (c .before .before .before .before .before .before .before .before .before .before .args .values))) (now (c .before .before .before .before .before .before .before .before .before .before .args .targets)) (now (c .before .before .before .before .before .before .before .before .before .before .args .rows)) (c .before .before .before .before .before .before .before .before .before .before .args .made .edges) (c .before .before .before .before .before .before .before .before .before .before .args .made .wires) (now (c .before .before .before .before .before .before .before .before .before .before .args .wires)))
-    ≡ joins (incoming (length (c .copy .last .0)) (now (c .before .before .before .before .before .before .before .before .before .before .args .targets)) (now (c .before .before .before .before .before .before .before .before .before .before .args .rows)) (c .before .before .before .before .before .before .before .before .before .before .args .x) (c .before .before .before .before .before .before .before .before .before .before .args .made .edges) (c .before .before .before .before .next-edge .result + 1))
-    (pointIn (getD (now (c .before .before .before .before .before .before .before .before .before .before .args .rows)) (rowWords * c .before .before .before .before .next-edge .result) 0) (c .copy .last .0) (c .before .before .before .before .before .before .before .before .before .before .args .made .wires) (now (c .before .before .before .before .before .before .before .before .before .before .args .wires)))
+    ≡ joins (incoming (length (c .copy-words .last .0)) (now (c .before .before .before .before .before .before .before .before .before .before .args .targets)) (now (c .before .before .before .before .before .before .before .before .before .before .args .rows)) (c .before .before .before .before .before .before .before .before .before .before .args .x) (c .before .before .before .before .before .before .before .before .before .before .args .made .edges) (c .before .before .before .before .next-edge .result + 1))
+    (pointIn (getD (now (c .before .before .before .before .before .before .before .before .before .before .args .rows)) (rowWords * c .before .before .before .before .next-edge .result) 0) (c .copy-words .last .0) (c .before .before .before .before .before .before .before .before .before .before .args .made .wires) (now (c .before .before .before .before .before .before .before .before .before .before .args .wires)))
 further c =
     let a = c .before .before .before .before .before .before .before .before .before .before .args in
     let p = c .before .before .before .before .before .before .before .before .before .before .pre in
@@ -31,9 +32,9 @@ further c =
     let e : rowWords * i + 1 + r - (rowWords * i + 1) ≡ r = omega arith in
     let l = source-length r i (a .made .edges) rows (p .1 .0 .0) lt (omega (arith, p .0)) in
     let es : take (rowWords * i + 1 + r - (rowWords * i + 1)) (drop (rowWords * i + 1) rows) ≡ take r (drop (rowWords * i + 1) rows) = ap (λ (k : ℕ). take k (drop (rowWords * i + 1) rows)) e in
-    let ev : c .copy .last .0 ≡ take r (drop (rowWords * i + 1) rows) =
-    c .copy .ensures ∙ paste-whole vs (take (rowWords * i + 1 + r - (rowWords * i + 1)) (drop (rowWords * i + 1) rows)) (ap length es ∙ l) ∙ es in
-    enter-first r (now (a .targets)) rows (a .made .edges) (a .x) (a .made .wires) (now (a .wires)) i (p .1 .0 .1) (c .before .before .before .before .next-edge .ensures) lt (c .copy .last .0) ev (ap length ev ∙ l)
+    let ev : c .copy-words .last .0 ≡ take r (drop (rowWords * i + 1) rows) =
+    c .copy-words .ensures ∙ sets-whole vs (take (rowWords * i + 1 + r - (rowWords * i + 1)) (drop (rowWords * i + 1) rows)) (ap length es ∙ l) ∙ es in
+    enter-first r (now (a .targets)) rows (a .made .edges) (a .x) (a .made .wires) (now (a .wires)) i (p .1 .0 .1) (c .before .before .before .before .next-edge .ensures) lt (c .copy-words .last .0) ev (ap length ev ∙ l)
 
 begin-requires : tie.Need-begin-requires
 begin-requires c κs =
@@ -83,7 +84,7 @@ join-all-requires c κs =
     rw (c .before .before .before .before .before .before .before .before .before .before .if1 .left) at (p .1 .1 .1) in
     let i = c .before .before .before .before .before .before .before .before .before .next-edge in
     let lt : i .result < a .made .edges = omega (arith, i .ensures .high, c .before .before .before .before .before .before .before .before .if2 .left) in
-    (p .0, ((omega arith, omega (arith, c .before .before .before .before .before .copy .kept .0, p .1 .0), p .1 .0 .1), (p .1 .1 .0, rw (further (c .before .before .before .before .before)) at room)))
+    (p .0, ((omega arith, omega (arith, c .before .before .before .before .before .copy-words .kept .0, p .1 .0), p .1 .0 .1), (p .1 .1 .0, rw (further (c .before .before .before .before .before)) at room)))
 
 returns-3 : tie.Need-returns-3
 returns-3 c =

@@ -7,7 +7,7 @@ use denote.Ref.{now}
 use lib.ListN.{length, take, set, length-set}
 use borrow.Author.Needs.{needs}
 use Rattle.fsmd.specs.Layout.{recordsOffset}
-use Rattle.synthesis.specs.StateWords.{written, withStates, firstStates, Filled}
+use Rattle.synthesis.specs.StateWords.{withStates, firstStates, Filled}
 use Rattle.state.specs.Making.{Edged}
 use Rattle.synthesis.proofs.MachineTable.{filled-on}
 use Rattle.synthesis.proofs.table.all_states.Statement.{statement}

@@ -19,16 +19,16 @@ abbrev μ-loop : tie.MeasureT-loop
 loop-holds : tie.Need-loop-holds Inv-loop μ-loop
 loop-holds c = marking-none (now (c .before .args .starters))
 
-below : (c : tie.After-wide Inv-loop μ-loop) → c .wide .result < maxBlocks
+below : (c : tie.After-byte-index Inv-loop μ-loop) → c .byte-index .result < maxBlocks
 below c =
     let h = c .before .before .before .before .before .pre (c .before .before .before .loop .i) (c .before .before .loop-test .taken) in
-    omega (arith, c .wide .ensures .0)
+    omega (arith, c .byte-index .ensures .0)
 
 loop-again : tie.Need-loop-again Inv-loop μ-loop
 loop-again c =
     let a = c .before .before .before .before .before .args in
     let l = c .before .before .before .loop in
-    marking-on (now (a .starters)) (l .marks) (l .i) (l .inv) (c .before .before .loop-test .taken) (c .wide .result) (c .wide .ensures .0) (below c)
+    marking-on (now (a .starters)) (l .marks) (l .i) (l .inv) (c .before .before .loop-test .taken) (c .byte-index .result) (c .byte-index .ensures .0) (below c)
 
 returns : tie.Need-returns Inv-loop μ-loop
 returns c =

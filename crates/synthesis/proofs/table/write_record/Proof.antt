@@ -6,7 +6,6 @@ use native.Mathlib.Omega.{arith}
 use denote.Ref.{now}
 use lib.ListN.{length, take, set, length-set}
 use borrow.Author.Needs.{needs}
-use Rattle.synthesis.specs.StateWords.{written, withStates, firstStates, Filled}
 use Rattle.synthesis.proofs.TableWrites.{record-written}
 use Rattle.synthesis.proofs.table.write_record.Statement.{statement}
 use Rattle.synthesis.proofs.table.write_record.Tie as tie
@@ -26,8 +25,7 @@ same-length c = c .before .before .copy-words .kept .0 ∙ simp length-set
 returns : tie.Need-returns
 returns c =
     let a = c .before .before .before .before .before .before .args in
-    let p = c .before .before .before .before .before .before .pre in
-    c .before .before .copy-words .ensures ∙ record-written (now (a .words)) (now (a .registers)) (a .at) (a .first) (a .count) (a .next) (omega (arith, p .0, p .1))
+    c .before .before .copy-words .ensures ∙ record-written (now (a .words)) (now (a .registers)) (a .at) (a .first) (a .count) (a .next)
 
 pub write-record-spec : {M : Type 1} → statement M
 write-record-spec =

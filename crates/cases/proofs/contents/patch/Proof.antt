@@ -1,10 +1,10 @@
--- `cases::buffers::patch` is safe and ends: the buffer keeps its length. Assumes nothing.
+-- `cases::contents::patch` is safe and ends: the buffer keeps its length. Assumes nothing.
 use Prim.Native.Nat.{_≤_, _-_}
 use mathlib.Core.Path.{_≡_}
 use lib.ListN.{length}
 use borrow.Author.Needs.{needs}
-use Rattle.cases.proofs.buffers.patch.Statement.{statement}
-use Rattle.cases.proofs.buffers.patch.Tie as tie
+use Rattle.cases.proofs.contents.patch.Statement.{statement}
+use Rattle.cases.proofs.contents.patch.Tie as tie
 
 abbrev Inv-loop : tie.InvT-loop
 Inv-loop w₀ s at n c₀ k₀ w c k = (k ≤ n) × (length w ≡ length w₀)

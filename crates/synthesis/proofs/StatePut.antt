@@ -20,7 +20,7 @@ use Rattle.grouping.specs.Grouping.{groups}
 use Rattle.grouping.proofs.Reach.{admitted-closed}
 use Rattle.grouping.proofs.GroupingLaws.{grouped}
 use Rattle.state.specs.Wires.{Point}
-use Rattle.state.specs.Making.{wiresIn, stored, Room, Held, Grouped}
+use Rattle.state.specs.Making.{wiresIn, stored, Room, Held, GroupedBytes}
 use Rattle.state.proofs.StoredWires.{length-wiresIn}
 use Rattle.synthesis.specs.StateWords.{written, withStates, firstStates, Filled, Prepared}
 use Rattle.synthesis.proofs.SynthesisedMachine.{made-valid}
@@ -62,7 +62,7 @@ module _ (t : List ℕ) (a : admitted t ≡ true) (table : List ℕ) (k first : 
   put-room = let r = first-room t a k below in let p = f .passed in omega arith
 
   pub put-registers : length (nth t k .nextRegisters) ≡ getD t 1 0
-  put-registers = made-valid (graphOf t) (valid-graph (graphOf t) (admitted-halves t a .0)) k below .registers ∙ registers-are t
+  put-registers = made-valid (graphOf t) (valid-graph (graphOf t) (admitted-halves t a .0)) (groups (graphOf t)) (grouped (graphOf t) (admitted-closed t a)) k below .registers ∙ registers-are t
 
   module _ (new : List ℕ) (next : ℕ) (values : List ℕ) (n : ℕ) (h : Held (pointOf (nth t k)) (drop (wireOffset first) table) next values n new) where
     pub put-next : first + n ≡ wireCount (firstStates t (k + 1))
@@ -91,7 +91,7 @@ module _ (t : List ℕ) (a : admitted t ≡ true) (table : List ℕ) (k first : 
 
 -- ---- what making a state asks
 
-pub groups-held : (t edges starts starters states : List ℕ) → Prepared t edges starts starters states → Grouped starters states
+pub groups-held : (t edges starts starters states : List ℕ) → Prepared t edges starts starters states → GroupedBytes starters states
 groups-held t edges starts starters states p =
     let c = admitted-closed t (p .admits) in
     let g = grouped (graphOf t) c in

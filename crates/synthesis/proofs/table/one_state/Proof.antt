@@ -13,6 +13,7 @@ use Rattle.cfg.specs.Layout.{graphWords}
 use Rattle.cfg.specs.Table.{graphOf}
 use Rattle.grouping.specs.Grouping.{groups}
 use Rattle.grouping.proofs.Reach.{admitted-closed}
+use Rattle.grouping.proofs.GroupingLaws.{grouped}
 use Rattle.placement.specs.Placement.{order}
 use Rattle.state.specs.Wires.{Point}
 use Rattle.placement.specs.PlacementBytes.{membersIn, placeIn}
@@ -55,7 +56,7 @@ ordered c =
     let p = c .before .before .before .before .before .before .before .before .before .before .pre in
     c .place .ensures .1
     ∙ ap (λ (x : List ℕ). placeIn (now (a .edges)) (now (a .starts)) (membersIn x (a .k)) maxBlocks []) (p .0 .its-states)
-    ∙ placed-order (graphOf (now (a .graph))) (admitted-closed (now (a .graph)) (p .0 .admits)) (a .k) (below (now (a .graph)) (now (a .edges)) (now (a .starts)) (now (a .starters)) (now (a .states)) (p .0) (now (a .table)) (a .k) (a .first) (p .1 .0 .1) (p .1 .0 .0)) (now (a .edges)) (now (a .starts)) (p .0 .leading) (p .0 .starting)
+    ∙ placed-order (graphOf (now (a .graph))) (admitted-closed (now (a .graph)) (p .0 .admits)) (groups (graphOf (now (a .graph)))) (grouped (graphOf (now (a .graph))) (admitted-closed (now (a .graph)) (p .0 .admits))) (a .k) (below (now (a .graph)) (now (a .edges)) (now (a .starts)) (now (a .starters)) (now (a .states)) (p .0) (now (a .table)) (a .k) (a .first) (p .1 .0 .1) (p .1 .0 .0)) (now (a .edges)) (now (a .starts)) (p .0 .leading) (p .0 .starting)
 
 blocks-length : (c : tie.After-place) → c .place .result ≡ length (take (c .place .result) (c .place .last .1 .1 .1 .1 .0))
 blocks-length c = sym (length-take-le (c .place .result) (c .place .last .1 .1 .1 .1 .0) (omega (arith, c .place .ensures .0, c .place .kept .1 .1 .1 .1 .0)))
@@ -69,7 +70,7 @@ end-is : (c : tie.After-place) → end c ≡ pointOf (nth (now (c .before .befor
 end-is c =
     let a = c .before .before .before .before .before .before .before .before .before .before .args in
     let p = c .before .before .before .before .before .before .before .before .before .before .pre in
-    state-is (now (a .graph)) (p .0 .admits) (a .k) (below (now (a .graph)) (now (a .edges)) (now (a .starts)) (now (a .starters)) (now (a .states)) (p .0) (now (a .table)) (a .k) (a .first) (p .1 .0 .1) (p .1 .0 .0))
+    state-is (now (a .graph)) (p .0 .admits) (groups (graphOf (now (a .graph)))) (grouped (graphOf (now (a .graph))) (admitted-closed (now (a .graph)) (p .0 .admits))) (a .k) (below (now (a .graph)) (now (a .edges)) (now (a .starts)) (now (a .starters)) (now (a .states)) (p .0) (now (a .table)) (a .k) (a .first) (p .1 .0 .1) (p .1 .0 .0))
     (length (take (getD (now (a .graph)) 1 0) (replicate {A = ℕ} maxRegisters 0))) (now (a .starters)) (now (a .states)) (take (c .place .result) (c .place .last .1 .1 .1 .1 .0))
     (zeros-length (c .before .before .before .before .before .before .before .before .before .before)) (p .0 .its-starters) (p .0 .its-states) (ordered c)
 
@@ -115,7 +116,7 @@ make-requires c κs =
     let a = c .before .before .before .before .before .before .before .before .before .before .before .before .before .before .before .before .before .args in
     let p = c .before .before .before .before .before .before .before .before .before .before .before .before .before .before .before .before .before .pre in
     let s = small (c .before .before .before .before .before .before .before .before .before .before .before .before .before .before .before .before .before) in (
-      all-placeable (now (a .graph)) (p .0 .admits) (a .k) (below (now (a .graph)) (now (a .edges)) (now (a .starts)) (now (a .starters)) (now (a .states)) (p .0) (now (a .table)) (a .k) (a .first) (p .1 .0 .1) (p .1 .0 .0)) (take (d .place .result) (d .place .last .1 .1 .1 .1 .0)) (ordered d),
+      all-placeable (now (a .graph)) (p .0 .admits) (groups (graphOf (now (a .graph)))) (grouped (graphOf (now (a .graph))) (admitted-closed (now (a .graph)) (p .0 .admits))) (a .k) (below (now (a .graph)) (now (a .edges)) (now (a .starts)) (now (a .starters)) (now (a .states)) (p .0) (now (a .table)) (a .k) (a .first) (p .1 .0 .1) (p .1 .0 .0)) (take (d .place .result) (d .place .last .1 .1 .1 .1 .0)) (ordered d),
       (
         groups-held (now (a .graph)) (now (a .edges)) (now (a .starts)) (now (a .starters)) (now (a .states)) (p .0),
         (p .1 .1, (omega (arith, zeros-length (c .before .before .before .before .before .before .before .before .before .before .before .before .before .before .before .before .before), s .registers), room-for (now (a .graph)) (now (a .edges)) (now (a .starts)) (now (a .starters)) (now (a .states)) (p .0) (now (a .table)) (a .k) (a .first) (p .1 .0 .1) (p .1 .0 .0) (end d) (end-is d))),

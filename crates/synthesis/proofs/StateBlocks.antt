@@ -1,8 +1,8 @@
 -- A state made from a graph table and lists is the state of the table's graph; its blocks can be placed. Assumes nothing.
-use Prim.Native.Nat.{ℕ, zero, suc, _+_, _≤_, _<_}
+use Prim.Native.Nat.{ℕ, _≤_, _<_}
 use native.Mathlib.Omega.{arith}
 use native.Mathlib.Decide.{decLt}
-use mathlib.Core.Bool.{Bool, true}
+use mathlib.Core.Bool.{true}
 use mathlib.Core.Logic.{inl, inr}
 use mathlib.Core.Path.{_≡_, refl, sym, _∙_, ap}
 use mathlib.Core.List.{List, [], _∷_}
@@ -13,9 +13,8 @@ use Rattle.cfg.specs.declared.Ending.{Ending}
 use Rattle.cfg.specs.declared.Ending.the-variants.{Goto, Ite, Halt}
 use Rattle.cfg.specs.declared.Block.{Block}
 use Rattle.cfg.specs.Layout.{blockOffset}
-use Rattle.cfg.specs.Graph.{CFG}
 use Rattle.cfg.specs.Table.{blockAt, graphOf, admitted}
-use Rattle.cfg.proofs.Admitted.{Admitted, admitted-facts, ValidEnding, block-below, registers-are, blocks-length}
+use Rattle.cfg.proofs.Admitted.{admitted-facts, ValidEnding, block-below, registers-are, blocks-length}
 use Rattle.fsmd.specs.Layout.{maxBlocks, none}
 use Rattle.fsmd.specs.Machine.{State}
 use Rattle.grouping.specs.Grouping.{Groups}
@@ -23,7 +22,7 @@ use Rattle.grouping.proofs.Reach.{Closed, admitted-closed}
 use Rattle.grouping.proofs.GroupingLaws.{Grouped}
 use Rattle.placement.specs.Placement.{order}
 use Rattle.state.specs.Wires.{Build, Point, put, build, stateOf}
-use Rattle.state.specs.Making.{Aims, Placeable, putBlock, groupsIn}
+use Rattle.state.specs.Making.{Aims, Placeable, putBlock}
 use Rattle.state.specs.BlocksMaking.{buildBlocks, nothing, AllPlaceable, stateBlocks}
 use Rattle.placement.proofs.PlacementLaws.{order-length, placed}
 use Rattle.placement.proofs.PlacedOrder.{members-few}

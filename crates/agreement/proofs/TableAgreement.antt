@@ -1,4 +1,5 @@
--- Demand 3 on tables: every admitted graph table agrees with the table of the machine synthesised from it. Assumes nothing.
+-- Demand 3 on tables: every admitted graph table agrees with the table of the machine of any finished grouping of it, and so of the machine
+-- synthesised from it. Assumes nothing.
 use Prim.Native.Nat.{ℕ, _≤_, _<_}
 use native.Mathlib.Omega.{arith}
 use mathlib.Core.Path.{_≡_, refl, sym, ap, _∙_, subst, fun-ext}
@@ -28,16 +29,16 @@ use Rattle.fsmd.proofs.Machines.{states-length, registers-is, state-is, admitte
 use Rattle.fsmd.proofs.WrittenTable.{count-is, table-length}
 use Rattle.fsmd.proofs.ReadBack.{Fits, read-states, read-runner, read-admitted}
 use Rattle.grouping.specs.Grouping.{Groups, groups}
-use Rattle.grouping.proofs.Reach.{reached-below, valid-closed}
-use Rattle.grouping.proofs.GroupingLaws.{grouped}
+use Rattle.grouping.proofs.Reach.{reached-below, valid-closed, admitted-closed}
+use Rattle.grouping.proofs.GroupingLaws.{Grouped, grouped}
 use Rattle.synthesis.specs.Synthesis.{machineFor, machine, synthesisAnswer, synthesisWords}
 use Rattle.synthesis.specs.declared.SynthesisAnswer.the-variants.{Made}
 use Rattle.synthesis.proofs.GraphFacts.{graph-fits}
-use Rattle.placement.proofs.StateOrder.{Arranged, groups-arranged}
-use Rattle.synthesis.proofs.SynthesisedMachine.{states-count, machine-is, machine-fits}
+use Rattle.placement.proofs.StateOrder.{Arranged, arranged}
+use Rattle.synthesis.proofs.SynthesisedMachine.{states-count, machine-is, made-fits}
 use Rattle.synthesis.proofs.MadeTable.{made-words, made-admitted}
 use Rattle.synthesis.proofs.WireCodes.{wordless-machine}
-use Rattle.agreement.specs.Agreement.{stateIn, AgreeAfter, SameEnd, RunsAlike, Alike, OperationsAlike, LastsTo, Agreement, AgreementWithoutWords}
+use Rattle.agreement.specs.Agreement.{stateIn, AgreeAfter, SameEnd, RunsAlike, Alike, OperationsAlike, LastsTo, AgreementFor, Agreement, AgreementWithoutWordsFor, AgreementWithoutWords}
 use Rattle.agreement.proofs.Arrivals.{times-level}
 use Rattle.agreement.proofs.WholeRun.{after-cycles, agree-after}
 use Rattle.agreement.proofs.RunAnswers.{run-agrees, runs-alike, ends-alike}
@@ -49,16 +50,13 @@ wordless-same m n e = ap (λ (qs : List State). every (λ q. every (λ w. not (e
 
 -- ---- the agreement
 
--- every admitted graph table with the words of the machine synthesised from it, whatever follows them
-module _ (t rest : List ℕ) (ok : admitted t ≡ true) where
+-- every admitted graph table with the words of the machine of a finished grouping of it, whatever follows them
+module _ (t rest : List ℕ) (ok : admitted t ≡ true) (s : Groups) (G : Grouped (graphOf t) s) where
   abbrev g : CFG
   g = graphOf t
 
-  abbrev s : Groups
-  s = groups g
-
   abbrev table : List ℕ
-  table = tableOf (machine g) ++ rest
+  table = tableOf (machineFor g s) ++ rest
 
   abbrev m : Runner
   m = machineRunner (machineOf table)
@@ -66,44 +64,43 @@ module _ (t rest : List ℕ) (ok : admitted t ≡ true) where
   valid : ValidGraph g
   valid = valid-graph g (admitted-halves t ok .0)
 
-  arranged : Arranged g s
-  arranged = groups-arranged g (valid-closed g valid)
+  blocks-arranged : Arranged g s
+  blocks-arranged = arranged g (valid-closed g valid) s G
 
-  fits : Fits (machine g)
+  fits : Fits (machineFor g s)
   fits =
-      let f = machine-fits g valid in
+      let f = made-fits g valid s G in
       record { few-states = f .fewStates; few-registers = f .fewRegisters; room = f .room; next-registers = f .nextRegisters }
 
   table-admitted : admittedMachine table ≡ true
   table-admitted =
-      let f = machine-fits g valid in
-      read-admitted (machine g) rest (record { fits = fits; some-states = f .someState; some-registers = f .someRegister; valid = f .valid })
+      let f = made-fits g valid s G in
+      read-admitted (machineFor g s) rest (record { fits = fits; some-states = f .someState; some-registers = f .someRegister; valid = f .valid })
 
   -- the table's machine runs as the grouping's
   machine-same : machineRunner (machineFor g s) ≡ m
-  machine-same = sym (read-runner (machine g) rest fits ∙ ap machineRunner (machine-is g))
+  machine-same = sym (read-runner (machineFor g s) rest fits)
 
   long : machineWords ≤ length table
-  long = omega (arith, table-length (machine g), length-append (tableOf (machine g)) rest)
+  long = omega (arith, table-length (machineFor g s), length-append (tableOf (machineFor g s)) rest)
 
   runs-same : (ws : Supply) (b : ℕ) → mem b (s .starters) ≡ true → (rs : List ℕ) → length rs ≡ maxRegisters → (k : ℕ) → RunsAlike g s m ws b rs k
   runs-same ws b start rs size k =
-      subst (λ (x : Runner). RunsAlike g s x ws b rs k) machine-same (runs-alike g s ws b rs k (after-cycles g s (graph-fits g valid) arranged ws b rs start size k))
+      subst (λ (x : Runner). RunsAlike g s x ws b rs k) machine-same (runs-alike g s ws b rs k (after-cycles g s (graph-fits g valid) blocks-arranged ws b rs start size k))
 
   -- a starter's state is one of the table's
   start-known : (b : ℕ) → mem b (s .starters) ≡ true → stateIn s b < getD table 0 0
   start-known b h =
-      let a = arranged .home b h in
+      let a = blocks-arranged .home b h in
       let n = states-count g s in
-      let e = ap (λ (x : FSMD). length (x .states)) (machine-is g) in
-      omega (arith, count-is (machine g) rest)
+      omega (arith, count-is (machineFor g s) rest)
 
   -- ---- Run graph beside Run machine
 
   starters-below : (b : ℕ) → mem b (s .starters) ≡ true → b < getD t 0 0
   starters-below b h =
       let c = valid-closed g valid in
-      omega (arith, reached-below c (grouped g c .starter-reached b (mem→In b (s .starters) h)), blocks-length t)
+      omega (arith, reached-below c (G .starter-reached b (mem→In b (s .starters) h)), blocks-length t)
 
   module _ (words starters : List ℕ) (alike : (b : ℕ) → mem b starters ≡ mem b (s .starters)) (b₀ : ℕ) (start : mem b₀ (s .starters) ≡ true)
       (buffer : List ℕ) (enough : maxRegisters ≤ length buffer) (k : ℕ) where
@@ -120,7 +117,7 @@ module _ (t rest : List ℕ) (ok : admitted t ≡ true) where
     graph-accepted =
         words-none-refused t buffer b₀ starters (admitted-facts t ok .long) enough ok (starters-below b₀ start)
         (rw (
-          alike 0 ∙ arranged .entry,
+          alike 0 ∙ blocks-arranged .entry,
           alike b₀ ∙ start,
           in-every (λ b. ltb b (getD t 0 0)) starters (λ b i. lt-ltb b (getD t 0 0) (starters-below b (sym (alike b) ∙ In→mem b starters i))),
         ))
@@ -157,9 +154,9 @@ module _ (t rest : List ℕ) (ok : admitted t ≡ true) where
           beyond = λ d n l. answers-alike n (r .beyond (λ z. d (ap outcomeOf machine-answer ∙ z)) n l);
         }
 
-  pub agreement : Agreement t table
-  agreement =
-      let a = arranged in
+  pub agreement-for : AgreementFor s t table
+  agreement-for =
+      let a = blocks-arranged in
       let h = machine-facts table table-admitted in
       record {
         agree = λ ws b start rs size k lasts.
@@ -176,28 +173,34 @@ module _ (t rest : List ℕ) (ok : admitted t ≡ true) where
             (refuse-registers table buffer q long)
             (λ full. refuse-none table buffer q long full table-admitted w (start-known b start));
         operations = operations-alike;
-        entry = arranged .entry;
-        begins = arranged .entry-state;
+        entry = a .entry;
+        begins = a .entry-state;
         silent = λ h.
-            wordless-same (machineOf table) (machineFor g s) (read-states (machine g) rest fits ∙ ap (λ (x : FSMD). x .states) (machine-is g))
-            ∙ wordless-machine g s h;
+            wordless-same (machineOf table) (machineFor g s) (read-states (machineFor g s) rest fits) ∙ wordless-machine g s h;
         idle = λ ws c. step-ended m ws c;
         wires = λ k l.
             let z = states-length table in
             rw (registers-is table, state-is table k (omega arith)) (h .valid k (omega arith));
       }
 
+-- and so with the words of the machine synthesised from it
+pub agreement : (t rest : List ℕ) → admitted t ≡ true → Agreement t (tableOf (machine (graphOf t)) ++ rest)
+agreement t rest ok = rw (machine-is (graphOf t)) (agreement-for t rest ok (groups (graphOf t)) (grouped (graphOf t) (admitted-closed t ok)))
+
 -- the case without words, where every arrival has one
-pub without-words : (t table : List ℕ) → Agreement t table → AgreementWithoutWords t table
-without-words t table a = record {
+pub without-words-for : (s : Groups) (t table : List ℕ) → AgreementFor s t table → AgreementWithoutWordsFor s t table
+without-words-for s t table a = record {
   agree = λ rs size k. a .agree unread 0 (a .entry) rs size k (λ j l. refl);
   begins = a .begins;
   runs = λ h buffer k. rw (a .begins) at (a .wordlessRuns (a .silent h) 0 (a .entry) buffer k);
   unmarked = λ rs n.
       let g = graphOf t in
-      let l = times-level (graphRunner g [] .unit) (λ b. mem b []) (λ b. mem b (groups g .starters)) n (startAt 0 rs) (startAt 0 rs) (record { place = refl; registers = refl }) in
+      let l = times-level (graphRunner g [] .unit) (λ b. mem b []) (λ b. mem b (s .starters)) n (startAt 0 rs) (startAt 0 rs) (record { place = refl; registers = refl }) in
       (l .place, l .registers);
 }
+
+pub without-words : (t table : List ℕ) → Agreement t table → AgreementWithoutWords t table
+without-words t table a = without-words-for (groups (graphOf t)) t table a
 
 -- while words of a list last
 pub listed-lasts : (ws : List ℕ) (k : ℕ) → k ≤ length ws → LastsTo (listed ws) k

@@ -166,28 +166,28 @@ module _ (graphTable machineTable : List ℕ) (s : Groups) (buffer words starter
 abbrev pub LastsTo : Supply → ℕ → Type 0
 LastsTo ws k = (j : ℕ) → j < k → ws .lasts j ≡ true
 
--- Synthesise's machine and its graph, from every starter and its state, on equal words
-pub record Agreement (graphTable machineTable : List ℕ) : Type 0 where
-  pub agree : (ws : Supply) (b₀ : ℕ) → mem b₀ (groups (graphOf graphTable) .starters) ≡ true → (rs : List ℕ) → length rs ≡ maxRegisters
-      → (k : ℕ) → LastsTo ws k → AgreeAfter (graphOf graphTable) (groups (graphOf graphTable)) (machineRunner (machineOf machineTable)) ws b₀ rs k
+-- The machine of a graph whose grouping is s, and the graph, from every starter and its state, on equal words
+pub record AgreementFor (s : Groups) (graphTable machineTable : List ℕ) : Type 0 where
+  pub agree : (ws : Supply) (b₀ : ℕ) → mem b₀ (s .starters) ≡ true → (rs : List ℕ) → length rs ≡ maxRegisters
+      → (k : ℕ) → LastsTo ws k → AgreeAfter (graphOf graphTable) s (machineRunner (machineOf machineTable)) ws b₀ rs k
   -- every k, also where the words do not last
-  pub alike : (ws : Supply) (b₀ : ℕ) → mem b₀ (groups (graphOf graphTable) .starters) ≡ true → (rs : List ℕ) → length rs ≡ maxRegisters
-      → (k : ℕ) → RunsAlike (graphOf graphTable) (groups (graphOf graphTable)) (machineRunner (machineOf machineTable)) ws b₀ rs k
+  pub alike : (ws : Supply) (b₀ : ℕ) → mem b₀ (s .starters) ≡ true → (rs : List ℕ) → length rs ≡ maxRegisters
+      → (k : ℕ) → RunsAlike (graphOf graphTable) s (machineRunner (machineOf machineTable)) ws b₀ rs k
   -- Run machine with words: every k, and so each that a budget can hold
-  pub runs : (words : List ℕ) (b₀ : ℕ) → mem b₀ (groups (graphOf graphTable) .starters) ≡ true → (buffer : List ℕ) (k : ℕ)
-      → let q₀ = stateIn (groups (graphOf graphTable)) b₀ in
+  pub runs : (words : List ℕ) (b₀ : ℕ) → mem b₀ (s .starters) ≡ true → (buffer : List ℕ) (k : ℕ)
+      → let q₀ = stateIn s b₀ in
       RunAgrees (machineRunner (machineOf machineTable)) (listed words) q₀ k buffer (machineLeft machineTable buffer q₀ k words) (machineAnswer machineTable buffer q₀ k words)
   -- and Run machine, of a machine that reads no word
-  pub wordlessRuns : wordlessMachine (machineOf machineTable) ≡ true → (b₀ : ℕ) → mem b₀ (groups (graphOf graphTable) .starters) ≡ true → (buffer : List ℕ) (k : ℕ)
-      → let q₀ = stateIn (groups (graphOf graphTable)) b₀ in
+  pub wordlessRuns : wordlessMachine (machineOf machineTable) ≡ true → (b₀ : ℕ) → mem b₀ (s .starters) ≡ true → (buffer : List ℕ) (k : ℕ)
+      → let q₀ = stateIn s b₀ in
       RunAgrees (machineRunner (machineOf machineTable)) unread q₀ k buffer (runRegisters machineTable buffer q₀ k) (runAnswer machineTable buffer q₀ k)
   -- a starter list that holds the machine's starters and no others
-  pub operations : (words starters : List ℕ) → ((b : ℕ) → mem b starters ≡ mem b (groups (graphOf graphTable) .starters))
-      → (b₀ : ℕ) → mem b₀ (groups (graphOf graphTable) .starters) ≡ true → (buffer : List ℕ) → maxRegisters ≤ length buffer
-      → (k : ℕ) → OperationsAlike graphTable machineTable (groups (graphOf graphTable)) buffer words starters b₀ k
+  pub operations : (words starters : List ℕ) → ((b : ℕ) → mem b starters ≡ mem b (s .starters))
+      → (b₀ : ℕ) → mem b₀ (s .starters) ≡ true → (buffer : List ℕ) → maxRegisters ≤ length buffer
+      → (k : ℕ) → OperationsAlike graphTable machineTable s buffer words starters b₀ k
   -- block 0 is a starter, and its state is 0
-  pub entry : mem 0 (groups (graphOf graphTable) .starters) ≡ true
-  pub begins : stateIn (groups (graphOf graphTable)) 0 ≡ 0
+  pub entry : mem 0 (s .starters) ≡ true
+  pub begins : stateIn s 0 ≡ 0
   -- the machine of a graph without code 20 has none either
   pub silent : wordless (graphOf graphTable) ≡ true → wordlessMachine (machineOf machineTable) ≡ true
   -- further cycles of a machine that has halted or is dry change nothing
@@ -196,15 +196,22 @@ pub record Agreement (graphTable machineTable : List ℕ) : Type 0 where
   pub wires : (k : ℕ) → k < length (machineOf machineTable .states)
       → validState (machineOf machineTable .registers) (stateOf (machineOf machineTable) k) ≡ true
 
+-- Synthesise's machine and its graph
+abbrev pub Agreement : List ℕ → List ℕ → Type 0
+Agreement graphTable machineTable = AgreementFor (groups (graphOf graphTable)) graphTable machineTable
+
 -- Its case without words, from block 0 and state 0: demand 3 as paper 01 puts it, for graphs without code 20
-pub record AgreementWithoutWords (graphTable machineTable : List ℕ) : Type 0 where
+pub record AgreementWithoutWordsFor (s : Groups) (graphTable machineTable : List ℕ) : Type 0 where
   pub agree : (rs : List ℕ) → length rs ≡ maxRegisters → (k : ℕ)
-      → AgreeAfter (graphOf graphTable) (groups (graphOf graphTable)) (machineRunner (machineOf machineTable)) unread 0 rs k
-  pub begins : stateIn (groups (graphOf graphTable)) 0 ≡ 0
+      → AgreeAfter (graphOf graphTable) s (machineRunner (machineOf machineTable)) unread 0 rs k
+  pub begins : stateIn s 0 ≡ 0
   pub runs : wordless (graphOf graphTable) ≡ true → (buffer : List ℕ) (k : ℕ)
       → RunAgrees (machineRunner (machineOf machineTable)) unread 0 k buffer (runRegisters machineTable buffer 0 k) (runAnswer machineTable buffer 0 k)
   -- the graph's run without words, which knows no starters, goes through the same places and registers
   pub unmarked : (rs : List ℕ) (n : ℕ)
       → let run = graphAfter (graphOf graphTable) [] unread 0 rs n in
-      let marked = graphAfter (graphOf graphTable) (groups (graphOf graphTable) .starters) unread 0 rs n in
+      let marked = graphAfter (graphOf graphTable) (s .starters) unread 0 rs n in
       (run .place ≡ marked .place) × (run .registers ≡ marked .registers)
+
+abbrev pub AgreementWithoutWords : List ℕ → List ℕ → Type 0
+AgreementWithoutWords graphTable machineTable = AgreementWithoutWordsFor (groups (graphOf graphTable)) graphTable machineTable

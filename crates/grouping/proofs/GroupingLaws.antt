@@ -2,7 +2,7 @@
 use Prim.Native.Nat.{ℕ, zero, suc, _+_, _≤_, _<_}
 use mathlib.Core.Logic.{_⊎_, inl, inr, _≢_}
 use mathlib.Core.Path.{_≡_, refl, sym, _∙_, ap, subst}
-use mathlib.Core.List.{List, [], _∷_, _++_}
+use mathlib.Core.List.{List, [], _∷_, _++_, append-nil, append-assoc}
 use native.Mathlib.Omega.{arith}
 use lib.ListN.{length, getD, replicate, length-append}
 use Rattle.runs.proofs.Tests.{Compared, same, other, compared}
@@ -52,6 +52,17 @@ abbrev pub Keeps : CFG → List ℕ → (List ℕ → Type 0) → Type 0
 Keeps g finished P =
     (starters : List ℕ) (y : ℕ) → Looped g starters finished → IllegalEdge g starters (populate g starters) y → P starters → P (starters ++ (y ∷ []))
 
+-- the starters z are those that it began with, then new ones; loop detection's order of finishing serves them too, so it can begin again from z
+pub record Longer (g : CFG) (finished starters z : List ℕ) : Type 0 where
+  pub looped : Looped g z finished
+  pub new : List ℕ
+  pub kept : z ≡ starters ++ new
+
+-- what it ends in
+pub record Regrouped (g : CFG) (finished starters : List ℕ) (s : Groups) : Type 0 where
+  pub grouped : Grouped g s
+  pub longer : Longer g finished starters (s .starters)
+
 -- the whole procedure with any fuel of the visits and any number of rounds
 abbrev pub afterDetection : Detection → Groups → (ℕ → Groups) → Groups
 afterDetection (visited seen) s f = s
@@ -76,8 +87,8 @@ module _ (fuel : ℕ) (g : CFG) where
 -- `finished` has the blocks in the order in which loop detection finished them
 module _ (g : CFG) (a : Closed g) (finished : List ℕ) where
   -- one more starter
-  more : (starters : List ℕ) (y : ℕ) → Looped g starters finished → Reached g y → (In y starters → ⊥) → Looped g (starters ++ (y ∷ [])) finished
-  more starters y l r f = record {
+  pub looped-more : (starters : List ℕ) (y : ℕ) → Looped g starters finished → Reached g y → (In y starters → ⊥) → Looped g (starters ++ (y ∷ [])) finished
+  looped-more starters y l r f = record {
     ranked = ranked-more g starters (starters ++ (y ∷ [])) finished (λ x i. in-left x starters (y ∷ []) i) (l .ranked);
     distinct = distinct-snoc starters y (l .distinct) f;
     headed = (l .headed .0 ++ (y ∷ []), ap (λ (z : List ℕ). z ++ (y ∷ [])) (l .headed .1));
@@ -142,7 +153,7 @@ module _ (g : CFG) (a : Closed g) (finished : List ℕ) where
       turn u v (inr i) = inl i
 
   -- As many rounds as there are blocks that are no starters suffice, and what each new starter keeps holds in the end.
-  regroup-ends : (P : List ℕ → Type 0) → Keeps g finished P → (n : ℕ) (starters : List ℕ) → Looped g starters finished → P starters
+  pub regroup-ends : (P : List ℕ → Type 0) → Keeps g finished P → (n : ℕ) (starters : List ℕ) → Looped g starters finished → P starters
       → length (g .blocks) < n + length starters → Grouped g (regroup g n starters) × P (regroup g n starters .starters)
   unfolding regroup
   regroup-ends P keep zero starters l p e = absurd (let r = starters-few starters l in omega arith)
@@ -155,7 +166,26 @@ module _ (g : CFG) (a : Closed g) (finished : List ℕ) where
       go (illegalTo y) h ih =
           let b = detect-edge g a starters (populate g starters) y h in
           rw (h, regroup)
-          (ih (starters ++ (y ∷ [])) (more starters y l (along (b .reached) (b .edge)) (b .fresh)) (keep starters y l b p) (rw length-append (omega arith)))
+          (ih (starters ++ (y ∷ [])) (looped-more starters y l (along (b .reached) (b .edge)) (b .fresh)) (keep starters y l b p) (rw length-append (omega arith)))
+
+  -- from any starters that loop detection's order serves
+  pub regroup-from : (n : ℕ) (starters : List ℕ) → Looped g starters finished → length (g .blocks) < n + length starters
+      → Regrouped g finished starters (regroup g n starters)
+  regroup-from n starters l e = record { grouped = r .0; longer = r .1 }
+    where
+      P : List ℕ → Type 0
+      P = Longer g finished starters
+
+      keep : Keeps g finished P
+      keep z y l b p =
+          record {
+            looped = looped-more z y l (along (b .reached) (b .edge)) (b .fresh);
+            new = p .new ++ (y ∷ []);
+            kept = ap (λ (x : List ℕ). x ++ (y ∷ [])) (p .kept) ∙ append-assoc starters (p .new) (y ∷ []);
+          }
+
+      r : Grouped g (regroup g n starters) × P (regroup g n starters .starters)
+      r = regroup-ends P keep n starters l (record { looped = l; new = []; kept = sym (append-nil starters) }) e
 
   -- more fuel and more rounds change nothing
   regroup-alike : (fuel : ℕ) → length (g .blocks) < fuel → (m n : ℕ) (starters : List ℕ) → Looped g starters finished
@@ -178,7 +208,14 @@ module _ (g : CFG) (a : Closed g) (finished : List ℕ) where
       go (illegalTo y) k ih =
           let b = detect-illegal g a starters (populate g starters) y k in
           rw (same-population, same-detection, k, regroup)
-          (ih (starters ++ (y ∷ [])) (more starters y l (b .0) (b .1)) (rw length-append (omega arith)) (rw length-append (omega arith)))
+          (ih (starters ++ (y ∷ [])) (looped-more starters y l (b .0) (b .1)) (rw length-append (omega arith)) (rw length-append (omega arith)))
+
+  -- any number of rounds that suffices gives the same
+  pub regroup-same : (m n : ℕ) (starters : List ℕ) → Looped g starters finished → length (g .blocks) < m + length starters
+      → length (g .blocks) < n + length starters → regroup g m starters ≡ regroup g n starters
+  regroup-same m n starters l e f =
+      let fuel = suc (length (g .blocks)) in
+      sym (regroup-alike fuel (omega arith) m m starters l e e) ∙ regroup-alike fuel (omega arith) m n starters l e f
 
 -- ---- the grouping of a graph
 
@@ -191,8 +228,15 @@ grouped-keeping g a P keep first =
     l : Looped g (loops g .starters) (loops g .finished)
     l = looped g a
 
+pub regrouped : (g : CFG) → Closed g → Regrouped g (loops g .finished) (loops g .starters) (groups g)
+unfolding groups
+regrouped g a = regroup-from g a (loops g .finished) (length (g .blocks)) (loops g .starters) l (let z = ap length (l .headed .1) in omega arith)
+  where
+    l : Looped g (loops g .starters) (loops g .finished)
+    l = looped g a
+
 pub grouped : (g : CFG) → Closed g → Grouped g (groups g)
-grouped g a = grouped-keeping g a (λ starters. Unit {0}) (λ starters y l b p. tt) tt .0
+grouped g a = regrouped g a .grouped
 
 -- any fuel above B and any number of rounds from B up give the same: the definitions mean the unbounded procedure
 pub groups-fuel : (g : CFG) → Closed g → (fuel rounds : ℕ) → length (g .blocks) < fuel → length (g .blocks) ≤ rounds → groupsWith fuel g rounds ≡ groups g
@@ -211,12 +255,8 @@ groups-fuel g a fuel rounds h k =
 pub regroup-rounds : (g : CFG) → Closed g → (rounds : ℕ) → length (g .blocks) ≤ rounds → regroup g rounds (loops g .starters) ≡ groups g
 unfolding groups
 regroup-rounds g a rounds k =
-    sym (regroup-alike g a (loops g .finished) fuel (omega arith) rounds rounds (loops g .starters) l (omega (arith, some)) (omega (arith, some)))
-    ∙ regroup-alike g a (loops g .finished) fuel (omega arith) rounds (length (g .blocks)) (loops g .starters) l (omega (arith, some)) (omega (arith, some))
+    regroup-same g a (loops g .finished) rounds (length (g .blocks)) (loops g .starters) l (omega (arith, some)) (omega (arith, some))
   where
-    fuel : ℕ
-    fuel = suc (length (g .blocks))
-
     l : Looped g (loops g .starters) (loops g .finished)
     l = looped g a
 

@@ -13,7 +13,7 @@ use Rattle.cfg.specs.Graph.{CFG, successors}
 use Rattle.fsmd.specs.Layout.{none}
 use Rattle.grouping.specs.declared.Starters.{Starters}
 use Rattle.grouping.specs.declared.Detected.the-variants.{IllegalTo, Legal}
-use Rattle.grouping.specs.Grouping.{loops, populate, Detection, visited, illegalTo, detect, regroup, groups}
+use Rattle.grouping.specs.Grouping.{loops, populate, Detection, visited, illegalTo, detect, Groups, regroup, groups}
 use Rattle.grouping.specs.Bytes.{edgesIn, Listed, startersOf, withStarter, loopStarters, population, detectedOf, detection}
 use Rattle.grouping.specs.Answer.{answerOf}
 use Rattle.grouping.specs.declared.Grouping.{Grouping}
@@ -36,22 +36,22 @@ alike : {c c′ : ℕ} {l l′ s s′ : List ℕ} → c ≡ c′ → l ≡ l′ 
     → _≡_ {A = Grouping} (record { count = c; starters = l; states = s }) (record { count = c′; starters = l′; states = s′ })
 alike p q r = cc
 
--- at the head of a round: the starters so far, and the rounds left, which suffice and lead to the grouping
-pub record Round (g : CFG) (s : Starters) : Type 0 where
+-- at the head of a round: the starters so far, and the rounds left, which suffice and lead to the grouping z
+pub record Round (g : CFG) (z : Groups) (s : Starters) : Type 0 where
   pub listed : Listed s
   pub distinct : Distinct (startersOf s)
   pub known : (x : ℕ) → In x (startersOf s) → Reached g x
   pub entry : In 0 (startersOf s)
   pub rounds : ℕ
   pub enough : length (g .blocks) < rounds + length (startersOf s)
-  pub left : regroup g rounds (startersOf s) ≡ groups g
+  pub left : regroup g rounds (startersOf s) ≡ z
 
-pub round-few : {g : CFG} {s : Starters} → Closed g → Round g s → length (startersOf s) ≤ maxBlocks
-round-few {g} {s} a i =
+pub round-few : {g : CFG} {z : Groups} {s : Starters} → Closed g → Round g z s → length (startersOf s) ≤ maxBlocks
+round-few {g} {z} {s} a i =
     omega (arith, distinct-below (length (g .blocks)) (startersOf s) (i .distinct) (λ x j. reached-below a (i .known x j)), a .few-blocks)
 
 module _ (g : CFG) (a : Closed g) (bytes : List ℕ) (edges : (n : ℕ) → edgesIn bytes n ≡ successors g n) where
-  pub round-first : (s : Starters) → Listed s → startersOf s ≡ loopStarters bytes → Round g s
+  pub round-first : (s : Starters) → Listed s → startersOf s ≡ loopStarters bytes → Round g (groups g) s
   unfolding groups
   round-first s l e =
       let q : startersOf s ≡ loops g .starters = e ∙ loops-bytes g a bytes edges in
@@ -66,7 +66,7 @@ module _ (g : CFG) (a : Closed g) (bytes : List ℕ) (edges : (n : ℕ) → edge
         left = rw q refl;
       }
 
-  module _ (s : Starters) (i : Round g s) (states : List ℕ) (fresh : states ≡ population bytes (startersOf s)) where
+  module _ (z : Groups) (s : Starters) (i : Round g z s) (states : List ℕ) (fresh : states ≡ population bytes (startersOf s)) where
     padded-states : states ≡ padded maxBlocks none (populate g (startersOf s))
     padded-states = fresh ∙ population-bytes g a bytes edges (startersOf s) (i .distinct) (i .known)
 
@@ -95,7 +95,7 @@ module _ (g : CFG) (a : Closed g) (bytes : List ℕ) (edges : (n : ℕ) → edge
       pub illegal-low : y < maxBlocks
       illegal-low = let h = reached-below a (new .0) in omega (arith, a .few-blocks)
 
-      pub round-on : (r : Starters) → Listed r → startersOf r ≡ withStarter y (startersOf s) → Round g r × (length (startersOf s) < length (startersOf r))
+      pub round-on : (r : Starters) → Listed r → startersOf r ≡ withStarter y (startersOf s) → Round g z r × (length (startersOf s) < length (startersOf r))
       unfolding regroup
       round-on r l q = go (i .rounds) (i .enough) (i .left)
         where
@@ -108,9 +108,9 @@ module _ (g : CFG) (a : Closed g) (bytes : List ℕ) (edges : (n : ℕ) → edge
           known : (x : ℕ) → In x (startersOf s) ⊎ ((x ≡ y) ⊎ ⊥) → Reached g x
           known x (inl j) = i .known x j
           known x (inr (inl p)) = subst (Reached g) (sym p) (new .0)
-          known x (inr (inr z)) = absurd z
+          known x (inr (inr n)) = absurd n
 
-          go : (n : ℕ) → length (g .blocks) < n + length (startersOf s) → regroup g n (startersOf s) ≡ groups g → Round g r × (length (startersOf s) < length (startersOf r))
+          go : (n : ℕ) → length (g .blocks) < n + length (startersOf s) → regroup g n (startersOf s) ≡ z → Round g z r × (length (startersOf s) < length (startersOf r))
           go zero h k = absurd (omega (arith, few))
           go (suc n) h k = (
             record {
@@ -127,7 +127,7 @@ module _ (g : CFG) (a : Closed g) (bytes : List ℕ) (edges : (n : ℕ) → edge
 
     -- no illegal edge: the grouping is finished
     pub round-last : detection bytes (startersOf s) states ≡ Legal
-        → _≡_ {A = Grouping} (record { count = s .count; starters = s .list; states = states }) (answerOf (groups g))
+        → _≡_ {A = Grouping} (record { count = s .count; starters = s .list; states = states }) (answerOf z)
     unfolding regroup
     round-last e = go (i .rounds) (i .enough) (i .left) (found-legal (detect g (startersOf s) (populate g (startersOf s))) (sym detected ∙ e))
       where
@@ -140,8 +140,8 @@ module _ (g : CFG) (a : Closed g) (bytes : List ℕ) (edges : (n : ℕ) → edge
             ∙ ap (λ (l : List ℕ). startersOf s ++ l) (i .listed .rest ∙ ap (λ (k : ℕ). replicate (maxBlocks - k) 0) (sym counted))
             ∙ sym (padded-append maxBlocks 0 (startersOf s) (omega (arith, counted, starters-few s (i .listed))))
 
-        go : (k : ℕ) → length (g .blocks) < k + length (startersOf s) → regroup g k (startersOf s) ≡ groups g
+        go : (k : ℕ) → length (g .blocks) < k + length (startersOf s) → regroup g k (startersOf s) ≡ z
             → (seen : List ℕ) × (detect g (startersOf s) (populate g (startersOf s)) ≡ visited seen)
-            → _≡_ {A = Grouping} (record { count = s .count; starters = s .list; states = states }) (answerOf (groups g))
+            → _≡_ {A = Grouping} (record { count = s .count; starters = s .list; states = states }) (answerOf z)
         go zero h k d = absurd (omega (arith, few))
         go (suc k) h l d = rw (← (rw (d .1, regroup) at l)) (alike (sym counted) list padded-states)

@@ -10,10 +10,10 @@ use Rattle.runs.specs.Lists.{upFrom, mem, only, keep, every, first}
 use Rattle.runs.proofs.ListLaws.{length-upFrom, length-only}
 use Rattle.cfg.specs.Graph.{CFG, successors}
 use Rattle.fsmd.specs.Layout.{maxBlocks, none}
-use Rattle.grouping.specs.Grouping.{Groups, groups}
+use Rattle.grouping.specs.Grouping.{Groups}
 use Rattle.grouping.specs.Bytes.{edgesIn}
 use Rattle.grouping.proofs.Reach.{Closed}
-use Rattle.grouping.proofs.GroupingLaws.{grouped}
+use Rattle.grouping.proofs.GroupingLaws.{Grouped}
 use Rattle.placement.specs.Placement.{members, ready, placeNext, place, order}
 use Rattle.placement.specs.PlacementBytes.{marked, ofState, membersIn, nextIn, placeIn}
 use Rattle.placement.proofs.PlacementLaws.{order-turns}
@@ -45,38 +45,38 @@ only-more p k (suc n) m f =
     let e : suc n + m ≡ suc (n + m) = omega arith in
     rw e (ap (keep (p k) k) (only-more p (suc k) n m (λ x h. f x (omega arith))))
 
-module _ (g : CFG) (a : Closed g) (k : ℕ) (k-in : k < length (groups g .starters)) where
-  states-length : length (groups g .states) ≡ length (g .blocks)
-  states-length = grouped g a .all-blocks
+module _ (g : CFG) (a : Closed g) (s : Groups) (G : Grouped g s) (k : ℕ) (k-in : k < length (s .starters)) where
+  states-length : length (s .states) ≡ length (g .blocks)
+  states-length = G .all-blocks
 
   k-low : k < maxBlocks
-  k-low = let n = grouped g a .few-states in let b = a .few-blocks in omega arith
+  k-low = let n = G .few-states in let b = a .few-blocks in omega arith
 
-  outside : (x : ℕ) → length (g .blocks) ≤ x → ofState (groups g .states) k x ≡ false
+  outside : (x : ℕ) → length (g .blocks) ≤ x → ofState (s .states) k x ≡ false
   outside x h =
-      ne-eqb (getD (groups g .states) x none) k
-      (λ (e : getD (groups g .states) x none ≡ k).
-      let d : getD (groups g .states) x none ≡ none = List·getD-eq-default (groups g .states) none {n = x} (omega (arith, states-length)) in
+      ne-eqb (getD (s .states) x none) k
+      (λ (e : getD (s .states) x none ≡ k).
+      let d : getD (s .states) x none ≡ none = List·getD-eq-default (s .states) none {n = x} (omega (arith, states-length)) in
       omega (arith, k-low))
 
-  pub members-alike : membersIn (groups g .states) k ≡ members g (groups g) k
+  pub members-alike : membersIn (s .states) k ≡ members g s k
   unfolding members
   members-alike =
       let b = a .few-blocks in
       let n : maxBlocks ≡ length (g .blocks) + (maxBlocks - length (g .blocks)) = omega arith in
-      ap (λ (m : ℕ). only (ofState (groups g .states) k) (upFrom 0 m)) n
-      ∙ only-more (ofState (groups g .states) k) 0 (length (g .blocks)) (maxBlocks - length (g .blocks)) (λ x h. outside x (omega arith))
+      ap (λ (m : ℕ). only (ofState (s .states) k) (upFrom 0 m)) n
+      ∙ only-more (ofState (s .states) k) 0 (length (g .blocks)) (maxBlocks - length (g .blocks)) (λ x h. outside x (omega arith))
 
-  pub members-few : length (members g (groups g) k) ≤ maxBlocks
+  pub members-few : length (members g s k) ≤ maxBlocks
   unfolding members
   members-few =
-      let l = length-only (ofState (groups g .states) k) (upFrom 0 (length (g .blocks))) in
+      let l = length-only (ofState (s .states) k) (upFrom 0 (length (g .blocks))) in
       let b = a .few-blocks in
       omega (arith, length-upFrom 0 (length (g .blocks)))
 
   pub placed-order : (edges starts : List ℕ) → ((n : ℕ) → edgesIn edges n ≡ successors g n)
-      → ((x : ℕ) → marked starts x ≡ mem x (groups g .starters)) → placeIn edges starts (membersIn (groups g .states) k) maxBlocks [] ≡ order g (groups g) k
+      → ((x : ℕ) → marked starts x ≡ mem x (s .starters)) → placeIn edges starts (membersIn (s .states) k) maxBlocks [] ≡ order g s k
   placed-order edges starts e m =
       ap (λ (l : List ℕ). placeIn edges starts l maxBlocks []) members-alike
-      ∙ place-alike g (groups g) edges starts (members g (groups g) k) e m maxBlocks []
-      ∙ order-turns g a k k-in maxBlocks members-few
+      ∙ place-alike g s edges starts (members g s k) e m maxBlocks []
+      ∙ order-turns g a s G k k-in maxBlocks members-few

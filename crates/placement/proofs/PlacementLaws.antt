@@ -15,10 +15,10 @@ use Rattle.runs.proofs.Sets.{In, Distinct, Subset, found, Found, there, missing
 use Rattle.runs.proofs.MembershipLaws.{only-in, in-only, upFrom-in, every-in, in-every, first-some, first-none}
 use Rattle.cfg.specs.Graph.{CFG, successors}
 use Rattle.fsmd.specs.Layout.{none as nowhere}
-use Rattle.grouping.specs.Grouping.{Groups, groups}
+use Rattle.grouping.specs.Grouping.{Groups}
 use Rattle.grouping.proofs.Reach.{Closed, Reached, reached-below}
 use Rattle.grouping.proofs.PopulationLaws.{stateIn}
-use Rattle.grouping.proofs.GroupingLaws.{Grouped, grouped}
+use Rattle.grouping.proofs.GroupingLaws.{Grouped}
 use Rattle.placement.specs.Placement.{members, ready, placeNext, place, order}
 
 -- each successor of a block is a starter or stands later
@@ -348,7 +348,7 @@ module _ (g : CFG) (a : Closed g) (s : Groups) (G : Grouped g s) (k : ℕ) (k-in
           let p = G .predecessor x (member-reached x x-in) f in
           absurd (h (p .0) (state-member (p .0) (p .1 ∙ member-state x x-in)) (p .2))
 
-  placed : Placed g s k
+  pub placed : Placed g s k
   placed = record {
     mine = λ x i. member-state x (o .fresh x i .0);
     all = λ x e. there-is x (o .complete x (state-member x e));
@@ -392,12 +392,8 @@ module _ (g : CFG) (a : Closed g) (s : Groups) (G : Grouped g s) (k : ℕ) (k-in
           let b = G .predecessor x (state-reached x e) f in
           (b .0, later (b .0) x (b .1 ∙ e) (b .2) f p q c, b .2)
 
--- every state of a graph's grouping
-pub placed-states : (g : CFG) → Closed g → (k : ℕ) → k < length (groups g .starters) → Placed g (groups g) k
-placed-states g a k h = placed g a (groups g) (grouped g a) k h
-
 -- any number of turns from the state's blocks up gives the same
-pub order-turns : (g : CFG) → Closed g → (k : ℕ) → k < length (groups g .starters) → (n : ℕ) → length (members g (groups g) k) ≤ n
-    → place g (groups g) (members g (groups g) k) n [] ≡ order g (groups g) k
+pub order-turns : (g : CFG) → Closed g → (s : Groups) → Grouped g s → (k : ℕ) → k < length (s .starters) → (n : ℕ) → length (members g s k) ≤ n
+    → place g s (members g s k) n [] ≡ order g s k
 unfolding order
-order-turns g a k h n l = place-alike g a (groups g) (grouped g a) k h (length (members g (groups g) k)) n [] l (omega arith) tt (λ x i. absurd i)
+order-turns g a s G k h n l = place-alike g a s G k h (length (members g s k)) n [] l (omega arith) tt (λ x i. absurd i)

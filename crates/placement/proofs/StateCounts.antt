@@ -18,10 +18,10 @@ use Rattle.cfg.specs.Table.{admitted, graphOf}
 use Rattle.fsmd.specs.Layout.{none as nowhere}
 use Rattle.grouping.specs.Grouping.{Groups, groups}
 use Rattle.grouping.proofs.Reach.{Closed, admitted-closed}
-use Rattle.grouping.proofs.GroupingLaws.{grouped}
+use Rattle.grouping.proofs.GroupingLaws.{Grouped, grouped}
 use Rattle.placement.specs.Placement.{members, place, order}
 use Rattle.placement.specs.Counts.{Choice, blocksOf, run, Exact, Each, Edge, edgesTo, edgesOut, inState, choicesOf, edgesOf, lowerings, isEdge, timesIn, isInState, PlacedByCounts}
-use Rattle.placement.proofs.PlacementLaws.{Placed, placed-states, member-state, state-member, inside}
+use Rattle.placement.proofs.PlacementLaws.{Placed, placed, member-state, state-member, inside}
 use Rattle.placement.proofs.CountLaws.{targetsOf, number, number-cons, number-alike, run-exact, run-places}
 
 -- ---- the edges of one block
@@ -129,34 +129,36 @@ module _ (g : CFG) (s : Groups) (k : ℕ) where
               rw (e, ← q) (omega (arith, n, own-edge starter u way 0 way (omega arith) (successors g u)))
           at (other e q) ih = rw e (omega (arith, ih, other-block starter u way y (λ z. q (sym z)) 0 (successors g y)))
 
--- ---- the grouping of a graph
+-- ---- every state of any finished grouping
 
-module _ (g : CFG) (a : Closed g) (k : ℕ) (h : k < length (groups g .starters)) where
-  edges-inside : (u t : ℕ) → mem u (members g (groups g) k) ≡ true → mem t (inState g (groups g) u) ≡ true → mem t (members g (groups g) k) ≡ true
+module _ (g : CFG) (a : Closed g) (s : Groups) (G : Grouped g s) (k : ℕ) (h : k < length (s .starters)) where
+  edges-inside : (u t : ℕ) → mem u (members g s k) ≡ true → mem t (inState g s u) ≡ true → mem t (members g s k) ≡ true
   edges-inside u t i j =
-      let o = only-in (λ t. not (mem t (groups g .starters))) (successors g u) t (mem→In t (targetsOf (successors g) (λ t. mem t (groups g .starters)) u) (subst (λ f. mem t (f u) ≡ true) (in-state g (groups g) k) j)) in
-      In→mem t (members g (groups g) k)
-      (inside g a (groups g) (grouped g a) k h u t (mem→In u (members g (groups g) k) i) (o .0) (mem→Out t (groups g .starters) (not-true (mem t (groups g .starters)) (o .1))))
+      let o = only-in (λ t. not (mem t (s .starters))) (successors g u) t (mem→In t (targetsOf (successors g) (λ t. mem t (s .starters)) u) (subst (λ f. mem t (f u) ≡ true) (in-state g s k) j)) in
+      In→mem t (members g s k)
+      (inside g a s G k h u t (mem→In u (members g s k) i) (o .0) (mem→Out t (s .starters) (not-true (mem t (s .starters)) (o .1))))
 
-  lowerings-alike : (p : Edge → Bool) → length (only p (lowerings g (groups g) k)) ≡ length (only p (edgesOf g (groups g) k))
+  lowerings-alike : (p : Edge → Bool) → length (only p (lowerings g s k)) ≡ length (only p (edgesOf g s k))
   unfolding edgesOf
   lowerings-alike p =
-      ap (λ l. length (only p l)) (lowerings-in-order g (groups g) k)
-      ∙ number-alike p (edgesOut g (groups g)) (order g (groups g) k) (members g (groups g) k) (o .distinct) (members-distinct g (groups g) k)
-      (λ x i. state-member g a (groups g) (grouped g a) k h x (o .mine x i)) (λ x i. o .all x (member-state g a (groups g) (grouped g a) k h x i))
+      ap (λ l. length (only p l)) (lowerings-in-order g s k)
+      ∙ number-alike p (edgesOut g s) (order g s k) (members g s k) (o .distinct) (members-distinct g s k)
+      (λ x i. state-member g a s G k h x (o .mine x i)) (λ x i. o .all x (member-state g a s G k h x i))
     where
-      o : Placed g (groups g) k
-      o = placed-states g a k h
+      o : Placed g s k
+      o = placed g a s G k h
 
-  pub placed-by-counts : PlacedByCounts g (groups g) k
+  pub placed-by-counts : PlacedByCounts g s k
   placed-by-counts = record {
-    same-order = order-by-counts g (groups g) k;
-    exact = counts-exact g (groups g) k;
-    once = λ u way. lowerings-alike (isEdge u way) ∙ edges-once g (groups g) k u way;
+    same-order = order-by-counts g s k;
+    exact = counts-exact g s k;
+    once = λ u way. lowerings-alike (isEdge u way) ∙ edges-once g s k u way;
     alike = lowerings-alike;
     inside = edges-inside;
   }
 
--- every state of every admitted graph
+-- and of the grouping of paper 01, every state of every admitted graph
 pub table-placed-by-counts : (words : List ℕ) → admitted words ≡ true → (k : ℕ) → k < length (groups (graphOf words) .starters) → PlacedByCounts (graphOf words) (groups (graphOf words)) k
-table-placed-by-counts words e = placed-by-counts (graphOf words) (admitted-closed words e)
+table-placed-by-counts words e =
+    let a = admitted-closed words e in
+    placed-by-counts (graphOf words) a (groups (graphOf words)) (grouped (graphOf words) a)

@@ -10,11 +10,11 @@ use Rattle.runs.specs.Lists.{mem}
 use Rattle.runs.proofs.Sets.{In, mem→In, In→mem, Out→mem, in-getD, getD-in}
 use Rattle.cfg.specs.Graph.{CFG, successors}
 use Rattle.fsmd.specs.Layout.{none}
-use Rattle.grouping.specs.Grouping.{Groups, groups}
+use Rattle.grouping.specs.Grouping.{Groups}
 use Rattle.grouping.proofs.Reach.{Closed}
-use Rattle.grouping.proofs.GroupingLaws.{Grouped, grouped}
+use Rattle.grouping.proofs.GroupingLaws.{Grouped}
 use Rattle.placement.specs.Placement.{members, order}
-use Rattle.placement.proofs.PlacementLaws.{Forward, Placed, placed-states, order-length}
+use Rattle.placement.proofs.PlacementLaws.{Forward, Placed, placed, order-length}
 
 -- each of vs is a starter or among xs
 abbrev pub Ahead : List ℕ → List ℕ → List ℕ → Type 0
@@ -53,45 +53,43 @@ ordered-made g starters [] f o = tt
 ordered-made g starters (x ∷ l) f o =
     (Out→mem x starters (o x (inl refl)), ahead-made starters l (successors g x) (f .0), ordered-made g starters l (f .1) (λ z i. o z (inr i)))
 
-module _ (g : CFG) (a : Closed g) where
-  state-order : (k : ℕ) → k < length (groups g .starters) → StateOrder g (groups g) k (getD (groups g .starters) k none)
+-- every finished grouping
+module _ (g : CFG) (a : Closed g) (s : Groups) (G : Grouped g s) where
+  state-order : (k : ℕ) → k < length (s .starters) → StateOrder g s k (getD (s .starters) k none)
   state-order k h = record {
     others = p .others;
     order-is = p .starter-first none;
-    starter = In→mem (getD (groups g .starters) k none) (groups g .starters) (getD-in (groups g .starters) k none h);
-    ahead = ahead-made (groups g .starters) (p .others) (successors g (getD (groups g .starters) k none)) (f .0);
-    ordered = ordered-made g (groups g .starters) (p .others) (f .1) (p .no-starter);
+    starter = In→mem (getD (s .starters) k none) (s .starters) (getD-in (s .starters) k none h);
+    ahead = ahead-made (s .starters) (p .others) (successors g (getD (s .starters) k none)) (f .0);
+    ordered = ordered-made g (s .starters) (p .others) (f .1) (p .no-starter);
   }
     where
-      p : Placed g (groups g) k
-      p = placed-states g a k h
+      p : Placed g s k
+      p = placed g a s G k h
 
-      f : Forward g (groups g .starters) (getD (groups g .starters) k none ∷ p .others)
+      f : Forward g (s .starters) (getD (s .starters) k none ∷ p .others)
       f = rw (p .starter-first none) at (p .forward)
 
-  pub groups-arranged : Arranged g (groups g)
-  groups-arranged = record {
+  pub arranged : Arranged g s
+  arranged = record {
     few = let n = G .few-states in let b = a .few-blocks in omega arith;
-    entry = In→mem 0 (groups g .starters) zero-in;
-    entry-state = sym (ap (λ (z : ℕ). getD (groups g .states) z none) (G .entry-first none)) ∙ G .starter-home 0 none (G .some-state);
+    entry = In→mem 0 (s .starters) zero-in;
+    entry-state = sym (ap (λ (z : ℕ). getD (s .states) z none) (G .entry-first none)) ∙ G .starter-home 0 none (G .some-state);
     home = λ y m. of-starter y m .0;
     own = λ y m. of-starter y m .1;
     placed = λ y m. of-starter y m .2;
-    sized = order-length g (groups g);
+    sized = order-length g s;
   }
     where
-      G : Grouped g (groups g)
-      G = grouped g a
+      zero-in : In 0 (s .starters)
+      zero-in = rw (G .entry-first none) at (getD-in (s .starters) 0 none (G .some-state))
 
-      zero-in : In 0 (groups g .starters)
-      zero-in = rw (G .entry-first none) at (getD-in (groups g .starters) 0 none (G .some-state))
-
-      of-starter : (y : ℕ) → mem y (groups g .starters) ≡ true
-          → (getD (groups g .states) y none < length (groups g .starters))
-          × (getD (groups g .starters) (getD (groups g .states) y none) none ≡ y)
-          × StateOrder g (groups g) (getD (groups g .states) y none) y
+      of-starter : (y : ℕ) → mem y (s .starters) ≡ true
+          → (getD (s .states) y none < length (s .starters))
+          × (getD (s .starters) (getD (s .states) y none) none ≡ y)
+          × StateOrder g s (getD (s .states) y none) y
       of-starter y m =
-          let r = in-getD y (groups g .starters) none (mem→In y (groups g .starters) m) in
-          let e : getD (groups g .states) y none ≡ r .0 = rw (r .2) at (G .starter-home (r .0) none (r .1)) in
-          let o : StateOrder g (groups g) (r .0) y = rw (r .2) at (state-order (r .0) (r .1)) in
+          let r = in-getD y (s .starters) none (mem→In y (s .starters) m) in
+          let e : getD (s .states) y none ≡ r .0 = rw (r .2) at (G .starter-home (r .0) none (r .1)) in
+          let o : StateOrder g s (r .0) y = rw (r .2) at (state-order (r .0) (r .1)) in
           (rw e (r .1), rw e (r .2), rw e o)

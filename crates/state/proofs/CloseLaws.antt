@@ -35,13 +35,7 @@ built-by b t₀ r ts rows n k t ee ek et =
 pub grow-close : (e : Ending) (p : Point) → length (p .wires) ≤ length (close e p .wires)
 unfolding close
 grow-close (Goto t) p = omega arith
-grow-close (Ite c t f) p =
-    let n = maxRegisters + length (p .wires) in
-    omega (
-      arith,
-      length-append (p .wires)
-          (wire (comparisonCode (c .comparison)) (getD (p .values) (c .a) 0) (getD (p .values) (c .b) 0) 0 ∷ and-wire (p .arrival) n ∷ and-not-wire (p .arrival) n ∷ []),
-    )
+grow-close (Ite c t f) p = rw (close, length-append) (omega arith)
 grow-close Halt p = omega arith
 
 module _ (r : ℕ) (ts rows ts′ rows′ : List ℕ) (count a : ℕ) (vs : List ℕ) (n : ℕ) (t : List ℕ) (room : wireWords * n ≤ length t) where
@@ -77,14 +71,7 @@ module _ (r : ℕ) (ts rows ts′ rows′ : List ℕ) (count a : ℕ) (vs : List
 
   pub length-ite : (e : Ending) (c : Condition) (y f : ℕ) → e ≡ Ite c y f → length (close e P .wires) ≡ n + 3
   unfolding close
-  length-ite e c y f ee =
-      let k = maxRegisters + length (wiresIn n t) in
-      rw ee (omega (
-        arith,
-        length-wiresIn n t,
-        length-append (wiresIn n t)
-            (wire (comparisonCode (c .comparison)) (getD vs (c .a) 0) (getD vs (c .b) 0) 0 ∷ and-wire a k ∷ and-not-wire a k ∷ []),
-      ))
+  length-ite e c y f ee = rw (ee, close, length-append) (omega (arith, length-wiresIn n t))
 
   pub close-ite : (e : Ending) (c : Condition) (y f : ℕ) (t′ : List ℕ) → e ≡ Ite c y f → y < maxBlocks → f < maxBlocks
       → t′ ≡ appended n (three c) t

@@ -18,6 +18,15 @@ use Rattle.state.proofs.WalkLaws.{onward}
 
 -- ---- one join
 
+-- whichever wire it adds for the arrival
+pub length-join : (e : Edge) (p : Point) → length (e .values) ≡ length (p .values) → length (join e p .wires) ≡ length (p .wires) + 1 + length (p .values)
+unfolding join
+length-join e p h = rw (join, length-append) (omega (arith, length-selects (e .taken) (e .values) (p .values) h))
+
+pub grow-join : (e : Edge) (p : Point) → length (p .wires) ≤ length (join e p .wires)
+unfolding join
+grow-join e p = rw (join, length-append) (omega arith)
+
 module _ (a taken n : ℕ) (vs src t : List ℕ) (same : length src ≡ length vs) where
   pub join-made : (ref : ℕ) (vs′ t₁ t₂ : List ℕ) → ref ≡ maxRegisters + n → t₁ ≡ appended n (or-wire a taken ∷ []) t
       → t₂ ≡ appended (n + 1) (selects taken src vs) t₁ → vs′ ≡ upFrom (maxRegisters + (n + 1)) (length src)
@@ -30,20 +39,12 @@ module _ (a taken n : ℕ) (vs src t : List ℕ) (same : length src ≡ length v
       held-by (join (along taken src) (pointIn a vs n t)) t ref vs′ (n + 1 + length vs′) t₂
       (er ∙ ap (λ (k : ℕ). maxRegisters + k) (sym l))
       (ev ∙ ap (λ (k : ℕ). upFrom k (length src)) (omega arith))
-      (omega (arith, ap length ev, length-upFrom (maxRegisters + (n + 1)) (length src), length-append ws (w ∷ selects taken src vs), length-selects taken src vs same))
+      (omega (arith, l, same, ap length ev, length-upFrom (maxRegisters + (n + 1)) (length src), length-join (along taken src) (pointIn a vs n t) same))
       (e₂
       ∙ ap (appended (n + 1) (selects taken src vs)) e₁
       ∙ ap (λ (k : ℕ). appended k (selects taken src vs) (stored (ws ++ (w ∷ [])) t)) (omega (arith, length-append ws (w ∷ [])))
       ∙ stored-more (ws ++ (w ∷ [])) (selects taken src vs) t
       ∙ ap (λ (r : List Wire). stored r t) (append-assoc ws (w ∷ []) (selects taken src vs)))
-
-pub length-join : (e : Edge) (p : Point) → length (e .values) ≡ length (p .values) → length (join e p .wires) ≡ length (p .wires) + 1 + length (p .values)
-unfolding join
-length-join e p h = omega (arith, length-append (p .wires) (or-wire (p .arrival) (e .taken) ∷ selects (e .taken) (e .values) (p .values)), length-selects (e .taken) (e .values) (p .values) h)
-
-pub grow-join : (e : Edge) (p : Point) → length (p .wires) ≤ length (join e p .wires)
-unfolding join
-grow-join e p = omega (arith, length-append (p .wires) (or-wire (p .arrival) (e .taken) ∷ selects (e .taken) (e .values) (p .values)))
 
 joins-fold : (es : List Edge) (p : Point) → joins es p ≡ fold join es p
 unfolding joins

@@ -12,7 +12,7 @@ use Rattle.runs.proofs.Tests.{or-right}
 use Rattle.runs.specs.Lists.{mem}
 use Rattle.runs.proofs.ListLaws.{same-test}
 use Rattle.fsmd.specs.Layout.{none}
-use Rattle.state.specs.Making.{used, Grouped}
+use Rattle.state.specs.Making.{used, GroupedBytes}
 
 mem-cons : (y x : ℕ) (l : List ℕ) → (mem y l ≡ true → (k : ℕ) × (k < length l) × (getD l k none ≡ y)) → (b : Bool) → eqb y x ≡ b → (b || mem y l) ≡ true
     → (k : ℕ) × (k < length (x ∷ l)) × (getD (x ∷ l) k none ≡ y)
@@ -29,7 +29,7 @@ at-mem [] k y h e = absurd (omega arith)
 at-mem (x ∷ l) zero y h e = rw (eq-eqb y x (sym e))
 at-mem (x ∷ l) (suc k) y h e = or-right (eqb y x) (mem y l) (at-mem l k y (omega arith) e)
 
-module _ (starters states : List ℕ) (h : Grouped starters states) where
+module _ (starters states : List ℕ) (h : GroupedBytes starters states) where
   -- the starter of a block's own state, or none
   pub starter-test : (y : ℕ) → (y ≡ none → ⊥) → eqb (getD starters (getD states y none) none) y ≡ mem y starters
   starter-test y ne = same-test (eqb (getD starters (getD states y none) none) y) (mem y starters) there back

@@ -144,7 +144,7 @@ abbrev pub groupsIn : List ℕ → List ℕ → Groups
 groupsIn starters states = record { starters = starters; states = states }
 
 -- each starter is in its own state, and there are not too many
-pub record Grouped (starters states : List ℕ) : Type 0 where
+pub record GroupedBytes (starters states : List ℕ) : Type 0 where
   pub owned : (k : ℕ) → k < length starters → getD states (getD starters k none) none ≡ k
   pub few : length starters ≤ maxStates
   pub known : length states ≤ maxBlocks

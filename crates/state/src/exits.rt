@@ -11,10 +11,10 @@ ghost use Prim.Native.Nat.{_+_, _-_, _*_, _≤_, _<_};
 ghost use lib.ListN.{length, take};
 ghost use Rattle.fsmd.specs.Layout.{maxRegisters, none};
 ghost use Rattle.state.specs.Wires.{leaves as leavesOf, nextStateOf, exits as exitsOf, closeState, towards};
-ghost use Rattle.state.specs.Making.{Room, wiresIn, pointIn, Held, along, placeOf, edgesIn, pending, Edged, NextAt, groupsIn, Grouped, exitTo};
+ghost use Rattle.state.specs.Making.{Room, wiresIn, pointIn, Held, along, placeOf, edgesIn, pending, Edged, NextAt, groupsIn, GroupedBytes, exitTo};
 
 fn leaves(starters: &[u8], states: &[u8], target: u32) -> bool
-    requires { ⌜ Grouped (now starters) (now states) ⌝ }
+    requires { ⌜ GroupedBytes (now starters) (now states) ⌝ }
     ensures { λ r. ⌜ r ≡ leavesOf (groupsIn (now (starters .entry)) (now (states .entry))) (placeOf target) ⌝ }
 {
     if target == Progress::HALT {
@@ -36,7 +36,7 @@ fn next_state(starters: &[u8], states: &[u8], target: u32) -> u32
 // The first exit of `from` to `count`, or `count`.
 fn next_exit(targets: &[u32], from: usize, count: usize, starters: &[u8], states: &[u8]) -> usize
     requires { ⌜ (from ≤ count) × (count ≤ length (now targets)) ⌝ }
-    requires { ⌜ Grouped (now starters) (now states) ⌝ }
+    requires { ⌜ GroupedBytes (now starters) (now states) ⌝ }
     ensures { λ r. ⌜ NextAt (leavesOf (groupsIn (now (starters .entry)) (now (states .entry)))) (now (targets .entry)) from count r ⌝ }
 {
     let mut i = from;
@@ -89,7 +89,7 @@ fn exit_all(
     count: usize,
 ) -> Front
     requires { ⌜ Edged (now targets) (now rows) count ⌝ }
-    requires { ⌜ Grouped (now starters) (now states) ⌝ }
+    requires { ⌜ GroupedBytes (now starters) (now states) ⌝ }
     requires { ⌜ (from ≤ count) × (length (now values) ≤ maxRegisters) × Room (front .wires) (now wires) ⌝ }
     requires { ⌜ Room (length (exitsOf (groupsIn (now starters) (now states)) (towards (leavesOf (groupsIn (now starters) (now states))) (edgesIn (length (now values)) (now targets) (now rows) from (count - from))) (pointIn (front .arrival) (now values) (front .wires) (now wires)) .wires)) (now wires) ⌝ }
     ensures { λ r. ⌜ Held (exitsOf (groupsIn (now (starters .entry)) (now (states .entry))) (towards (leavesOf (groupsIn (now (starters .entry)) (now (states .entry)))) (edgesIn (length (now (values .entry))) (now (targets .entry)) (now (rows .entry)) from (count - from))) (pointIn (front .arrival) (now (values .entry)) (front .wires) (now (wires .entry)))) (now (wires .entry)) (r .arrival) (now (values .exit)) (r .wires) (now (wires .exit)) ⌝ }
@@ -124,7 +124,7 @@ pub fn leave(
     made: Progress,
 ) -> Exit
     requires { ⌜ Edged (now targets) (now rows) (made .edges) ⌝ }
-    requires { ⌜ Grouped (now starters) (now states) ⌝ }
+    requires { ⌜ GroupedBytes (now starters) (now states) ⌝ }
     requires { ⌜ (length (now values) ≤ maxRegisters) × Room (made .wires) (now wires) ⌝ }
     requires { ⌜ Room (length (closeState (groupsIn (now starters) (now states)) (towards (leavesOf (groupsIn (now starters) (now states))) (pending (length (now values)) (now targets) (now rows) (made .edges))) (wiresIn (made .wires) (now wires)) .wires)) (now wires) ⌝ }
     ensures { λ r. ⌜ Held (closeState (groupsIn (now (starters .entry)) (now (states .entry))) (towards (leavesOf (groupsIn (now (starters .entry)) (now (states .entry)))) (pending (length (now (values .entry))) (now (targets .entry)) (now (rows .entry)) (made .edges))) (wiresIn (made .wires) (now (wires .entry)))) (now (wires .entry)) (r .next) (take (r .registers) (now (values .exit))) (r .wires) (now (wires .exit)) ⌝ }

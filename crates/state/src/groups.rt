@@ -5,7 +5,7 @@ ghost use Prim.Native.Nat.{_≤_, _<_};
 ghost use lib.ListN.{length, getD};
 ghost use Rattle.runs.specs.Lists.{mem};
 ghost use Rattle.fsmd.specs.Layout.{none};
-ghost use Rattle.state.specs.Making.{Grouped};
+ghost use Rattle.state.specs.Making.{GroupedBytes};
 
 // An entry of a list of blocks or states; past its end there is none.
 pub fn entry(list: &[u8], i: u32) -> u32
@@ -21,7 +21,7 @@ pub fn entry(list: &[u8], i: u32) -> u32
 
 // A block is a starter where it is its own state's.
 pub fn is_starter(starters: &[u8], states: &[u8], y: u32) -> bool
-    requires { ⌜ Grouped (now starters) (now states) ⌝ }
+    requires { ⌜ GroupedBytes (now starters) (now states) ⌝ }
     requires { ⌜ (y ≡ none → ⊥) ⌝ }
     ensures { λ r. ⌜ r ≡ mem y (now (starters .entry)) ⌝ }
 {

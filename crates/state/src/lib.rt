@@ -12,7 +12,7 @@ ghost use mathlib.Core.Path.{_≡_};
 ghost use Prim.Native.Nat.{_*_, _≤_};
 ghost use lib.ListN.{length, take};
 ghost use Rattle.fsmd.specs.Layout.{maxRegisters};
-ghost use Rattle.state.specs.Making.{maxEdges, Room, Held, Edged, Built, Grouped};
+ghost use Rattle.state.specs.Making.{maxEdges, Room, Held, Edged, Built, GroupedBytes};
 ghost use Rattle.state.specs.BlocksMaking.{buildBlocks, nothing, AllPlaceable, stateBlocks};
 
 // A block in the making: the reference of its arrival, and how many wires its state has so far.
@@ -57,7 +57,7 @@ fn place_all(
     rows: &mut [u32],
 ) -> Progress
     requires { ⌜ AllPlaceable (now graph) (now order) ⌝ }
-    requires { ⌜ Grouped (now starters) (now states) ⌝ }
+    requires { ⌜ GroupedBytes (now starters) (now states) ⌝ }
     requires { ⌜ Edged (now targets) (now rows) 0 ⌝ }
     requires { ⌜ length (now values) ≤ maxRegisters ⌝ }
     requires { ⌜ Room (length (buildBlocks (length (now values)) (now graph) (now starters) (now order) nothing .wires)) (now wires) ⌝ }
@@ -89,7 +89,7 @@ pub fn make(
     rows: &mut [u32],
 ) -> Exit
     requires { ⌜ AllPlaceable (now graph) (now order) ⌝ }
-    requires { ⌜ Grouped (now starters) (now states) ⌝ }
+    requires { ⌜ GroupedBytes (now starters) (now states) ⌝ }
     requires { ⌜ Edged (now targets) (now rows) 0 ⌝ }
     requires { ⌜ length (now values) ≤ maxRegisters ⌝ }
     requires { ⌜ Room (length (stateBlocks (length (now values)) (now graph) (now starters) (now states) (now order) .wires)) (now wires) ⌝ }

@@ -13,11 +13,12 @@ use Rattle.runs.proofs.Sets.{In, Distinct, in-right}
 use Rattle.cfg.specs.declared.Ending.{Ending}
 use Rattle.cfg.specs.declared.Ending.the-variants.{Goto, Ite, Halt}
 use Rattle.cfg.specs.Graph.{CFG, blockOf, targets, successors}
-use Rattle.grouping.specs.Grouping.{Groups, groups}
+use Rattle.grouping.specs.Grouping.{Groups}
 use Rattle.grouping.proofs.Reach.{Closed}
+use Rattle.grouping.proofs.GroupingLaws.{Grouped}
 use Rattle.placement.specs.Placement.{order}
 use Rattle.state.specs.Wires.{Edge, Point, Build, close, leadsTo, towards, after, put, build, leaves}
-use Rattle.placement.proofs.PlacementLaws.{placed-states}
+use Rattle.placement.proofs.PlacementLaws.{placed}
 use Rattle.placement.proofs.StateOrder.{Ahead, Ordered, StateOrder}
 
 -- some edge's target passes a test
@@ -101,12 +102,11 @@ distinct-before [] x ys d i = i
 distinct-before (z ∷ xs) x ys d (inl e) = d .0 (rw (← e) (in-right x xs (x ∷ ys) (inl refl)))
 distinct-before (z ∷ xs) x ys d (inr i) = distinct-before xs x ys (d .1) i
 
-pub incoming-found : (g : CFG) → Closed g → (k : ℕ) → k < length (groups g .starters) → (x : ℕ) → (In x (groups g .starters) → ⊥)
-    → (before later : List ℕ) → order g (groups g) k ≡ before ++ (x ∷ later)
-    → Found (leadsTo x) (build g (groups g) before (record { wires = []; edges = [] }) .edges)
-incoming-found g a k h x o before later e =
-    let s = groups g in
-    let p = placed-states g a k h in
+pub incoming-found : (g : CFG) → Closed g → (s : Groups) → Grouped g s → (k : ℕ) → k < length (s .starters) → (x : ℕ) → (In x (s .starters) → ⊥)
+    → (before later : List ℕ) → order g s k ≡ before ++ (x ∷ later)
+    → Found (leadsTo x) (build g s before (record { wires = []; edges = [] }) .edges)
+incoming-found g a s G k h x o before later e =
+    let p = placed g a s G k h in
     let u = p .entered x o before later e in
     let d : Distinct (before ++ (x ∷ later)) = rw e at (p .distinct) in
     some-found (leadsTo x) (build g s before (record { wires = []; edges = [] }) .edges)

@@ -1,8 +1,8 @@
 -- A state made from a graph table and lists is the state of the table's graph; its blocks can be placed. Assumes nothing.
-use Prim.Native.Nat.{ℕ, zero, suc, _+_, _≤_, _<_}
+use Prim.Native.Nat.{ℕ, _≤_, _<_}
 use native.Mathlib.Omega.{arith}
 use native.Mathlib.Decide.{decLt}
-use mathlib.Core.Bool.{Bool, true}
+use mathlib.Core.Bool.{true}
 use mathlib.Core.Logic.{inl, inr}
 use mathlib.Core.Path.{_≡_, refl, sym, _∙_, ap}
 use mathlib.Core.List.{List, [], _∷_}
@@ -13,19 +13,18 @@ use Rattle.cfg.specs.declared.Ending.{Ending}
 use Rattle.cfg.specs.declared.Ending.the-variants.{Goto, Ite, Halt}
 use Rattle.cfg.specs.declared.Block.{Block}
 use Rattle.cfg.specs.Layout.{blockOffset}
-use Rattle.cfg.specs.Graph.{CFG}
 use Rattle.cfg.specs.Table.{blockAt, graphOf, admitted}
-use Rattle.cfg.proofs.Admitted.{Admitted, admitted-facts, ValidEnding, block-below, registers-are, blocks-length}
+use Rattle.cfg.proofs.Admitted.{admitted-facts, ValidEnding, block-below, registers-are, blocks-length}
 use Rattle.fsmd.specs.Layout.{maxBlocks, none}
 use Rattle.fsmd.specs.Machine.{State}
-use Rattle.grouping.specs.Grouping.{Groups, groups}
+use Rattle.grouping.specs.Grouping.{Groups}
 use Rattle.grouping.proofs.Reach.{Closed, admitted-closed}
-use Rattle.grouping.proofs.GroupingLaws.{Grouped, grouped}
+use Rattle.grouping.proofs.GroupingLaws.{Grouped}
 use Rattle.placement.specs.Placement.{order}
 use Rattle.state.specs.Wires.{Build, Point, put, build, stateOf}
-use Rattle.state.specs.Making.{Aims, Placeable, putBlock, groupsIn}
+use Rattle.state.specs.Making.{Aims, Placeable, putBlock}
 use Rattle.state.specs.BlocksMaking.{buildBlocks, nothing, AllPlaceable, stateBlocks}
-use Rattle.placement.proofs.PlacementLaws.{order-length, placed-states}
+use Rattle.placement.proofs.PlacementLaws.{order-length, placed}
 use Rattle.placement.proofs.PlacedOrder.{members-few}
 
 -- a state's end: its wires, its next state and its next registers
@@ -59,33 +58,32 @@ count-is : (t : List ℕ) (x : ℕ) → blockAt t x .count ≡ getD t (blockOffs
 unfolding blockAt
 count-is t x = refl
 
-module _ (t : List ℕ) (a : admitted t ≡ true) (k : ℕ) (below : k < length (groups (graphOf t) .starters)) where
+module _ (t : List ℕ) (a : admitted t ≡ true) (s : Groups) (G : Grouped (graphOf t) s) (k : ℕ) (below : k < length (s .starters)) where
   closed : Closed (graphOf t)
   closed = admitted-closed t a
 
   -- a block of the state is a block of the graph
-  block-low : (x : ℕ) → In x (order (graphOf t) (groups (graphOf t)) k) → x < getD t 0 0
+  block-low : (x : ℕ) → In x (order (graphOf t) s k) → x < getD t 0 0
   block-low x i = go (decLt x (getD t 0 0))
     where
       go : Dec (x < getD t 0 0) → x < getD t 0 0
       go (yes h) = h
       go (no h) =
-          let s = groups (graphOf t) .states in
-          let e = grouped (graphOf t) closed .all-blocks in
+          let e = G .all-blocks in
           let b = blocks-length t in
           let f = closed .few-blocks in
-          let n = grouped (graphOf t) closed .few-states in
-          let m = placed-states (graphOf t) closed k below .mine x i in
-          let d : getD s x none ≡ none = List·getD-eq-default s none {n = x} (omega arith) in
+          let n = G .few-states in
+          let m = placed (graphOf t) closed s G k below .mine x i in
+          let d : getD (s .states) x none ≡ none = List·getD-eq-default (s .states) none {n = x} (omega arith) in
           absurd (omega arith)
 
-  pub all-placeable : (xs : List ℕ) → xs ≡ order (graphOf t) (groups (graphOf t)) k → AllPlaceable t xs
-  all-placeable xs e = rw e (record { few = let l = order-length (graphOf t) (groups (graphOf t)) k in let m = members-few (graphOf t) closed k below in omega arith; each = each })
+  pub all-placeable : (xs : List ℕ) → xs ≡ order (graphOf t) s k → AllPlaceable t xs
+  all-placeable xs e = rw e (record { few = let l = order-length (graphOf t) s k in let m = members-few (graphOf t) closed s G k below in omega arith; each = each })
     where
-      each : (i : ℕ) → i < length (order (graphOf t) (groups (graphOf t)) k) → Placeable t (getD (order (graphOf t) (groups (graphOf t)) k) i 0)
+      each : (i : ℕ) → i < length (order (graphOf t) s k) → Placeable t (getD (order (graphOf t) s k) i 0)
       each i h =
-          let x = getD (order (graphOf t) (groups (graphOf t)) k) i 0 in
-          let l = block-low x (getD-in (order (graphOf t) (groups (graphOf t)) k) i 0 h) in
+          let x = getD (order (graphOf t) s k) i 0 in
+          let l = block-low x (getD-in (order (graphOf t) s k) i 0 h) in
           let d = admitted-facts t a in
           let v = d .block x l in
           let b = d .fewBlocks in
@@ -93,6 +91,6 @@ module _ (t : List ℕ) (a : admitted t ≡ true) (k : ℕ) (below : k < length 
           let n = v .few in
           record { known = omega arith; whole = d .long; short = omega arith; aims = aims (getD t 0 0) (getD t 1 0) (blockAt t x .ending) b (v .ended) }
 
-  pub state-is : (r : ℕ) (starters states xs : List ℕ) → r ≡ getD t 1 0 → starters ≡ groups (graphOf t) .starters → states ≡ groups (graphOf t) .states → xs ≡ order (graphOf t) (groups (graphOf t)) k
-      → stateBlocks r t starters states xs ≡ pointOf (stateOf (graphOf t) (groups (graphOf t)) k)
-  state-is r starters states xs e f g h = rw (e, f, g, h) (state-alike t (groups (graphOf t)) k block-low)
+  pub state-is : (r : ℕ) (starters states xs : List ℕ) → r ≡ getD t 1 0 → starters ≡ s .starters → states ≡ s .states → xs ≡ order (graphOf t) s k
+      → stateBlocks r t starters states xs ≡ pointOf (stateOf (graphOf t) s k)
+  state-is r starters states xs e f g h = rw (e, f, g, h) (state-alike t s k block-low)

@@ -16,11 +16,11 @@ use Rattle.fsmd.specs.declared.Wire.{Wire}
 use Rattle.fsmd.specs.Machine.{State, wireCount}
 use Rattle.fsmd.specs.Table.{wireWordsOf, recordOf}
 use Rattle.fsmd.proofs.WrittenTable.{length-wordsOf}
-use Rattle.grouping.specs.Grouping.{groups}
+use Rattle.grouping.specs.Grouping.{Groups}
 use Rattle.grouping.proofs.Reach.{admitted-closed}
-use Rattle.grouping.proofs.GroupingLaws.{grouped}
+use Rattle.grouping.proofs.GroupingLaws.{Grouped}
 use Rattle.state.specs.Wires.{Point}
-use Rattle.state.specs.Making.{wiresIn, stored, Room, Held, Grouped}
+use Rattle.state.specs.Making.{wiresIn, stored, Room, Held, GroupedBytes}
 use Rattle.state.proofs.StoredWires.{length-wiresIn}
 use Rattle.synthesis.specs.StateWords.{withStates, firstStates, Filled, Prepared}
 use Rattle.synthesis.proofs.SynthesisedMachine.{made-valid}
@@ -58,50 +58,50 @@ registers-padded r values rest regs m l h k e t z =
     let n : maxRegisters - r ≡ maxRegisters - length regs = omega arith in
     ap (λ (x : List ℕ). x ++ rest) v ∙ ap (λ (x : List ℕ). regs ++ x) (z ∙ ap (λ (i : ℕ). replicate {A = ℕ} i 0) n) ∙ sym (padded-append maxRegisters 0 regs (omega arith))
 
-module _ (t : List ℕ) (a : admitted t ≡ true) (table : List ℕ) (k first : ℕ) (f : Filled t table k first) (below : k < length (groups (graphOf t) .starters)) where
-  pub put-room : first + length (nth t k .wires) ≤ maxWires
-  put-room = let r = first-room t a k below in let p = f .passed in omega arith
+module _ (t : List ℕ) (a : admitted t ≡ true) (s : Groups) (G : Grouped (graphOf t) s) (table : List ℕ) (k first : ℕ) (f : Filled t s table k first) (below : k < length (s .starters)) where
+  pub put-room : first + length (nth t s k .wires) ≤ maxWires
+  put-room = let r = first-room t a s G k below in let p = f .passed in omega arith
 
-  pub put-registers : length (nth t k .nextRegisters) ≡ getD t 1 0
-  put-registers = made-valid (graphOf t) (valid-graph (graphOf t) (admitted-halves t a .0)) k below .registers ∙ registers-are t
+  pub put-registers : length (nth t s k .nextRegisters) ≡ getD t 1 0
+  put-registers = made-valid (graphOf t) (valid-graph (graphOf t) (admitted-halves t a .0)) s G k below .registers ∙ registers-are t
 
-  module _ (new : List ℕ) (next : ℕ) (values : List ℕ) (n : ℕ) (h : Held (pointOf (nth t k)) (drop (wireOffset first) table) next values n new) where
-    pub put-next : first + n ≡ wireCount (firstStates t (k + 1))
-    put-next = let c = first-count t k in let e = its-count (nth t k) (drop (wireOffset first) table) new next values n h in let p = f .passed in omega arith
+  module _ (new : List ℕ) (next : ℕ) (values : List ℕ) (n : ℕ) (h : Held (pointOf (nth t s k)) (drop (wireOffset first) table) next values n new) where
+    pub put-next : first + n ≡ wireCount (firstStates t s (k + 1))
+    put-next = let c = first-count t s k in let e = its-count (nth t s k) (drop (wireOffset first) table) new next values n h in let p = f .passed in omega arith
 
-    pub put-words : (sixteen : List ℕ) → sixteen ≡ padded maxRegisters 0 (nth t k .nextRegisters)
-        → sets (take (wireOffset first) table ++ new) (recordOffset k) (first ∷ n ∷ next ∷ sixteen) ≡ withStates (take recordsOffset table) (firstStates t (k + 1))
+    pub put-words : (sixteen : List ℕ) → sixteen ≡ padded maxRegisters 0 (nth t s k .nextRegisters)
+        → sets (take (wireOffset first) table ++ new) (recordOffset k) (first ∷ n ∷ next ∷ sixteen) ≡ withStates (take recordsOffset table) (firstStates t s (k + 1))
     put-words sixteen e =
-        let q = nth t k in
+        let q = nth t s k in
         let old = drop (wireOffset first) table in
-        let l = first-length t k in
+        let l = first-length t s k in
         let c = admitted-closed t a in
-        let s = grouped (graphOf t) c .few-states in
+        let d = G .few-states in
         let b = c .few-blocks in
-        let few : length (firstStates t k) < maxStates = omega arith in
-        let room : wireCount (firstStates t k) + length (q .wires) ≤ maxWires = first-room t a k below in
+        let few : length (firstStates t s k) < maxStates = omega arith in
+        let room : wireCount (firstStates t s k) + length (q .wires) ≤ maxWires = first-room t a s G k below in
         let whole : length (take recordsOffset table) ≡ recordsOffset = length-take-le recordsOffset table (omega (arith, f .all)) in
         ap (λ (x : List ℕ). sets (take (wireOffset first) table ++ new) (recordOffset k) (first ∷ n ∷ next ∷ x)) e
         ∙ ap (λ (x : List ℕ). sets x (recordOffset k) (first ∷ n ∷ next ∷ padded maxRegisters 0 (q .nextRegisters))) (its-words q old new next values n h table (wireOffset first) refl (omega (arith, f .all, f .passed)))
         ∙ ap (λ (i : ℕ). sets (sets table (wireOffset first) (concatMap wireWordsOf (q .wires))) (recordOffset k) (first ∷ i ∷ next ∷ padded maxRegisters 0 (q .nextRegisters))) (its-count q old new next values n h)
         ∙ ap (λ (i : ℕ). sets (sets table (wireOffset first) (concatMap wireWordsOf (q .wires))) (recordOffset k) (first ∷ length (q .wires) ∷ i ∷ padded maxRegisters 0 (q .nextRegisters))) (its-next q old new next values n h)
         ∙ ap (λ (i : ℕ). sets (sets table (wireOffset i) (concatMap wireWordsOf (q .wires))) (recordOffset k) (recordOf i q)) (f .passed)
-        ∙ ap (λ (i : ℕ). sets (sets table (wireOffset (wireCount (firstStates t k))) (concatMap wireWordsOf (q .wires))) (recordOffset i) (recordOf (wireCount (firstStates t k)) q)) (sym (first-length t k))
-        ∙ state-written (take recordsOffset table) (firstStates t k) q whole few room table (f .words)
-        ∙ ap (withStates (take recordsOffset table)) (sym (first-more t k))
+        ∙ ap (λ (i : ℕ). sets (sets table (wireOffset (wireCount (firstStates t s k))) (concatMap wireWordsOf (q .wires))) (recordOffset i) (recordOf (wireCount (firstStates t s k)) q)) (sym (first-length t s k))
+        ∙ state-written (take recordsOffset table) (firstStates t s k) q whole few room table (f .words)
+        ∙ ap (withStates (take recordsOffset table)) (sym (first-more t s k))
 
 -- ---- what making a state asks
 
-pub groups-held : (t edges starts starters states : List ℕ) → Prepared t edges starts starters states → Grouped starters states
-groups-held t edges starts starters states p =
+pub groups-held : (t : List ℕ) (s : Groups) → Grouped (graphOf t) s → (edges starts starters states : List ℕ) → Prepared t s edges starts starters states
+    → GroupedBytes starters states
+groups-held t s G edges starts starters states p =
     let c = admitted-closed t (p .admits) in
-    let g = grouped (graphOf t) c in
     let b = c .few-blocks in
-    let n = g .few-states in
-    let m = g .all-blocks in
+    let n = G .few-states in
+    let m = G .all-blocks in
     let e = ap length (p .its-starters) in
     let f = ap length (p .its-states) in
-    record { owned = λ k h. rw (p .its-states, p .its-starters) (g .starter-home k none (omega arith)); few = omega arith; known = omega arith }
+    record { owned = λ k h. rw (p .its-states, p .its-starters) (G .starter-home k none (omega arith)); few = omega arith; known = omega arith }
 
 pub drop-zeros : (r n : ℕ) → r ≤ n → drop r (replicate {A = ℕ} n 0) ≡ replicate (n - r) 0
 drop-zeros zero n h = let e : n - 0 ≡ n = omega arith in rw e refl
@@ -110,19 +110,19 @@ drop-zeros (suc r) (suc n) h = let e : suc n - suc r ≡ n - r = omega arith in 
 
 -- ---- a state made and put
 
-module _ (t edges starts starters states : List ℕ) (p : Prepared t edges starts starters states) (table : List ℕ) (k first : ℕ) (f : Filled t table k first) (low : k < length starters) where
-  pub below : k < length (groups (graphOf t) .starters)
+module _ (t : List ℕ) (s : Groups) (G : Grouped (graphOf t) s) (edges starts starters states : List ℕ) (p : Prepared t s edges starts starters states) (table : List ℕ) (k first : ℕ) (f : Filled t s table k first) (low : k < length starters) where
+  pub below : k < length (s .starters)
   below = let e = ap length (p .its-starters) in omega arith
 
   pub few-states : k < maxStates
   few-states =
       let b = admitted-closed t (p .admits) .few-blocks in
-      let n = grouped (graphOf t) (admitted-closed t (p .admits)) .few-states in
+      let n = G .few-states in
       let l = below in
       omega arith
 
   pub first-low : first ≤ maxWires
-  first-low = let r = put-room t (p .admits) table k first f below in omega arith
+  first-low = let r = put-room t (p .admits) s G table k first f below in omega arith
 
   pub registers-low : getD t 1 0 ≤ maxRegisters
   registers-low = admitted-facts t (p .admits) .fewRegisters
@@ -134,24 +134,24 @@ module _ (t edges starts starters states : List ℕ) (p : Prepared t edges start
   pub rest-of : take (length table - (wireOffset first)) (drop (wireOffset first) table) ≡ drop (wireOffset first) table
   rest-of = take-all (length table - (wireOffset first)) (drop (wireOffset first) table) (let l = length-drop (wireOffset first) table in omega arith)
 
-  pub room-for : (point : Point) → point ≡ pointOf (nth t k) → Room (length (point .wires)) (take (length table - (wireOffset first)) (drop (wireOffset first) table))
+  pub room-for : (point : Point) → point ≡ pointOf (nth t s k) → Room (length (point .wires)) (take (length table - (wireOffset first)) (drop (wireOffset first) table))
   room-for point is =
-      let e : length (point .wires) ≡ length (nth t k .wires) = ap (λ (x : Point). length (x .wires)) is in
-      let r = put-room t (p .admits) table k first f below in
+      let e : length (point .wires) ≡ length (nth t s k .wires) = ap (λ (x : Point). length (x .wires)) is in
+      let r = put-room t (p .admits) s G table k first f below in
       let l = ap length rest-of ∙ length-drop (wireOffset first) table in
       let a = f .all in
       record { fits = omega arith; few = omega arith }
 
-  module _ (point : Point) (is : point ≡ pointOf (nth t k)) (new values : List ℕ) (m n next : ℕ) (h : Held point (take (length table - (wireOffset first)) (drop (wireOffset first) table)) next (take m values) n new)
+  module _ (point : Point) (is : point ≡ pointOf (nth t s k)) (new values : List ℕ) (m n next : ℕ) (h : Held point (take (length table - (wireOffset first)) (drop (wireOffset first) table)) next (take m values) n new)
       (as-many : length values ≡ getD t 1 0) (m-low : m ≤ getD t 1 0) where
-    held : Held (pointOf (nth t k)) (drop (wireOffset first) table) next (take m values) n new
-    held = subst (λ (l : List ℕ). Held (pointOf (nth t k)) l next (take m values) n new) rest-of (subst (λ (x : Point). Held x (take (length table - (wireOffset first)) (drop (wireOffset first) table)) next (take m values) n new) is h)
+    held : Held (pointOf (nth t s k)) (drop (wireOffset first) table) next (take m values) n new
+    held = subst (λ (l : List ℕ). Held (pointOf (nth t s k)) l next (take m values) n new) rest-of (subst (λ (x : Point). Held x (take (length table - (wireOffset first)) (drop (wireOffset first) table)) next (take m values) n new) is h)
 
     pub made-low : first + n ≤ maxWires
-    made-low = let r = put-room t (p .admits) table k first f below in let c = its-count (nth t k) (drop (wireOffset first) table) new next (take m values) n held in omega arith
+    made-low = let r = put-room t (p .admits) s G table k first f below in let c = its-count (nth t s k) (drop (wireOffset first) table) new next (take m values) n held in omega arith
 
-    pub made-count : first + n ≡ wireCount (firstStates t (k + 1))
-    made-count = put-next t (p .admits) table k first f below new next (take m values) n held
+    pub made-count : first + n ≡ wireCount (firstStates t s (k + 1))
+    made-count = put-next t (p .admits) s G table k first f below new next (take m values) n held
 
     -- all of the table with the state's wires
     pub made-table : new ++ drop (length table - (wireOffset first)) (drop (wireOffset first) table) ≡ new
@@ -160,9 +160,9 @@ module _ (t edges starts starters states : List ℕ) (p : Prepared t edges start
         ap (λ (x : List ℕ). new ++ x) (drop-of-length-le (drop (wireOffset first) table) {i = length table - (wireOffset first)} (omega arith)) ∙ append-nil new
 
     pub made-words : (rest table′ last : List ℕ) → rest ≡ replicate (maxRegisters - getD t 1 0) 0 → table′ ≡ take (wireOffset first) table ++ new
-        → last ≡ sets table′ (recordOffset k) (first ∷ n ∷ next ∷ (values ++ rest)) → last ≡ withStates (take recordsOffset table) (firstStates t (k + 1))
+        → last ≡ sets table′ (recordOffset k) (first ∷ n ∷ next ∷ (values ++ rest)) → last ≡ withStates (take recordsOffset table) (firstStates t s (k + 1))
     made-words rest table′ last z e w =
-        let s : values ++ rest ≡ padded maxRegisters 0 (nth t k .nextRegisters) =
-        registers-padded (getD t 1 0) values rest (nth t k .nextRegisters) m as-many registers-low m-low (put-registers t (p .admits) table k first f below)
-        (its-registers (nth t k) (drop (wireOffset first) table) new next (take m values) n held) z in
-        w ∙ ap (λ (l : List ℕ). sets l (recordOffset k) (first ∷ n ∷ next ∷ (values ++ rest))) e ∙ put-words t (p .admits) table k first f below new next (take m values) n held (values ++ rest) s
+        let v : values ++ rest ≡ padded maxRegisters 0 (nth t s k .nextRegisters) =
+        registers-padded (getD t 1 0) values rest (nth t s k .nextRegisters) m as-many registers-low m-low (put-registers t (p .admits) s G table k first f below)
+        (its-registers (nth t s k) (drop (wireOffset first) table) new next (take m values) n held) z in
+        w ∙ ap (λ (l : List ℕ). sets l (recordOffset k) (first ∷ n ∷ next ∷ (values ++ rest))) e ∙ put-words t (p .admits) s G table k first f below new next (take m values) n held (values ++ rest) v

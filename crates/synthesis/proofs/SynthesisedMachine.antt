@@ -13,12 +13,12 @@ use Rattle.fsmd.specs.Layout.{maxStates, maxBlocks, maxRegisters, maxWires, non
 use Rattle.fsmd.specs.Machine.{FSMD, emptyState, stateOf as stateAt, wireCount}
 use Rattle.fsmd.specs.Table.{validState}
 use Rattle.grouping.specs.Grouping.{Groups, groups}
-use Rattle.grouping.proofs.Reach.{Closed, valid-closed}
-use Rattle.grouping.proofs.GroupingLaws.{grouped}
+use Rattle.grouping.proofs.Reach.{valid-closed}
+use Rattle.grouping.proofs.GroupingLaws.{Grouped, grouped}
 use Rattle.state.specs.Wires.{stateOf}
 use Rattle.synthesis.specs.Synthesis.{machineFor, machine}
 use Rattle.synthesis.proofs.GraphFacts.{graph-fits}
-use Rattle.placement.proofs.StateOrder.{StateOrder, groups-arranged}
+use Rattle.placement.proofs.StateOrder.{StateOrder, arranged}
 use Rattle.synthesis.proofs.StateValidity.{StateValid, state-valid}
 use Rattle.synthesis.proofs.WireCount.{machine-count}
 
@@ -62,34 +62,36 @@ pub machine-is : (g : CFG) → machine g ≡ machineFor g (groups g)
 unfolding machine
 machine-is g = refl
 
--- the blocks of each state, in order
-state-order : (g : CFG) → Closed g → (k : ℕ) → k < length (groups g .starters) → StateOrder g (groups g) k (getD (groups g .starters) k none)
-state-order g a k h =
-    let s = groups g in
-    let b = getD (s .starters) k none in
-    rw (grouped g a .starter-home k none h) at (groups-arranged g a .placed b (In→mem b (s .starters) (getD-in (s .starters) k none h)))
+-- of any finished grouping
+module _ (g : CFG) (v : ValidGraph g) (s : Groups) (G : Grouped g s) where
+  -- the blocks of each state, in order
+  state-order : (k : ℕ) → k < length (s .starters) → StateOrder g s k (getD (s .starters) k none)
+  state-order k h =
+      let b = getD (s .starters) k none in
+      rw (G .starter-home k none h) at (arranged g (valid-closed g v) s G .placed b (In→mem b (s .starters) (getD-in (s .starters) k none h)))
 
-pub made-valid : (g : CFG) → ValidGraph g → (k : ℕ) → k < length (groups g .starters) → StateValid g (groups g) k
-made-valid g v k h = state-valid g (groups g) k (getD (groups g .starters) k none) (graph-fits g v) (state-order g (valid-closed g v) k h)
+  pub made-valid : (k : ℕ) → k < length (s .starters) → StateValid g s k
+  made-valid k h = state-valid g s k (getD (s .starters) k none) (graph-fits g v) (state-order k h)
+
+  pub made-fits : MachineFits (machineFor g s)
+  made-fits =
+      let f = graph-fits g v in
+      let n = states-count g s in
+      let some = G .some-state in
+      let few = G .few-states in
+      let all = G .all-blocks in
+      let blocks = f .fewBlocks in
+      record {
+        someState = omega arith;
+        fewStates = omega arith;
+        someRegister = rw (registers-are g s) (f .someRegister);
+        fewRegisters = rw (registers-are g s) (f .fewRegisters);
+        startersCount = ap length (starters-are g s) ∙ sym n;
+        fewBlocks = rw (block-states-are g s) (omega arith);
+        valid = λ k h. rw (registers-are g s, state-at g s k (omega arith)) (made-valid k (omega arith) .valid);
+        nextRegisters = λ k h. rw (registers-are g s, state-at g s k (omega arith)) (made-valid k (omega arith) .registers);
+        room = machine-count g s f;
+      }
 
 pub machine-fits : (g : CFG) → ValidGraph g → MachineFits (machine g)
-machine-fits g v =
-    let s = groups g in
-    let f = graph-fits g v in
-    let G = grouped g (valid-closed g v) in
-    let n = states-count g s in
-    let some = G .some-state in
-    let few = G .few-states in
-    let all = G .all-blocks in
-    let blocks = f .fewBlocks in
-    rw (machine-is g) (record {
-      someState = omega arith;
-      fewStates = omega arith;
-      someRegister = rw (registers-are g s) (f .someRegister);
-      fewRegisters = rw (registers-are g s) (f .fewRegisters);
-      startersCount = ap length (starters-are g s) ∙ sym n;
-      fewBlocks = rw (block-states-are g s) (omega arith);
-      valid = λ k h. rw (registers-are g s, state-at g s k (omega arith)) (made-valid g v k (omega arith) .valid);
-      nextRegisters = λ k h. rw (registers-are g s, state-at g s k (omega arith)) (made-valid g v k (omega arith) .registers);
-      room = machine-count g s f;
-    })
+machine-fits g v = rw (machine-is g) (made-fits g v (groups g) (grouped g (valid-closed g v)))

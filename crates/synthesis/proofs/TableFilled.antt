@@ -15,92 +15,93 @@ use Rattle.cfg.proofs.Admitted.{admitted-facts, blocks-length, registers-are}
 use Rattle.fsmd.specs.Layout.{maxStates, maxBlocks, recordsOffset, machineWords, none}
 use Rattle.fsmd.specs.Table.{tableOf}
 use Rattle.grouping.specs.declared.Grouping.{Grouping}
-use Rattle.grouping.specs.Grouping.{groups}
-use Rattle.grouping.specs.Answer.{groupingOf}
+use Rattle.grouping.specs.Grouping.{Groups}
+use Rattle.grouping.specs.Answer.{answerOf}
 use Rattle.grouping.proofs.Reach.{Closed, admitted-closed, reached-below}
-use Rattle.grouping.proofs.GroupingLaws.{grouped}
+use Rattle.grouping.proofs.GroupingLaws.{Grouped}
 use Rattle.synthesis.specs.declared.SynthesisAnswer.{SynthesisAnswer}
 use Rattle.synthesis.specs.declared.SynthesisAnswer.the-variants.{Refused, Made}
-use Rattle.synthesis.specs.Synthesis.{machine, synthesisAnswer, synthesisWords}
+use Rattle.synthesis.specs.Synthesis.{machineFor, machine, synthesisAnswer, synthesisWords}
 use Rattle.synthesis.specs.StateWords.{withStates, firstStates, Filled}
-use Rattle.synthesis.proofs.MachineTable.{machine-table, filled-none, grouping-count, grouping-starters, grouping-states, take-padded}
+use Rattle.synthesis.proofs.MachineTable.{machine-table, filled-none, take-padded}
 use Rattle.synthesis.proofs.MadeTable.{answer-words, made-words, admitted-made}
 
 -- ---- the groups in bytes
 
-pub record GroupsListed (t : List ℕ) (r : Grouping) : Type 0 where
+pub record GroupsListed (t : List ℕ) (s : Groups) (r : Grouping) : Type 0 where
   pub starters-64 : length (r .starters) ≡ maxStates
   pub states-64 : length (r .states) ≡ maxBlocks
   pub few-states : r .count ≤ maxStates
   pub few-blocks : getD t 0 0 ≤ maxBlocks
   pub long : graphWords ≤ length t
-  pub counted : r .count ≡ length (groups (graphOf t) .starters)
-  pub starters : take (r .count) (r .starters) ≡ groups (graphOf t) .starters
-  pub states : take (getD t 0 0) (r .states) ≡ groups (graphOf t) .states
+  pub counted : r .count ≡ length (s .starters)
+  pub starters : take (r .count) (r .starters) ≡ s .starters
+  pub states : take (getD t 0 0) (r .states) ≡ s .states
   pub low : (i : ℕ) → i < length (take (r .count) (r .starters)) → getD (take (r .count) (r .starters)) i 0 < maxBlocks
 
-module _ (t : List ℕ) (a : admitted t ≡ true) (r : Grouping) (e : r ≡ groupingOf t) where
+-- of any finished grouping
+module _ (t : List ℕ) (a : admitted t ≡ true) (s : Groups) (G : Grouped (graphOf t) s) (r : Grouping) (e : r ≡ answerOf s) where
   closed : Closed (graphOf t)
   closed = admitted-closed t a
 
-  r-count : r .count ≡ length (groups (graphOf t) .starters)
-  r-count = ap (λ (x : Grouping). x .count) e ∙ grouping-count t
+  r-count : r .count ≡ length (s .starters)
+  r-count = ap (λ (x : Grouping). x .count) e
 
-  r-starters : r .starters ≡ padded maxStates 0 (groups (graphOf t) .starters)
-  r-starters = ap (λ (x : Grouping). x .starters) e ∙ grouping-starters t
+  r-starters : r .starters ≡ padded maxStates 0 (s .starters)
+  r-starters = ap (λ (x : Grouping). x .starters) e
 
-  r-states : r .states ≡ padded maxBlocks none (groups (graphOf t) .states)
-  r-states = ap (λ (x : Grouping). x .states) e ∙ grouping-states t
+  r-states : r .states ≡ padded maxBlocks none (s .states)
+  r-states = ap (λ (x : Grouping). x .states) e
 
-  few : length (groups (graphOf t) .starters) ≤ maxStates
-  few = let n = grouped (graphOf t) closed .few-states in let b = closed .few-blocks in omega arith
+  few : length (s .starters) ≤ maxStates
+  few = let n = G .few-states in let b = closed .few-blocks in omega arith
 
-  states-are : getD t 0 0 ≡ length (groups (graphOf t) .states)
-  states-are = sym (grouped (graphOf t) closed .all-blocks ∙ blocks-length t)
+  states-are : getD t 0 0 ≡ length (s .states)
+  states-are = sym (G .all-blocks ∙ blocks-length t)
 
-  listed : take (r .count) (r .starters) ≡ groups (graphOf t) .starters
-  listed = ap (take (r .count)) r-starters ∙ take-padded maxStates 0 (groups (graphOf t) .starters) (r .count) few r-count
+  listed : take (r .count) (r .starters) ≡ s .starters
+  listed = ap (take (r .count)) r-starters ∙ take-padded maxStates 0 (s .starters) (r .count) few r-count
 
-  starter-low : (i : ℕ) → i < length (groups (graphOf t) .starters) → getD (groups (graphOf t) .starters) i 0 < maxBlocks
+  starter-low : (i : ℕ) → i < length (s .starters) → getD (s .starters) i 0 < maxBlocks
   starter-low i h =
-      let x = getD (groups (graphOf t) .starters) i 0 in
-      let l = reached-below closed (grouped (graphOf t) closed .starter-reached x (getD-in (groups (graphOf t) .starters) i 0 h)) in
+      let x = getD (s .starters) i 0 in
+      let l = reached-below closed (G .starter-reached x (getD-in (s .starters) i 0 h)) in
       let b = closed .few-blocks in
       omega arith
 
-  pub groups-listed : GroupsListed t r
+  pub groups-listed : GroupsListed t s r
   groups-listed =
       let d = admitted-facts t a in
       let n = d .fewBlocks in
       record {
-        starters-64 = ap length r-starters ∙ length-padded maxStates 0 (groups (graphOf t) .starters);
-        states-64 = ap length r-states ∙ length-padded maxBlocks none (groups (graphOf t) .states);
+        starters-64 = ap length r-starters ∙ length-padded maxStates 0 (s .starters);
+        states-64 = ap length r-states ∙ length-padded maxBlocks none (s .states);
         few-states = let f = few in let c = r-count in omega arith;
         few-blocks = d .fewBlocks;
         long = d .long;
         counted = r-count;
         starters = listed;
-        states = ap (take (getD t 0 0)) r-states ∙ take-padded maxBlocks none (groups (graphOf t) .states) (getD t 0 0) (let s = states-are in omega arith) states-are;
+        states = ap (take (getD t 0 0)) r-states ∙ take-padded maxBlocks none (s .states) (getD t 0 0) (let z = states-are in omega arith) states-are;
         low = λ i h. rw listed (starter-low i (rw listed at h));
       }
 
   -- the head, then the states
   pub begun : (table : List ℕ) → length table ≡ machineWords → table ≡ withStates (r .count ∷ getD t 1 0 ∷ (r .starters ++ r .states)) []
-      → Filled t table 0 0 × (take recordsOffset table ≡ r .count ∷ getD t 1 0 ∷ (r .starters ++ r .states))
+      → Filled t s table 0 0 × (take recordsOffset table ≡ r .count ∷ getD t 1 0 ∷ (r .starters ++ r .states))
   begun table l f =
       let g = groups-listed in
-      filled-none t table (r .count ∷ getD t 1 0 ∷ (r .starters ++ r .states)) l (omega (arith, length-append (r .starters) (r .states), g .starters-64, g .states-64)) f
+      filled-none t s table (r .count ∷ getD t 1 0 ∷ (r .starters ++ r .states)) l (omega (arith, length-append (r .starters) (r .states), g .starters-64, g .states-64)) f
 
   pub table-filled : (table last : List ℕ) → length table ≡ machineWords → table ≡ withStates (r .count ∷ getD t 1 0 ∷ (r .starters ++ r .states)) []
-      → last ≡ withStates (take recordsOffset table) (firstStates t (length (take (r .count) (r .starters)))) → last ≡ tableOf (machine (graphOf t))
+      → last ≡ withStates (take recordsOffset table) (firstStates t s (length (take (r .count) (r .starters)))) → last ≡ tableOf (machineFor (graphOf t) s)
   table-filled table last l f g =
       let n : length (take (r .count) (r .starters)) ≡ r .count = ap length listed ∙ sym r-count in
       g
-      ∙ ap (λ (h : List ℕ). withStates h (firstStates t (length (take (r .count) (r .starters))))) (begun table l f .1)
-      ∙ ap (λ (m : ℕ). withStates (r .count ∷ getD t 1 0 ∷ (r .starters ++ r .states)) (firstStates t m)) n
-      ∙ ap (λ (x : List ℕ). withStates (r .count ∷ getD t 1 0 ∷ (x ++ r .states)) (firstStates t (r .count))) r-starters
-      ∙ ap (λ (x : List ℕ). withStates (r .count ∷ getD t 1 0 ∷ (padded maxStates 0 (groups (graphOf t) .starters) ++ x)) (firstStates t (r .count))) r-states
-      ∙ machine-table t a (r .count) (getD t 1 0) r-count (sym (registers-are t))
+      ∙ ap (λ (h : List ℕ). withStates h (firstStates t s (length (take (r .count) (r .starters))))) (begun table l f .1)
+      ∙ ap (λ (m : ℕ). withStates (r .count ∷ getD t 1 0 ∷ (r .starters ++ r .states)) (firstStates t s m)) n
+      ∙ ap (λ (x : List ℕ). withStates (r .count ∷ getD t 1 0 ∷ (x ++ r .states)) (firstStates t s (r .count))) r-starters
+      ∙ ap (λ (x : List ℕ). withStates (r .count ∷ getD t 1 0 ∷ (padded maxStates 0 (s .starters) ++ x)) (firstStates t s (r .count))) r-states
+      ∙ machine-table t a s G (r .count) (getD t 1 0) r-count (sym (registers-are t))
 
 -- ---- the answer
 

@@ -10,7 +10,7 @@ use Rattle.cfg.specs.Table.{graphOf, admitted}
 use Rattle.fsmd.specs.Layout.{allRecordWords, allWireWords, recordsOffset, machineWords}
 use Rattle.fsmd.specs.Machine.{State, wireCount}
 use Rattle.fsmd.specs.Table.{recordsOf, wiresOf}
-use Rattle.grouping.specs.Grouping.{groups}
+use Rattle.grouping.specs.Grouping.{Groups}
 use Rattle.grouping.specs.Bytes.{edgesIn}
 use Rattle.placement.specs.PlacementBytes.{marked}
 use Rattle.state.specs.Wires.{stateOf}
@@ -20,21 +20,21 @@ unfoldable pub withStates : List ℕ → List State → List ℕ
 unfolding recordsOf wiresOf
 withStates head qs = head ++ (padded allRecordWords 0 (recordsOf 0 qs) ++ padded allWireWords 0 (wiresOf qs))
 
--- the first k states of the machine of a graph table
-unfoldable pub firstStates : List ℕ → ℕ → List State
-unfolding graphOf groups stateOf
-firstStates t k = map (stateOf (graphOf t) (groups (graphOf t))) (upFrom 0 k)
+-- the first k states of the machine of a graph table whose grouping is s
+unfoldable pub firstStates : List ℕ → Groups → ℕ → List State
+unfolding graphOf stateOf
+firstStates t s k = map (stateOf (graphOf t) s) (upFrom 0 k)
 
--- what the code knows of a graph table t: its successors, its starters marked, its starters and its blocks' states
-pub record Prepared (t edges starts starters states : List ℕ) : Type 0 where
+-- what the code knows of a graph table t whose grouping is s: its successors, its starters marked, its starters and its blocks' states
+pub record Prepared (t : List ℕ) (s : Groups) (edges starts starters states : List ℕ) : Type 0 where
   pub admits : admitted t ≡ true
   pub leading : (n : ℕ) → edgesIn edges n ≡ successors (graphOf t) n
-  pub starting : (x : ℕ) → marked starts x ≡ mem x (groups (graphOf t) .starters)
-  pub its-starters : starters ≡ groups (graphOf t) .starters
-  pub its-states : states ≡ groups (graphOf t) .states
+  pub starting : (x : ℕ) → marked starts x ≡ mem x (s .starters)
+  pub its-starters : starters ≡ s .starters
+  pub its-states : states ≡ s .states
 
 -- a table of which the first k states are written, and the number of the next wire
-pub record Filled (t table : List ℕ) (k first : ℕ) : Type 0 where
+pub record Filled (t : List ℕ) (s : Groups) (table : List ℕ) (k first : ℕ) : Type 0 where
   pub all : length table ≡ machineWords
-  pub words : table ≡ withStates (take recordsOffset table) (firstStates t k)
-  pub passed : first ≡ wireCount (firstStates t k)
+  pub words : table ≡ withStates (take recordsOffset table) (firstStates t s k)
+  pub passed : first ≡ wireCount (firstStates t s k)

@@ -17,6 +17,7 @@ ghost use Rattle.cfg.specs.Table.{graphOf, admitted};
 ghost use Rattle.fsmd.specs.Layout.{maxBlocks, maxRegisters, maxWires, recordWords, recordsOffset, machineWords};
 ghost use Rattle.fsmd.specs.Machine.{wireCount};
 ghost use Rattle.fsmd.specs.Table.{tableOf};
+ghost use Rattle.grouping.specs.Grouping.{groups};
 ghost use Rattle.placement.specs.PlacementBytes.{marked};
 ghost use Rattle.state.specs.Making.{Edged};
 ghost use Rattle.synthesis.specs.Synthesis.{machine, synthesisAnswer, synthesisWords};
@@ -79,10 +80,10 @@ fn one_state(
     targets: &mut [u32],
     rows: &mut [u32],
 ) -> usize
-    requires { ⌜ Prepared (now graph) (now edges) (now starts) (now starters) (now states) ⌝ }
-    requires { ⌜ (k < length (now starters)) × Filled (now graph) (now table) k first ⌝ }
+    requires { ⌜ Prepared (now graph) (groups (graphOf (now graph))) (now edges) (now starts) (now starters) (now states) ⌝ }
+    requires { ⌜ (k < length (now starters)) × Filled (now graph) (groups (graphOf (now graph))) (now table) k first ⌝ }
     requires { ⌜ Edged (now targets) (now rows) 0 ⌝ }
-    ensures { λ r. ⌜ (now (table .exit) ≡ withStates (take recordsOffset (now (table .entry))) (firstStates (now (graph .entry)) (k + 1))) × (r ≡ wireCount (firstStates (now (graph .entry)) (k + 1))) ⌝ }
+    ensures { λ r. ⌜ (now (table .exit) ≡ withStates (take recordsOffset (now (table .entry))) (firstStates (now (graph .entry)) (groups (graphOf (now (graph .entry)))) (k + 1))) × (r ≡ wireCount (firstStates (now (graph .entry)) (groups (graphOf (now (graph .entry)))) (k + 1))) ⌝ }
 {
     let mut blocks = [0u8; Graph::BLOCKS];
     let count = placement::place(edges, states, starts, k as u8, &mut blocks);
@@ -121,10 +122,10 @@ fn all_states(
     targets: &mut [u32],
     rows: &mut [u32],
 )
-    requires { ⌜ Prepared (now graph) (now edges) (now starts) (now starters) (now states) ⌝ }
-    requires { ⌜ Filled (now graph) (now table) 0 0 ⌝ }
+    requires { ⌜ Prepared (now graph) (groups (graphOf (now graph))) (now edges) (now starts) (now starters) (now states) ⌝ }
+    requires { ⌜ Filled (now graph) (groups (graphOf (now graph))) (now table) 0 0 ⌝ }
     requires { ⌜ Edged (now targets) (now rows) 0 ⌝ }
-    ensures { λ r. ⌜ now (table .exit) ≡ withStates (take recordsOffset (now (table .entry))) (firstStates (now (graph .entry)) (length (now (starters .entry)))) ⌝ }
+    ensures { λ r. ⌜ now (table .exit) ≡ withStates (take recordsOffset (now (table .entry))) (firstStates (now (graph .entry)) (groups (graphOf (now (graph .entry)))) (length (now (starters .entry)))) ⌝ }
 {
     let mut k: usize = 0;
     let mut first: usize = 0;

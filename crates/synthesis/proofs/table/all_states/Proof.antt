@@ -6,7 +6,9 @@ use native.Mathlib.Omega.{arith}
 use denote.Ref.{now}
 use lib.ListN.{length, take, set, length-set}
 use borrow.Author.Needs.{needs}
+use Rattle.cfg.specs.Table.{graphOf}
 use Rattle.fsmd.specs.Layout.{recordsOffset}
+use Rattle.grouping.specs.Grouping.{groups}
 use Rattle.synthesis.specs.StateWords.{withStates, firstStates, Filled}
 use Rattle.state.specs.Making.{Edged}
 use Rattle.synthesis.proofs.MachineTable.{filled-on}
@@ -15,7 +17,7 @@ use Rattle.synthesis.proofs.table.all_states.Tie as tie
 
 abbrev Inv-loop : tie.InvT-loop
 Inv-loop graph edges starts starters states table₀ targets₀ rows₀ k₀ first₀ table targets rows k first =
-    Filled graph table k first × (take recordsOffset table ≡ take recordsOffset table₀) × (k ≤ length starters) × Edged targets rows 0
+    Filled graph (groups (graphOf graph)) table k first × (take recordsOffset table ≡ take recordsOffset table₀) × (k ≤ length starters) × Edged targets rows 0
 
 abbrev μ-loop : tie.MeasureT-loop
 μ-loop graph edges starts starters states table₀ targets₀ rows₀ k₀ first₀ table targets rows k first = length starters - k
@@ -35,7 +37,7 @@ loop-again c =
     let a = c .before .before .before .before .before .before .before .before .before .before .before .before .before .before .before .before .before .before .before .before .args in
     let l = c .before .before .before .before .before .before .before .before .before .before .before .loop in
     let o = c .before .before .before .before .before .before .one-state in
-    let f = filled-on (now (a .graph)) (l .table) (l .k) (l .first) (l .inv .0) (o .last .1 .1 .1 .1 .1 .1 .1 .0) (o .result) (o .kept .1 .1 .1 .1 .1 .1 .1 .0) (o .ensures .0) (o .ensures .1) in
+    let f = filled-on (now (a .graph)) (groups (graphOf (now (a .graph)))) (l .table) (l .k) (l .first) (l .inv .0) (o .last .1 .1 .1 .1 .1 .1 .1 .0) (o .result) (o .kept .1 .1 .1 .1 .1 .1 .1 .0) (o .ensures .0) (o .ensures .1) in
     (f .0, f .1 ∙ l .inv .1, omega (arith, c .before .before .before .before .before .before .before .before .before .before .loop-test .taken), record { all = o .kept .1 .1 .1 .1 .1 .1 .1 .1 .0 ∙ l .inv .3 .all; each = o .kept .1 .1 .1 .1 .1 .1 .1 .1 .1 .0 ∙ l .inv .3 .each; few = l .inv .3 .few })
 
 returns : tie.Need-returns Inv-loop μ-loop
@@ -43,7 +45,7 @@ returns c =
     let a = c .before .before .before .before .before .before .before .before .before .before .args in
     let l = c .before .loop in
     let e : l .k ≡ length (now (a .starters)) = omega (arith, c .loop-test .left, l .inv .2) in
-    l .inv .0 .words ∙ ap (λ (h : List ℕ). withStates h (firstStates (now (a .graph)) (l .k))) (l .inv .1) ∙ ap (λ (n : ℕ). withStates (take recordsOffset (now (a .table))) (firstStates (now (a .graph)) n)) e
+    l .inv .0 .words ∙ ap (λ (h : List ℕ). withStates h (firstStates (now (a .graph)) (groups (graphOf (now (a .graph)))) (l .k))) (l .inv .1) ∙ ap (λ (n : ℕ). withStates (take recordsOffset (now (a .table))) (firstStates (now (a .graph)) (groups (graphOf (now (a .graph)))) n)) e
 
 pub all-states-spec : {M : Type 1} → statement M
 all-states-spec =

@@ -8,13 +8,20 @@ use lib.ListN.{length, getD, take}
 use lib.Seq.{length-take-le}
 use borrow.Author.Needs.{needs}
 use Rattle.runs.specs.Lists.{mem}
+use Rattle.cfg.specs.Table.{graphOf}
+use Rattle.fsmd.specs.Table.{tableOf}
+use Rattle.synthesis.proofs.SynthesisedMachine.{machine-is}
+use Rattle.synthesis.proofs.MachineTable.{its, finished, grouping-is}
 use Rattle.synthesis.proofs.TableFilled.{GroupsListed, groups-listed, begun, table-filled}
 use Rattle.synthesis.proofs.table.fill.Statement.{statement}
 use Rattle.synthesis.proofs.table.fill.Tie as tie
 
 -- what grouping gives
-listed : (c : tie.After-group) → GroupsListed (now (c .before .before .before .args .graph)) (c .group .result)
-listed c = groups-listed (now (c .before .before .before .args .graph)) (c .before .before .before .pre .0) (c .group .result) (c .group .ensures)
+listed : (c : tie.After-group) → GroupsListed (now (c .before .before .before .args .graph)) (its (now (c .before .before .before .args .graph))) (c .group .result)
+listed c =
+    let t = now (c .before .before .before .args .graph) in
+    let a = c .before .before .before .pre .0 in
+    groups-listed t a (its t) (finished t a) (c .group .result) (c .group .ensures ∙ grouping-is t)
 
 starters-length : (c : tie.After-group) → c .group .result .count ≡ length (take (c .group .result .count) (c .group .result .starters))
 starters-length c = let g = listed c in sym (length-take-le (c .group .result .count) (c .group .result .starters) (omega (arith, g .few-states, g .starters-64)))
@@ -63,7 +70,7 @@ all-states-requires c κs =
         its-starters = g .starters;
         its-states = g .states;
       },
-      (begun (now (a .graph)) (p .0) (r .result) (r .ensures) (w .last .0) (w .kept .0 ∙ p .1) (w .ensures) .0, record { all = refl; each = refl; few = omega arith }),
+      (begun (now (a .graph)) (p .0) (its (now (a .graph))) (finished (now (a .graph)) (p .0)) (r .result) (r .ensures ∙ grouping-is (now (a .graph))) (w .last .0) (w .kept .0 ∙ p .1) (w .ensures) .0, record { all = refl; each = refl; few = omega arith }),
     )
 
 same-length : tie.Need-same-length
@@ -75,7 +82,8 @@ returns c =
     let p = c .before .before .before .before .before .before .before .before .before .before .before .before .before .before .before .before .before .before .before .before .before .before .before .before .before .before .before .before .pre in
     let r = c .before .before .before .before .before .before .before .before .before .before .before .before .before .before .before .before .before .before .before .before .before .before .before .before .before .group in
     let w = c .before .before .before .before .before .before .before .before .before .before .before .before .before .before .write-head in
-    table-filled (now (a .graph)) (p .0) (r .result) (r .ensures) (w .last .0) (c .before .before .before .before .all-states .last .1 .1 .1 .1 .1 .0) (w .kept .0 ∙ p .1) (w .ensures) (c .before .before .before .before .all-states .ensures)
+    table-filled (now (a .graph)) (p .0) (its (now (a .graph))) (finished (now (a .graph)) (p .0)) (r .result) (r .ensures ∙ grouping-is (now (a .graph))) (w .last .0) (c .before .before .before .before .all-states .last .1 .1 .1 .1 .1 .0) (w .kept .0 ∙ p .1) (w .ensures) (c .before .before .before .before .all-states .ensures)
+    ∙ ap tableOf (sym (machine-is (graphOf (now (a .graph)))))
 
 pub fill-spec : {M : Type 1} → statement M
 fill-spec =

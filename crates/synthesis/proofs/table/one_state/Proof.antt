@@ -18,7 +18,7 @@ use Rattle.state.specs.Wires.{Point}
 use Rattle.placement.specs.PlacementBytes.{membersIn, placeIn}
 use Rattle.state.specs.BlocksMaking.{stateBlocks}
 use Rattle.placement.proofs.PlacedOrder.{placed-order}
-use Rattle.synthesis.proofs.MachineTable.{nth}
+use Rattle.synthesis.proofs.MachineTable.{its, finished, nth}
 use Rattle.synthesis.proofs.StateBlocks.{pointOf, all-placeable, state-is}
 use Rattle.synthesis.proofs.StatePut.{groups-held, drop-zeros, below, few-states, first-low, registers-low, words-long, room-for, made-low, made-count, made-table, made-words}
 use Rattle.synthesis.proofs.table.one_state.Statement.{statement}
@@ -37,10 +37,10 @@ small c =
     let a = c .args in
     let p = c .pre in
     record {
-      state = few-states (now (a .graph)) (now (a .edges)) (now (a .starts)) (now (a .starters)) (now (a .states)) (p .0) (now (a .table)) (a .k) (a .first) (p .1 .0 .1) (p .1 .0 .0);
-      wire = first-low (now (a .graph)) (now (a .edges)) (now (a .starts)) (now (a .starters)) (now (a .states)) (p .0) (now (a .table)) (a .k) (a .first) (p .1 .0 .1) (p .1 .0 .0);
-      registers = registers-low (now (a .graph)) (now (a .edges)) (now (a .starts)) (now (a .starters)) (now (a .states)) (p .0) (now (a .table)) (a .k) (a .first) (p .1 .0 .1) (p .1 .0 .0);
-      long = words-long (now (a .graph)) (now (a .edges)) (now (a .starts)) (now (a .starters)) (now (a .states)) (p .0) (now (a .table)) (a .k) (a .first) (p .1 .0 .1) (p .1 .0 .0);
+      state = few-states (now (a .graph)) (its (now (a .graph))) (finished (now (a .graph)) (p .0 .admits)) (now (a .edges)) (now (a .starts)) (now (a .starters)) (now (a .states)) (p .0) (now (a .table)) (a .k) (a .first) (p .1 .0 .1) (p .1 .0 .0);
+      wire = first-low (now (a .graph)) (its (now (a .graph))) (finished (now (a .graph)) (p .0 .admits)) (now (a .edges)) (now (a .starts)) (now (a .starters)) (now (a .states)) (p .0) (now (a .table)) (a .k) (a .first) (p .1 .0 .1) (p .1 .0 .0);
+      registers = registers-low (now (a .graph)) (its (now (a .graph))) (finished (now (a .graph)) (p .0 .admits)) (now (a .edges)) (now (a .starts)) (now (a .starters)) (now (a .states)) (p .0) (now (a .table)) (a .k) (a .first) (p .1 .0 .1) (p .1 .0 .0);
+      long = words-long (now (a .graph)) (its (now (a .graph))) (finished (now (a .graph)) (p .0 .admits)) (now (a .edges)) (now (a .starts)) (now (a .starters)) (now (a .states)) (p .0) (now (a .table)) (a .k) (a .first) (p .1 .0 .1) (p .1 .0 .0);
       all = p .1 .0 .1 .all;
     }
 
@@ -55,7 +55,7 @@ ordered c =
     let p = c .before .before .before .before .before .before .before .before .before .before .pre in
     c .place .ensures .1
     ∙ ap (λ (x : List ℕ). placeIn (now (a .edges)) (now (a .starts)) (membersIn x (a .k)) maxBlocks []) (p .0 .its-states)
-    ∙ placed-order (graphOf (now (a .graph))) (admitted-closed (now (a .graph)) (p .0 .admits)) (a .k) (below (now (a .graph)) (now (a .edges)) (now (a .starts)) (now (a .starters)) (now (a .states)) (p .0) (now (a .table)) (a .k) (a .first) (p .1 .0 .1) (p .1 .0 .0)) (now (a .edges)) (now (a .starts)) (p .0 .leading) (p .0 .starting)
+    ∙ placed-order (graphOf (now (a .graph))) (admitted-closed (now (a .graph)) (p .0 .admits)) (its (now (a .graph))) (finished (now (a .graph)) (p .0 .admits)) (a .k) (below (now (a .graph)) (its (now (a .graph))) (finished (now (a .graph)) (p .0 .admits)) (now (a .edges)) (now (a .starts)) (now (a .starters)) (now (a .states)) (p .0) (now (a .table)) (a .k) (a .first) (p .1 .0 .1) (p .1 .0 .0)) (now (a .edges)) (now (a .starts)) (p .0 .leading) (p .0 .starting)
 
 blocks-length : (c : tie.After-place) → c .place .result ≡ length (take (c .place .result) (c .place .last .1 .1 .1 .1 .0))
 blocks-length c = sym (length-take-le (c .place .result) (c .place .last .1 .1 .1 .1 .0) (omega (arith, c .place .ensures .0, c .place .kept .1 .1 .1 .1 .0)))
@@ -65,11 +65,11 @@ end c =
     let a = c .before .before .before .before .before .before .before .before .before .before .args in
     stateBlocks (length (take (getD (now (a .graph)) 1 0) (replicate {A = ℕ} maxRegisters 0))) (now (a .graph)) (now (a .starters)) (now (a .states)) (take (c .place .result) (c .place .last .1 .1 .1 .1 .0))
 
-end-is : (c : tie.After-place) → end c ≡ pointOf (nth (now (c .before .before .before .before .before .before .before .before .before .before .args .graph)) (c .before .before .before .before .before .before .before .before .before .before .args .k))
+end-is : (c : tie.After-place) → end c ≡ pointOf (nth (now (c .before .before .before .before .before .before .before .before .before .before .args .graph)) (its (now (c .before .before .before .before .before .before .before .before .before .before .args .graph))) (c .before .before .before .before .before .before .before .before .before .before .args .k))
 end-is c =
     let a = c .before .before .before .before .before .before .before .before .before .before .args in
     let p = c .before .before .before .before .before .before .before .before .before .before .pre in
-    state-is (now (a .graph)) (p .0 .admits) (a .k) (below (now (a .graph)) (now (a .edges)) (now (a .starts)) (now (a .starters)) (now (a .states)) (p .0) (now (a .table)) (a .k) (a .first) (p .1 .0 .1) (p .1 .0 .0))
+    state-is (now (a .graph)) (p .0 .admits) (its (now (a .graph))) (finished (now (a .graph)) (p .0 .admits)) (a .k) (below (now (a .graph)) (its (now (a .graph))) (finished (now (a .graph)) (p .0 .admits)) (now (a .edges)) (now (a .starts)) (now (a .starters)) (now (a .states)) (p .0) (now (a .table)) (a .k) (a .first) (p .1 .0 .1) (p .1 .0 .0))
     (length (take (getD (now (a .graph)) 1 0) (replicate {A = ℕ} maxRegisters 0))) (now (a .starters)) (now (a .states)) (take (c .place .result) (c .place .last .1 .1 .1 .1 .0))
     (zeros-length (c .before .before .before .before .before .before .before .before .before .before)) (p .0 .its-starters) (p .0 .its-states) (ordered c)
 
@@ -80,7 +80,7 @@ place-requires : tie.Need-place-requires
 place-requires c κs =
     let b = c .before .before .before .before .before .before .before .before .before in
     let a = b .args in
-    (groups-held (now (a .graph)) (now (a .edges)) (now (a .starts)) (now (a .starters)) (now (a .states)) (b .pre .0) .known, small b .state, refl)
+    (groups-held (now (a .graph)) (its (now (a .graph))) (finished (now (a .graph)) (b .pre .0 .admits)) (now (a .edges)) (now (a .starts)) (now (a .starters)) (now (a .states)) (b .pre .0) .known, small b .state, refl)
 
 shared-slice-read-registers : tie.Need-shared-slice-read-registers
 shared-slice-read-registers c = let s = small (c .before .before .before .before .before .before .before .before .before .before .before .before) in omega (arith, s .long)
@@ -115,10 +115,10 @@ make-requires c κs =
     let a = c .before .before .before .before .before .before .before .before .before .before .before .before .before .before .before .before .before .args in
     let p = c .before .before .before .before .before .before .before .before .before .before .before .before .before .before .before .before .before .pre in
     let s = small (c .before .before .before .before .before .before .before .before .before .before .before .before .before .before .before .before .before) in (
-      all-placeable (now (a .graph)) (p .0 .admits) (a .k) (below (now (a .graph)) (now (a .edges)) (now (a .starts)) (now (a .starters)) (now (a .states)) (p .0) (now (a .table)) (a .k) (a .first) (p .1 .0 .1) (p .1 .0 .0)) (take (d .place .result) (d .place .last .1 .1 .1 .1 .0)) (ordered d),
+      all-placeable (now (a .graph)) (p .0 .admits) (its (now (a .graph))) (finished (now (a .graph)) (p .0 .admits)) (a .k) (below (now (a .graph)) (its (now (a .graph))) (finished (now (a .graph)) (p .0 .admits)) (now (a .edges)) (now (a .starts)) (now (a .starters)) (now (a .states)) (p .0) (now (a .table)) (a .k) (a .first) (p .1 .0 .1) (p .1 .0 .0)) (take (d .place .result) (d .place .last .1 .1 .1 .1 .0)) (ordered d),
       (
-        groups-held (now (a .graph)) (now (a .edges)) (now (a .starts)) (now (a .starters)) (now (a .states)) (p .0),
-        (p .1 .1, (omega (arith, zeros-length (c .before .before .before .before .before .before .before .before .before .before .before .before .before .before .before .before .before), s .registers), room-for (now (a .graph)) (now (a .edges)) (now (a .starts)) (now (a .starters)) (now (a .states)) (p .0) (now (a .table)) (a .k) (a .first) (p .1 .0 .1) (p .1 .0 .0) (end d) (end-is d))),
+        groups-held (now (a .graph)) (its (now (a .graph))) (finished (now (a .graph)) (p .0 .admits)) (now (a .edges)) (now (a .starts)) (now (a .starters)) (now (a .states)) (p .0),
+        (p .1 .1, (omega (arith, zeros-length (c .before .before .before .before .before .before .before .before .before .before .before .before .before .before .before .before .before), s .registers), room-for (now (a .graph)) (its (now (a .graph))) (finished (now (a .graph)) (p .0 .admits)) (now (a .edges)) (now (a .starts)) (now (a .starters)) (now (a .states)) (p .0) (now (a .table)) (a .k) (a .first) (p .1 .0 .1) (p .1 .0 .0) (end d) (end-is d))),
       ),
     )
 
@@ -139,7 +139,7 @@ made-few : (c : tie.After-make) → c .before .before .before .before .before .b
 made-few c =
     let a = c .before .before .before .before .before .before .before .before .before .before .before .before .before .before .before .before .before .before .args in
     let p = c .before .before .before .before .before .before .before .before .before .before .before .before .before .before .before .before .before .before .pre in
-    made-low (now (a .graph)) (now (a .edges)) (now (a .starts)) (now (a .starters)) (now (a .states)) (p .0) (now (a .table)) (a .k) (a .first) (p .1 .0 .1) (p .1 .0 .0)
+    made-low (now (a .graph)) (its (now (a .graph))) (finished (now (a .graph)) (p .0 .admits)) (now (a .edges)) (now (a .starts)) (now (a .starters)) (now (a .states)) (p .0) (now (a .table)) (a .k) (a .first) (p .1 .0 .1) (p .1 .0 .0)
     (end (c .before .before .before .before .before .before .before .before)) (end-is (c .before .before .before .before .before .before .before .before)) (wires-of c) (values-of c) (c .make .result .registers) (c .make .result .wires) (c .make .result .next) (c .make .ensures .0) (values-length c) (few-registers c)
 
 table-length : (c : tie.After-make) → length (putMid (wireOffset (c .before .before .before .before .before .before .before .before .before .before .before .before .before .before .before .before .before .before .args .first)) (length (now (c .before .before .before .before .before .before .before .before .before .before .before .before .before .before .before .before .before .before .args .table)) - (wireOffset (c .before .before .before .before .before .before .before .before .before .before .before .before .before .before .before .before .before .before .args .first))) (now (c .before .before .before .before .before .before .before .before .before .before .before .before .before .before .before .before .before .before .args .table)) (wires-of c)) ≡ machineWords
@@ -178,16 +178,16 @@ returns c =
     let a = c .before .before .before .before .before .before .before .before .before .before .before .before .before .before .before .before .before .before .before .before .before .before .before .before .before .before .before .before .before .before .before .args in
     let p = c .before .before .before .before .before .before .before .before .before .before .before .before .before .before .before .before .before .before .before .before .before .before .before .before .before .before .before .before .before .before .before .pre in
     let r = d .make .result in (
-      made-words (now (a .graph)) (now (a .edges)) (now (a .starts)) (now (a .starters)) (now (a .states)) (p .0) (now (a .table)) (a .k) (a .first) (p .1 .0 .1) (p .1 .0 .0)
+      made-words (now (a .graph)) (its (now (a .graph))) (finished (now (a .graph)) (p .0 .admits)) (now (a .edges)) (now (a .starts)) (now (a .starters)) (now (a .states)) (p .0) (now (a .table)) (a .k) (a .first) (p .1 .0 .1) (p .1 .0 .0)
           (end e) (end-is e) (wires-of d) (values-of d) (r .registers) (r .wires) (r .next) (d .make .ensures .0) (values-length d) (few-registers d)
           (drop (getD (now (a .graph)) 1 0) (replicate {A = ℕ} maxRegisters 0))
           (putMid (wireOffset (a .first)) (length (now (a .table)) - (wireOffset (a .first))) (now (a .table)) (wires-of d))
           (c .before .before .before .write-record .last .0)
           (drop-zeros (getD (now (a .graph)) 1 0) maxRegisters (small (c .before .before .before .before .before .before .before .before .before .before .before .before .before .before .before .before .before .before .before .before .before .before .before .before .before .before .before .before .before .before .before) .registers))
-          (ap (λ (x : List ℕ). take (wireOffset (a .first)) (now (a .table)) ++ x) (made-table (now (a .graph)) (now (a .edges)) (now (a .starts)) (now (a .starters)) (now (a .states)) (p .0) (now (a .table)) (a .k) (a .first) (p .1 .0 .1) (p .1 .0 .0)
+          (ap (λ (x : List ℕ). take (wireOffset (a .first)) (now (a .table)) ++ x) (made-table (now (a .graph)) (its (now (a .graph))) (finished (now (a .graph)) (p .0 .admits)) (now (a .edges)) (now (a .starts)) (now (a .starters)) (now (a .states)) (p .0) (now (a .table)) (a .k) (a .first) (p .1 .0 .1) (p .1 .0 .0)
           (end e) (end-is e) (wires-of d) (values-of d) (r .registers) (r .wires) (r .next) (d .make .ensures .0) (values-length d) (few-registers d)))
           (c .before .before .before .write-record .ensures),
-      made-count (now (a .graph)) (now (a .edges)) (now (a .starts)) (now (a .starters)) (now (a .states)) (p .0) (now (a .table)) (a .k) (a .first) (p .1 .0 .1) (p .1 .0 .0)
+      made-count (now (a .graph)) (its (now (a .graph))) (finished (now (a .graph)) (p .0 .admits)) (now (a .edges)) (now (a .starts)) (now (a .starters)) (now (a .states)) (p .0) (now (a .table)) (a .k) (a .first) (p .1 .0 .1) (p .1 .0 .0)
           (end e) (end-is e) (wires-of d) (values-of d) (r .registers) (r .wires) (r .next) (d .make .ensures .0) (values-length d) (few-registers d),
     )
 

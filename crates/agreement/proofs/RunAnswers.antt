@@ -22,7 +22,8 @@ use Rattle.runs.specs.Operations.{answered, registersLeft}
 use Rattle.runs.proofs.OperationLaws.{refused, accepted, accepted-left}
 use Rattle.grouping.specs.Grouping.{Groups}
 use Rattle.synthesis.specs.Synthesis.{machineFor}
-use Rattle.agreement.specs.Agreement.{graphAfter, machineAfter, stateIn, placeIn, inState, stoodIn, HaltingCycle, DryCycle, RunAgrees, SameEnd, RunsAlike, SameAnswer}
+use Rattle.runs.specs.Operations.{nextAt}
+use Rattle.agreement.specs.Agreement.{graphAfter, machineAfter, stateIn, placeIn, inState, HaltingCycle, DryCycle, RunAgrees, SameEnd, RunsAlike, SameAnswer}
 use Rattle.agreement.proofs.WholeRun.{standing-of, Here, Over, Both}
 
 -- ---- the fields of an outcome
@@ -32,7 +33,7 @@ outcome-number (standing n) true c = refl
 outcome-number (standing n) false c = refl
 outcome-number halted left c = refl
 
-outcome-next : (p : Place) (left : Bool) (c : ℕ) → nextOf (outcome p left c) ≡ stoodIn p
+outcome-next : (p : Place) (left : Bool) (c : ℕ) → nextOf (outcome p left c) ≡ nextAt p
 outcome-next (standing n) true c = refl
 outcome-next (standing n) false c = refl
 outcome-next halted left c = refl
@@ -240,7 +241,7 @@ module _ (g : CFG) (s : Groups) (m : Runner) (ws : Supply) (b₀ : ℕ) (rs : Li
   answer-number : (r : Runner) (k : ℕ) (c : Configuration) → numberOf (answer r ws k c) ≡ 0
   answer-number r k c = ap numberOf (answer-is r ws k c) ∙ outcome-number (times r ws k c .place) (ltb (stepsRun r ws k c) k) (stepsRun r ws k c)
 
-  answer-next : (r : Runner) (k : ℕ) (c : Configuration) → nextOf (answer r ws k c) ≡ stoodIn (times r ws k c .place)
+  answer-next : (r : Runner) (k : ℕ) (c : Configuration) → nextOf (answer r ws k c) ≡ nextAt (times r ws k c .place)
   answer-next r k c = ap nextOf (answer-is r ws k c) ∙ outcome-next (times r ws k c .place) (ltb (stepsRun r ws k c) k) (stepsRun r ws k c)
 
   next-alike : (p : Place) → graphAfter g (s .starters) ws b₀ rs n .place ≡ p
@@ -250,10 +251,10 @@ module _ (g : CFG) (s : Groups) (m : Runner) (ws : Supply) (b₀ : ℕ) (rs : Li
       ∙ halted-outcome (times m ws k (startAt (stateIn s b₀) rs) .place) (ltb (stepsRun m ws k (startAt (stateIn s b₀) rs)) k) (stepsRun m ws k (startAt (stateIn s b₀) rs))
       (place-of (e .same) ∙ ap (placeIn s) h))
   next-alike (standing b) h =
-      let l : nextOf left ≡ b = answer-next (graphRunner g (s .starters)) n (startAt b₀ rs) ∙ ap stoodIn h in
+      let l : nextOf left ≡ b = answer-next (graphRunner g (s .starters)) n (startAt b₀ rs) ∙ ap nextAt h in
       inr (
         rw l (e .starter b h),
-        answer-next m k (startAt (stateIn s b₀) rs) ∙ ap stoodIn (place-of (e .same) ∙ ap (placeIn s) h) ∙ ap (stateIn s) (sym l),
+        answer-next m k (startAt (stateIn s b₀) rs) ∙ ap nextAt (place-of (e .same) ∙ ap (placeIn s) h) ∙ ap (stateIn s) (sym l),
       )
 
   pub ends-alike : SameAnswer s left right

@@ -8,6 +8,7 @@ use mathlib.Core.List.{List, [], _++_}
 use lib.ListN.{length, getD, take, drop}
 use Rattle.runs.specs.Lists.{mem}
 use Rattle.runs.specs.Runs.{Place, standing, halted, Configuration, standsAt, startAt, Supply, listed, unread, Runner, goes, step, times, stepsRun, answer, numberOf, outcomeOf, countOf, nextOf}
+use Rattle.runs.specs.Operations.{nextAt}
 use Rattle.runs.specs.declared.RunAnswer.{RunAnswer}
 use Rattle.cfg.specs.Graph.{CFG, graphRunner, wordless}
 use Rattle.cfg.specs.Table.{graphOf}
@@ -111,11 +112,6 @@ pub record DryCycle (m : Runner) (ws : Supply) (q₀ : ℕ) (rs : List ℕ) (k c
   pub dry : ws .lasts c ≡ false
   pub left : c < k
 
--- the state stood in, or 255
-abbrev pub stoodIn : Place → ℕ
-stoodIn (standing k) = k
-stoodIn halted = none
-
 -- the answer a of k cycles from the buffer's registers, and the buffer after, where not refused
 pub record Answers (m : Runner) (ws : Supply) (q₀ k : ℕ) (buffer after : List ℕ) (a : RunAnswer) : Type 0 where
   -- halted exactly when the machine has halted after k cycles
@@ -123,7 +119,7 @@ pub record Answers (m : Runner) (ws : Supply) (q₀ k : ℕ) (buffer after : Lis
   -- the registers of that moment, words past 16 as before
   pub registers : after ≡ machineAfter m ws q₀ (take maxRegisters buffer) k .registers ++ drop maxRegisters buffer
   -- the state then stood in, or 255
-  pub next : nextOf a ≡ stoodIn (machineAfter m ws q₀ (take maxRegisters buffer) k .place)
+  pub next : nextOf a ≡ nextAt (machineAfter m ws q₀ (take maxRegisters buffer) k .place)
   -- the count: k, or the halting cycle's number, or the cycles before the arrival that has no word
   pub spent : outcomeOf a ≡ 0 → countOf a ≡ k
   pub ended : outcomeOf a ≡ 1 → HaltingCycle m ws q₀ (take maxRegisters buffer) (countOf a)

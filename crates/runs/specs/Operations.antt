@@ -8,7 +8,7 @@ use lib.ListN.{take, drop}
 use lib.Dec.{eqb, ltb}
 use Rattle.word.specs.Word.{choose}
 use Rattle.word.specs.RegisterFile.{fileWords}
-use Rattle.runs.specs.Runs.{Place, standing, halted, Configuration, startAt, Supply, Runner, times, stepsRun, answer, registersAfter, numberOf, outcomeOf, countOf, nextOf}
+use Rattle.runs.specs.Runs.{Place, standing, halted, noPlace, Configuration, startAt, Supply, Runner, times, stepsRun, answer, registersAfter, numberOf, outcomeOf, countOf, nextOf}
 use Rattle.runs.specs.declared.RunAnswer.{RunAnswer}
 use Rattle.runs.specs.declared.RunAnswer.the-variants.{Refused}
 
@@ -29,7 +29,7 @@ registersLeft n r ws buffer start budget =
 -- the block or state stood at, 255 where the run has halted
 abbrev pub nextAt : Place → ℕ
 nextAt (standing n) = n
-nextAt halted = 255
+nextAt halted = noPlace
 
 -- 1 halted; where it stands, 2 dry with budget left, else 0 spent
 abbrev pub outcomeAt : Place → Bool → ℕ

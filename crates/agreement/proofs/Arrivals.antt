@@ -11,7 +11,7 @@ use Rattle.runs.specs.Runs.{Place, standing, halted, Configuration, standsAt, s
 use Rattle.runs.proofs.RunLaws.{never-both, false-true, place-of, arrivals-of, going-stands, going-lasts, goes-standing, halted-ends}
 use Rattle.runs.proofs.RunLaws.{moved-to, step-going, step-ended, times-zero, times-suc, times-add, times-last, stepsRun-last, going-before, times-arrivals}
 use Rattle.cfg.specs.Graph.{CFG, graphRunner}
-use Rattle.agreement.specs.Agreement.{graphAfter, Arrival, HaltBefore, EndOfCycle}
+use Rattle.agreement.specs.Agreement.{graphAfter, Arrival, HaltBefore, AfterCycles}
 use Rattle.synthesis.proofs.OneCycle.{Trace, first, next}
 
 -- ---- a cycle ends once
@@ -62,7 +62,7 @@ module _ (g : CFG) (st : List ℕ) (ws : Supply) (b₀ : ℕ) (rs : List ℕ) wh
           let l = h .counted in
           omega arith
 
-  pub end-once : (k n n′ : ℕ) → EndOfCycle g st ws b₀ rs k n → EndOfCycle g st ws b₀ rs k n′ → n ≡ n′
+  pub end-once : (k n n′ : ℕ) → AfterCycles g st ws b₀ rs k n → AfterCycles g st ws b₀ rs k n′ → n ≡ n′
   end-once k n n′ (inl a) (inl a′) = go (decLt n n′) (decLt n′ n)
     where
       go : Dec (n < n′) → Dec (n′ < n) → n ≡ n′
@@ -79,7 +79,7 @@ module _ (g : CFG) (st : List ℕ) (ws : Supply) (b₀ : ℕ) (rs : List ℕ) wh
       go (no l) (no d) = omega arith
 
   -- the next cycle ends after its arrival, which has a word
-  pub end-later : (k n b : ℕ) (q : List ℕ) → Arrival g st ws b₀ rs k n b q → (n′ : ℕ) → EndOfCycle g st ws b₀ rs (suc k) n′ → goes ws (run n) ≡ true
+  pub end-later : (k n b : ℕ) (q : List ℕ) → Arrival g st ws b₀ rs k n b q → (n′ : ℕ) → AfterCycles g st ws b₀ rs (suc k) n′ → goes ws (run n) ≡ true
   end-later k n b q a n′ (inl a′) = go (decLt n n′)
     where
       go : Dec (n < n′) → goes ws (run n) ≡ true

@@ -10,7 +10,7 @@ use lib.Dec.{ltb}
 use lib.ListN.{length, take, drop}
 use borrow.Author.Tests.{lt-ltb, le-ltb, ltb-true, ltb-false}
 use Rattle.runs.specs.Lists.{mem}
-use Rattle.runs.specs.Runs.{Place, standing, halted, Configuration, startAt, Supply, Runner, goes, times, stepsRun, outcome, answer, registersAfter, numberOf, outcomeOf, countOf, nextOf}
+use Rattle.runs.specs.Runs.{Place, standing, halted, Configuration, startAt, Supply, Runner, goes, times, stepsRun, outcome, answer, registersAfter, runNumber, runOutcome, runCount, runNext}
 use Rattle.runs.specs.declared.RunAnswer.{RunAnswer}
 use Rattle.runs.proofs.RunLaws.{never-both, place-of, registers-of, arrivals-of, halted-ends, dry-lasts}
 use Rattle.runs.proofs.RunLaws.{stepsRun-le, going-before, at-count, left-ended, arrivals-run}
@@ -23,40 +23,40 @@ use Rattle.runs.proofs.OperationLaws.{refused, accepted, accepted-left}
 use Rattle.grouping.specs.Grouping.{Groups}
 use Rattle.synthesis.specs.Synthesis.{machineFor}
 use Rattle.runs.specs.Operations.{nextAt}
-use Rattle.agreement.specs.Agreement.{graphAfter, machineAfter, stateIn, placeIn, inState, HaltingCycle, DryCycle, RunAgrees, SameEnd, RunsAlike, SameAnswer}
+use Rattle.agreement.specs.Agreement.{graphAfter, machineAfter, stateIn, placeIn, inMachine, HaltingCycle, DryCycle, RunAgrees, SameEnd, RunsAlike, SameAnswer}
 use Rattle.agreement.proofs.WholeRun.{standing-of, Here, Over, Both}
 
 -- ---- the fields of an outcome
 
-outcome-number : (p : Place) (left : Bool) (c : ℕ) → numberOf (outcome p left c) ≡ 0
+outcome-number : (p : Place) (left : Bool) (c : ℕ) → runNumber (outcome p left c) ≡ 0
 outcome-number (standing n) true c = refl
 outcome-number (standing n) false c = refl
 outcome-number halted left c = refl
 
-outcome-next : (p : Place) (left : Bool) (c : ℕ) → nextOf (outcome p left c) ≡ nextAt p
+outcome-next : (p : Place) (left : Bool) (c : ℕ) → runNext (outcome p left c) ≡ nextAt p
 outcome-next (standing n) true c = refl
 outcome-next (standing n) false c = refl
 outcome-next halted left c = refl
 
-outcome-count : (p : Place) (left : Bool) (c : ℕ) → countOf (outcome p left c) ≡ c
+outcome-count : (p : Place) (left : Bool) (c : ℕ) → runCount (outcome p left c) ≡ c
 outcome-count (standing n) true c = refl
 outcome-count (standing n) false c = refl
 outcome-count halted left c = refl
 
-outcome-halted : (p : Place) (left : Bool) (c : ℕ) → outcomeOf (outcome p left c) ≡ 1 → p ≡ halted
+outcome-halted : (p : Place) (left : Bool) (c : ℕ) → runOutcome (outcome p left c) ≡ 1 → p ≡ halted
 outcome-halted (standing n) true c h = absurd (omega arith)
 outcome-halted (standing n) false c h = absurd (omega arith)
 outcome-halted halted left c h = refl
 
-halted-outcome : (p : Place) (left : Bool) (c : ℕ) → p ≡ halted → outcomeOf (outcome p left c) ≡ 1
+halted-outcome : (p : Place) (left : Bool) (c : ℕ) → p ≡ halted → runOutcome (outcome p left c) ≡ 1
 halted-outcome p left c h = rw h
 
-outcome-spent : (p : Place) (left : Bool) (c : ℕ) → outcomeOf (outcome p left c) ≡ 0 → left ≡ false
+outcome-spent : (p : Place) (left : Bool) (c : ℕ) → runOutcome (outcome p left c) ≡ 0 → left ≡ false
 outcome-spent (standing n) true c h = absurd (omega arith)
 outcome-spent (standing n) false c h = refl
 outcome-spent halted left c h = absurd (omega arith)
 
-outcome-dry : (p : Place) (left : Bool) (c : ℕ) → outcomeOf (outcome p left c) ≡ 2 → ((n : ℕ) × (p ≡ standing n)) × (left ≡ true)
+outcome-dry : (p : Place) (left : Bool) (c : ℕ) → runOutcome (outcome p left c) ≡ 2 → ((n : ℕ) × (p ≡ standing n)) × (left ≡ true)
 outcome-dry (standing n) true c h = ((n, refl), refl)
 outcome-dry (standing n) false c h = absurd (omega arith)
 outcome-dry halted left c h = absurd (omega arith)
@@ -115,30 +115,30 @@ module _ (m : Runner) (each : (q : ℕ) → m .arrives q ≡ true) (ws : Supply)
   long-enough h =
       let e = run-outcome h in
       let left = ltb count k in
-      let number = ap numberOf e ∙ outcome-number place left count in
-      let counted = ap countOf e ∙ outcome-count place left count in
+      let number = ap runNumber e ∙ outcome-number place left count in
+      let counted = ap runCount e ∙ outcome-count place left count in
       record {
         not9 = λ d. absurd (omega arith);
         not10 = λ d. absurd (omega arith);
         not12 = λ d. absurd (omega arith);
         accepted = λ d. number;
         answers = λ z. record {
-          halts = (λ d. outcome-halted place left count (sym (ap outcomeOf e) ∙ d), λ d. ap outcomeOf e ∙ halted-outcome place left count d);
+          halts = (λ d. outcome-halted place left count (sym (ap runOutcome e) ∙ d), λ d. ap runOutcome e ∙ halted-outcome place left count d);
           registers = run-registers h;
-          next = ap nextOf e ∙ outcome-next place left count;
+          next = ap runNext e ∙ outcome-next place left count;
           spent = λ d.
-              let l = ltb-false count k (outcome-spent place left count (sym (ap outcomeOf e) ∙ d)) in
+              let l = ltb-false count k (outcome-spent place left count (sym (ap runOutcome e) ∙ d)) in
               counted ∙ omega (arith, stepsRun-le m ws k c₀);
-          ended = λ d. rw counted (halting (outcome-halted place left count (sym (ap outcomeOf e) ∙ d)));
+          ended = λ d. rw counted (halting (outcome-halted place left count (sym (ap runOutcome e) ∙ d)));
           dried = λ d.
-              let p = outcome-dry place left count (sym (ap outcomeOf e) ∙ d) in
+              let p = outcome-dry place left count (sym (ap runOutcome e) ∙ d) in
               rw counted (drying (p .0 .0) (p .0 .1) (ltb-true count k (p .1)));
         };
       }
 
   too-short : length buffer < maxRegisters → Agrees
   too-short h =
-      let seven : numberOf result ≡ 7 = ap numberOf (refused m ws buffer q₀ k n 6 (short h)) in
+      let seven : runNumber result ≡ 7 = ap runNumber (refused m ws buffer q₀ k n 6 (short h)) in
       record {
         not9 = λ d. absurd (omega arith);
         not10 = λ d. absurd (omega arith);
@@ -182,17 +182,17 @@ module _ (g : CFG) (s : Groups) (ws : Supply) (b₀ : ℕ) (rs : List ℕ) (k : 
       ∙ arrivals-run machine ws (λ q. refl) k (startAt (stateIn s b₀) rs) (stateIn s b) (place-of (both .machine) ∙ ap (placeIn s) h)
       ∙ omega arith
 
-  machine-outcome : outcomeOf (answer machine ws k (startAt (stateIn s b₀) rs)) ≡ outcomeOf (outcome (placeIn s (end .place)) (ltb cycles k) cycles)
-  machine-outcome = ap outcomeOf (answer-is machine ws k (startAt (stateIn s b₀) rs)) ∙ ap (λ (p : Place). outcomeOf (outcome p (ltb cycles k) cycles)) (place-of (both .machine))
+  machine-outcome : runOutcome (answer machine ws k (startAt (stateIn s b₀) rs)) ≡ runOutcome (outcome (placeIn s (end .place)) (ltb cycles k) cycles)
+  machine-outcome = ap runOutcome (answer-is machine ws k (startAt (stateIn s b₀) rs)) ∙ ap (λ (p : Place). runOutcome (outcome p (ltb cycles k) cycles)) (place-of (both .machine))
 
   spent-alike : Here s k end → RunsAlike g s machine ws b₀ rs k
   spent-alike h =
-      let e : outcomeOf (answer machine ws k (startAt (stateIn s b₀) rs)) ≡ 0 =
+      let e : runOutcome (answer machine ws k (startAt (stateIn s b₀) rs)) ≡ 0 =
       machine-outcome ∙ rw (h .place, le-ltb cycles k (omega (arith, cycles-are (h .block) (h .place), h .counted))) in
       record {
         blocks = both .steps;
         at = record {
-          outcome = ap outcomeOf (reached-spent graph ws (both .steps) from (both .steps) end (frame (both .steps) (omega arith)) (h .block) (h .place) (omega arith)) ∙ sym e;
+          outcome = ap runOutcome (reached-spent graph ws (both .steps) from (both .steps) end (frame (both .steps) (omega arith)) (h .block) (h .place) (omega arith)) ∙ sym e;
           same = both .machine;
           starter = λ b d. rw (standing-of (sym d ∙ h .place)) (h .starter);
         };
@@ -201,24 +201,24 @@ module _ (g : CFG) (s : Groups) (ws : Supply) (b₀ : ℕ) (rs : List ℕ) (k : 
 
   -- ended with the block budget n, and so with every larger one
   ended-alike : (o : Over s ws k end) (n : ℕ) (l : both .steps ≤ n)
-      → outcomeOf (answer graph ws n from) ≡ outcomeOf (outcome (placeIn s (end .place)) (ltb cycles k) cycles) → SameEnd g s machine ws b₀ rs k n
+      → runOutcome (answer graph ws n from) ≡ runOutcome (outcome (placeIn s (end .place)) (ltb cycles k) cycles) → SameEnd g s machine ws b₀ rs k n
   ended-alike o n l e =
       let z : graphAfter g (s .starters) ws b₀ rs n ≡ end = at-ended graph ws n from (both .steps) end (frame n l) (o .ended) in
       record {
         outcome = e ∙ sym machine-outcome;
-        same = both .machine ∙ ap (inState s) (sym z);
+        same = both .machine ∙ ap (inMachine s) (sym z);
         starter = λ b d. rw (sym (place-of z) ∙ d) at (o .place);
       }
 
   over-alike : (p : Place) → end .place ≡ p → Over s ws k end → RunsAlike g s machine ws b₀ rs k
   over-alike halted h o =
       let same : (n : ℕ) → both .steps ≤ n → SameEnd g s machine ws b₀ rs k n =
-      λ n l. ended-alike o n l (ap outcomeOf (reached-halted graph ws n from (both .steps) end (frame n l) (o .ended) h) ∙ rw h) in
+      λ n l. ended-alike o n l (ap runOutcome (reached-halted graph ws n from (both .steps) end (frame n l) (o .ended) h) ∙ rw h) in
       record { blocks = both .steps; at = same (both .steps) (omega arith); beyond = λ d. same }
   over-alike (standing b) h o =
       let same : (n : ℕ) → suc (both .steps) ≤ n → SameEnd g s machine ws b₀ rs k n =
       λ n l. ended-alike o n (omega arith)
-      (ap outcomeOf (reached-dry graph ws n from (both .steps) end (frame n (omega arith)) (o .ended) b h l)
+      (ap runOutcome (reached-dry graph ws n from (both .steps) end (frame n (omega arith)) (o .ended) b h l)
       ∙ rw (h, lt-ltb cycles k (omega (arith, cycles-are b h, o .counted)))) in
       record { blocks = suc (both .steps); at = same (suc (both .steps)) (omega arith); beyond = λ d. same }
 
@@ -238,20 +238,20 @@ module _ (g : CFG) (s : Groups) (m : Runner) (ws : Supply) (b₀ : ℕ) (rs : Li
   abbrev right : RunAnswer
   right = answer m ws k (startAt (stateIn s b₀) rs)
 
-  answer-number : (r : Runner) (k : ℕ) (c : Configuration) → numberOf (answer r ws k c) ≡ 0
-  answer-number r k c = ap numberOf (answer-is r ws k c) ∙ outcome-number (times r ws k c .place) (ltb (stepsRun r ws k c) k) (stepsRun r ws k c)
+  answer-number : (r : Runner) (k : ℕ) (c : Configuration) → runNumber (answer r ws k c) ≡ 0
+  answer-number r k c = ap runNumber (answer-is r ws k c) ∙ outcome-number (times r ws k c .place) (ltb (stepsRun r ws k c) k) (stepsRun r ws k c)
 
-  answer-next : (r : Runner) (k : ℕ) (c : Configuration) → nextOf (answer r ws k c) ≡ nextAt (times r ws k c .place)
-  answer-next r k c = ap nextOf (answer-is r ws k c) ∙ outcome-next (times r ws k c .place) (ltb (stepsRun r ws k c) k) (stepsRun r ws k c)
+  answer-next : (r : Runner) (k : ℕ) (c : Configuration) → runNext (answer r ws k c) ≡ nextAt (times r ws k c .place)
+  answer-next r k c = ap runNext (answer-is r ws k c) ∙ outcome-next (times r ws k c .place) (ltb (stepsRun r ws k c) k) (stepsRun r ws k c)
 
   next-alike : (p : Place) → graphAfter g (s .starters) ws b₀ rs n .place ≡ p
-      → (outcomeOf right ≡ 1) ⊎ ((mem (nextOf left) (s .starters) ≡ true) × (nextOf right ≡ stateIn s (nextOf left)))
+      → (runOutcome right ≡ 1) ⊎ ((mem (runNext left) (s .starters) ≡ true) × (runNext right ≡ stateIn s (runNext left)))
   next-alike halted h =
-      inl (ap outcomeOf (answer-is m ws k (startAt (stateIn s b₀) rs))
+      inl (ap runOutcome (answer-is m ws k (startAt (stateIn s b₀) rs))
       ∙ halted-outcome (times m ws k (startAt (stateIn s b₀) rs) .place) (ltb (stepsRun m ws k (startAt (stateIn s b₀) rs)) k) (stepsRun m ws k (startAt (stateIn s b₀) rs))
       (place-of (e .same) ∙ ap (placeIn s) h))
   next-alike (standing b) h =
-      let l : nextOf left ≡ b = answer-next (graphRunner g (s .starters)) n (startAt b₀ rs) ∙ ap nextAt h in
+      let l : runNext left ≡ b = answer-next (graphRunner g (s .starters)) n (startAt b₀ rs) ∙ ap nextAt h in
       inr (
         rw l (e .starter b h),
         answer-next m k (startAt (stateIn s b₀) rs) ∙ ap nextAt (place-of (e .same) ∙ ap (placeIn s) h) ∙ ap (stateIn s) (sym l),

@@ -12,19 +12,19 @@ use borrow.Author.Tests.{lt-ltb}
 use Rattle.runs.specs.Lists.{mem, every}
 use Rattle.runs.proofs.Sets.{mem→In, In→mem}
 use Rattle.runs.proofs.MembershipLaws.{in-every}
-use Rattle.runs.specs.Runs.{startAt, Supply, listed, unread, Runner, answer, registersAfter, outcomeOf}
+use Rattle.runs.specs.Runs.{startAt, Supply, listed, unread, Runner, answer, registersAfter, runOutcome}
 use Rattle.runs.proofs.RunLaws.{step-ended}
 use Rattle.cfg.specs.Graph.{CFG, blockOf, runBlock, graphRunner}
-use Rattle.cfg.specs.Run.{wordsRefusal as graphRefusal, wordsAnswer as graphAnswer, wordsRegisters as graphLeft}
+use Rattle.cfg.specs.Run.{graphWordsRefusal, graphWordsAnswer, graphWordsRegisters}
 use Rattle.cfg.proofs.Running.{words-none-refused}
-use Rattle.cfg.specs.Table.{graphOf, admitted}
+use Rattle.cfg.specs.Table.{graphOf, admittedGraph}
 use Rattle.cfg.proofs.Admitted.{ValidGraph, valid-graph, admitted-halves, admitted-facts, blocks-length}
 use Rattle.fsmd.specs.Layout.{maxRegisters, machineWords}
-use Rattle.fsmd.specs.Machine.{State, FSMD, machineRunner, wordless as wordlessMachine}
-use Rattle.fsmd.specs.Run.{refusal, wordsRefusal, wordsAnswer as machineAnswer, wordsRegisters as machineLeft}
+use Rattle.fsmd.specs.Machine.{State, FSMD, machineRunner, wordlessMachine}
+use Rattle.fsmd.specs.Run.{machineRefusal, machineWordsRefusal, machineWordsAnswer, machineWordsRegisters}
 use Rattle.fsmd.proofs.Steps.{refuse-registers, refuse-none, words-refuse-registers, words-refuse-none}
 use Rattle.runs.proofs.OperationLaws.{accepted, accepted-left}
-use Rattle.fsmd.specs.Table.{tableOf, machineOf, admitted as admittedMachine}
+use Rattle.fsmd.specs.Table.{machineTableOf, machineOf, admittedMachine}
 use Rattle.fsmd.proofs.Machines.{states-length, registers-is, state-is, admitted-facts as machine-facts}
 use Rattle.fsmd.proofs.WrittenTable.{count-is, table-length}
 use Rattle.fsmd.proofs.ReadBack.{Fits, read-states, read-runner, read-admitted}
@@ -51,12 +51,12 @@ wordless-same m n e = ap (λ (qs : List State). every (λ q. every (λ w. not (e
 -- ---- the agreement
 
 -- every admitted graph table with the words of the machine of a finished grouping of it, whatever follows them
-module _ (t rest : List ℕ) (ok : admitted t ≡ true) (s : Groups) (G : Grouped (graphOf t) s) where
+module _ (t rest : List ℕ) (ok : admittedGraph t ≡ true) (s : Groups) (G : Grouped (graphOf t) s) where
   abbrev g : CFG
   g = graphOf t
 
   abbrev table : List ℕ
-  table = tableOf (machineFor g s) ++ rest
+  table = machineTableOf (machineFor g s) ++ rest
 
   abbrev m : Runner
   m = machineRunner (machineOf table)
@@ -82,7 +82,7 @@ module _ (t rest : List ℕ) (ok : admitted t ≡ true) (s : Groups) (G : Groupe
   machine-same = sym (read-runner (machineFor g s) rest fits)
 
   long : machineWords ≤ length table
-  long = omega (arith, table-length (machineFor g s), length-append (tableOf (machineFor g s)) rest)
+  long = omega (arith, table-length (machineFor g s), length-append (machineTableOf (machineFor g s)) rest)
 
   runs-same : (ws : Supply) (b : ℕ) → mem b (s .starters) ≡ true → (rs : List ℕ) → length rs ≡ maxRegisters → (k : ℕ) → RunsAlike g s m ws b rs k
   runs-same ws b start rs size k =
@@ -113,7 +113,7 @@ module _ (t rest : List ℕ) (ok : admitted t ≡ true) (s : Groups) (G : Groupe
     graph-same : graphRunner g starters ≡ graphRunner g (s .starters)
     graph-same = ap (λ (f : ℕ → Bool). record { unit = λ w n q. runBlock w (blockOf g n) q; arrives = f }) (fun-ext alike)
 
-    graph-accepted : graphRefusal t buffer b₀ starters ≡ 0
+    graph-accepted : graphWordsRefusal t buffer b₀ starters ≡ 0
     graph-accepted =
         words-none-refused t buffer b₀ starters (admitted-facts t ok .long) enough ok (starters-below b₀ start)
         (rw (
@@ -122,24 +122,24 @@ module _ (t rest : List ℕ) (ok : admitted t ≡ true) (s : Groups) (G : Groupe
           in-every (λ b. ltb b (getD t 0 0)) starters (λ b i. lt-ltb b (getD t 0 0) (starters-below b (sym (alike b) ∙ In→mem b starters i))),
         ))
 
-    graph-answer : (n : ℕ) → graphAnswer t buffer b₀ n words starters ≡ answer (graphRunner g (s .starters)) ws n (startAt b₀ rs)
+    graph-answer : (n : ℕ) → graphWordsAnswer t buffer b₀ n words starters ≡ answer (graphRunner g (s .starters)) ws n (startAt b₀ rs)
     graph-answer n =
-        accepted (graphRunner g starters) ws buffer b₀ n (graphRefusal t buffer b₀ starters) graph-accepted
+        accepted (graphRunner g starters) ws buffer b₀ n (graphWordsRefusal t buffer b₀ starters) graph-accepted
         ∙ ap (λ (r : Runner). answer r ws n (startAt b₀ rs)) graph-same
 
-    graph-registers : (n : ℕ) → graphLeft t buffer b₀ n words starters ≡ registersAfter (graphRunner g (s .starters)) ws n (startAt b₀ rs) ++ drop maxRegisters buffer
+    graph-registers : (n : ℕ) → graphWordsRegisters t buffer b₀ n words starters ≡ registersAfter (graphRunner g (s .starters)) ws n (startAt b₀ rs) ++ drop maxRegisters buffer
     graph-registers n =
-        accepted-left (graphRunner g starters) ws buffer b₀ n (graphRefusal t buffer b₀ starters) graph-accepted
+        accepted-left (graphRunner g starters) ws buffer b₀ n (graphWordsRefusal t buffer b₀ starters) graph-accepted
         ∙ ap (λ (r : Runner). registersAfter r ws n (startAt b₀ rs) ++ drop maxRegisters buffer) graph-same
 
-    machine-accepted : wordsRefusal table buffer (stateIn s b₀) ≡ 0
+    machine-accepted : machineWordsRefusal table buffer (stateIn s b₀) ≡ 0
     machine-accepted = words-refuse-none table buffer (stateIn s b₀) long enough table-admitted (start-known b₀ start)
 
-    machine-answer : machineAnswer table buffer (stateIn s b₀) k words ≡ answer m ws k (startAt (stateIn s b₀) rs)
-    machine-answer = accepted m ws buffer (stateIn s b₀) k (wordsRefusal table buffer (stateIn s b₀)) machine-accepted
+    machine-answer : machineWordsAnswer table buffer (stateIn s b₀) k words ≡ answer m ws k (startAt (stateIn s b₀) rs)
+    machine-answer = accepted m ws buffer (stateIn s b₀) k (machineWordsRefusal table buffer (stateIn s b₀)) machine-accepted
 
-    machine-registers : machineLeft table buffer (stateIn s b₀) k words ≡ registersAfter m ws k (startAt (stateIn s b₀) rs) ++ drop maxRegisters buffer
-    machine-registers = accepted-left m ws buffer (stateIn s b₀) k (wordsRefusal table buffer (stateIn s b₀)) machine-accepted
+    machine-registers : machineWordsRegisters table buffer (stateIn s b₀) k words ≡ registersAfter m ws k (startAt (stateIn s b₀) rs) ++ drop maxRegisters buffer
+    machine-registers = accepted-left m ws buffer (stateIn s b₀) k (machineWordsRefusal table buffer (stateIn s b₀)) machine-accepted
 
     answers-alike : (n : ℕ) → SameEnd g s m ws b₀ rs k n → Alike t table s buffer words starters b₀ k n
     answers-alike n e =
@@ -151,7 +151,7 @@ module _ (t rest : List ℕ) (ok : admitted t ≡ true) (s : Groups) (G : Groupe
         record {
           blocks = r .blocks;
           at = answers-alike (r .blocks) (r .at);
-          beyond = λ d n l. answers-alike n (r .beyond (λ z. d (ap outcomeOf machine-answer ∙ z)) n l);
+          beyond = λ d n l. answers-alike n (r .beyond (λ z. d (ap runOutcome machine-answer ∙ z)) n l);
         }
 
   pub agreement-for : AgreementFor s t table
@@ -164,12 +164,12 @@ module _ (t rest : List ℕ) (ok : admitted t ≡ true) (s : Groups) (G : Groupe
         alike = runs-same;
         runs = λ words b start buffer k.
             let q = stateIn s b in
-            run-agrees m (λ q. refl) (listed words) q buffer k (wordsRefusal table buffer q)
+            run-agrees m (λ q. refl) (listed words) q buffer k (machineWordsRefusal table buffer q)
             (words-refuse-registers table buffer q long)
             (λ full. words-refuse-none table buffer q long full table-admitted (start-known b start));
         wordlessRuns = λ w b start buffer k.
             let q = stateIn s b in
-            run-agrees m (λ q. refl) unread q buffer k (refusal table buffer q)
+            run-agrees m (λ q. refl) unread q buffer k (machineRefusal table buffer q)
             (refuse-registers table buffer q long)
             (λ full. refuse-none table buffer q long full table-admitted w (start-known b start));
         operations = operations-alike;
@@ -184,7 +184,7 @@ module _ (t rest : List ℕ) (ok : admitted t ≡ true) (s : Groups) (G : Groupe
       }
 
 -- and so with the words of the machine synthesised from it
-pub agreement : (t rest : List ℕ) → admitted t ≡ true → Agreement t (tableOf (machine (graphOf t)) ++ rest)
+pub agreement : (t rest : List ℕ) → admittedGraph t ≡ true → Agreement t (machineTableOf (machine (graphOf t)) ++ rest)
 agreement t rest ok = rw (machine-is (graphOf t)) (agreement-for t rest ok (groups (graphOf t)) (grouped (graphOf t) (admitted-closed t ok)))
 
 -- the case without words, where every arrival has one

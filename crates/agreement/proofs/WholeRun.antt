@@ -13,18 +13,18 @@ use Rattle.runs.specs.Runs.{Place, standing, halted, Configuration, standsAt, s
 use Rattle.runs.proofs.RunLaws.{never-both, false-true, place-of, registers-of, arrivals-of, going-lasts, goes-standing, halted-ends, dry-ends}
 use Rattle.runs.proofs.RunLaws.{moved-to, step-going, step-ended, times-zero, times-add, times-last, stepsRun-zero, stepsRun-add}
 use Rattle.cfg.specs.Graph.{CFG, graphRunner}
-use Rattle.fsmd.specs.Layout.{maxRegisters, none}
+use Rattle.fsmd.specs.Layout.{maxRegisters, absent}
 use Rattle.fsmd.specs.Machine.{State, FSMD, stateOf as stateAt, worked, toState, clock, machineRunner}
 use Rattle.grouping.specs.Grouping.{Groups}
 use Rattle.placement.specs.Placement.{order, members}
-use Rattle.state.specs.Wires.{leaves, nextStateOf, stateOf}
+use Rattle.state.specs.Wires.{leaves, nextStateOf, stateMade}
 use Rattle.synthesis.specs.Synthesis.{machineFor}
 use Rattle.synthesis.proofs.GraphFacts.{GraphFits}
 use Rattle.placement.proofs.StateOrder.{Arranged}
 use Rattle.synthesis.proofs.SynthesisedMachine.{states-count, state-at, registers-are}
 use Rattle.synthesis.proofs.Readings.{Reads}
 use Rattle.synthesis.proofs.OneCycle.{StateReads, CycleAgrees, cycle-agrees}
-use Rattle.agreement.specs.Agreement.{graphAfter, AllRun, Arrival, HaltBefore, EndOfCycle, machineAfter, stateIn, placeIn, inState, AgreeAfter, LastsTo}
+use Rattle.agreement.specs.Agreement.{graphAfter, AllRun, Arrival, HaltBefore, AfterCycles, machineAfter, stateIn, placeIn, inMachine, AgreeAfter, LastsTo}
 use Rattle.agreement.proofs.Arrivals.{arrival-or-halt, end-once, end-later, trace-comes, trace-run}
 
 -- ---- one cycle of the machine
@@ -35,11 +35,11 @@ clock-reads : (m : FSMD) (w : ℕ) (q : State) (rs : List ℕ) (v : ℕ) (qs : L
 unfolding clock
 clock-reads m w q rs v qs l = λ i. record { place = toState (length (m .states)) (l .reads i); registers = l .words i }
 
-clocked : (g : CFG) (s : Groups) (w k : ℕ) (rs : List ℕ) (v : ℕ) (qs : List ℕ) → k < length (s .starters) → StateReads g (stateOf g s k) w rs v qs
+clocked : (g : CFG) (s : Groups) (w k : ℕ) (rs : List ℕ) (v : ℕ) (qs : List ℕ) → k < length (s .starters) → StateReads g (stateMade g s k) w rs v qs
     → clock (machineFor g s) w (stateAt (machineFor g s) k) rs ≡ record { place = toState (length (s .starters)) v; registers = qs }
 clocked g s w k rs v qs h l =
     ap (λ (q : State). clock (machineFor g s) w q rs) (state-at g s k h)
-    ∙ clock-reads (machineFor g s) w (stateOf g s k) rs v qs (rw (registers-are g s) l)
+    ∙ clock-reads (machineFor g s) w (stateMade g s k) rs v qs (rw (registers-are g s) l)
     ∙ ap (λ (n : ℕ). record { place = toState n v; registers = qs }) (states-count g s)
 
 reads-length : {R : ℕ} {high E : List ℕ} {t : ℕ} {vs : List ℕ} {v : ℕ} {q : List ℕ} → Reads R high E t vs v q → length q ≡ R + length high
@@ -52,14 +52,14 @@ onward-in s (standing b) true = refl
 onward-in s (standing b) false = refl
 onward-in s halted w = refl
 
-goes-in : (s : Groups) (ws : Supply) (c : Configuration) → goes ws (inState s c) ≡ goes ws c
+goes-in : (s : Groups) (ws : Supply) (c : Configuration) → goes ws (inMachine s c) ≡ goes ws c
 goes-in s ws c = onward-in s (c .place) (ws .lasts (c .arrivals))
 
 module _ (g : CFG) (s : Groups) (a : Arranged g s) where
   -- at a starter or halted, the next state that is worked out is the place's
   to-place : (p : Place) → leaves s p ≡ true → toState (length (s .starters)) (nextStateOf s p) ≡ placeIn s p
   to-place (standing b) h = rw (lt-ltb (stateIn s b) (length (s .starters)) (a .home b h))
-  to-place halted h = rw (le-ltb none (length (s .starters)) (a .few))
+  to-place halted h = rw (le-ltb absent (length (s .starters)) (a .few))
 
   arrivals-in : (p : Place) (k : ℕ) → leaves s p ≡ true → arrivalsAt (λ q. true) (placeIn s p) k ≡ arrivalsAt (λ b. mem b (s .starters)) p k
   arrivals-in (standing b) k h = rw h
@@ -67,7 +67,7 @@ module _ (g : CFG) (s : Groups) (a : Arranged g s) where
 
   moved-in : (k : ℕ) (m : Moved) → leaves s (m .place) ≡ true
       → moved (λ q. true) k (record { place = toState (length (s .starters)) (nextStateOf s (m .place)); registers = m .registers })
-      ≡ inState s (moved (λ b. mem b (s .starters)) k m)
+      ≡ inMachine s (moved (λ b. mem b (s .starters)) k m)
   moved-in k m h =
       ap (λ (p : Place). moved (λ q. true) k (record { place = p; registers = m .registers })) (to-place (m .place) h)
       ∙ ap (λ (n : ℕ). record { place = placeIn s (m .place); registers = m .registers; arrivals = n }) (arrivals-in (m .place) k h)
@@ -95,7 +95,7 @@ module _ (g : CFG) (s : Groups) (ws : Supply) (b₀ : ℕ) (rs : List ℕ) where
     pub steps : ℕ
     pub run : AllRun g (s .starters) ws b₀ rs steps
     pub size : length (graphAfter g (s .starters) ws b₀ rs steps .registers) ≡ maxRegisters
-    pub machine : machineAfter (machineRunner (machineFor g s)) ws (stateIn s b₀) rs k ≡ inState s (graphAfter g (s .starters) ws b₀ rs steps)
+    pub machine : machineAfter (machineRunner (machineFor g s)) ws (stateIn s b₀) rs k ≡ inMachine s (graphAfter g (s .starters) ws b₀ rs steps)
     pub met : Here s k (graphAfter g (s .starters) ws b₀ rs steps) ⊎ Over s ws k (graphAfter g (s .starters) ws b₀ rs steps)
 
 module _ (g : CFG) (s : Groups) (f : GraphFits g) (a : Arranged g s) (ws : Supply) (b₀ : ℕ) (rs : List ℕ) where
@@ -127,11 +127,11 @@ module _ (g : CFG) (s : Groups) (f : GraphFits g) (a : Arranged g s) (ws : Suppl
         stepsRun-add (graphRunner g (s .starters)) ws (r .steps) (agrees .steps) (startAt b₀ rs)
         ∙ rw (r .run, here-is h, trace-run g (s .starters) ws k (h .block) q lasts (agrees .trace))
 
-    cycled : M (suc k) ≡ inState s reached
+    cycled : M (suc k) ≡ inMachine s reached
     cycled =
         let m = machineRunner (machineFor g s) in
         times-last m ws k (startAt (stateIn s b₀) rs)
-        ∙ ap (step m ws) (r .machine ∙ ap (inState s) (here-is h))
+        ∙ ap (step m ws) (r .machine ∙ ap (inMachine s) (here-is h))
         ∙ step-going m ws (standsAt k (stateIn s (h .block)) q) (stateIn s (h .block)) refl lasts
         ∙ ap (moved (λ q. true) k) (clocked g s (ws .word k) (stateIn s (h .block)) q (nextStateOf s (agrees .reached .place)) (agrees .reached .registers)
         (a .home (h .block) (h .starter)) (agrees .state))
@@ -151,7 +151,7 @@ module _ (g : CFG) (s : Groups) (f : GraphFits g) (a : Arranged g s) (ws : Suppl
             steps = r .steps + agrees .steps;
             run = all-run;
             size = ap length (registers-of reached-at) ∙ reads-length (agrees .state) ∙ (let z = r .size in let n = f .fewRegisters in simp length-drop (omega arith));
-            machine = cycled ∙ ap (inState s) (sym reached-at);
+            machine = cycled ∙ ap (inMachine s) (sym reached-at);
             met = rw reached-at (met-next (agrees .reached .place) refl);
           },
           omega arith,
@@ -159,10 +159,10 @@ module _ (g : CFG) (s : Groups) (f : GraphFits g) (a : Arranged g s) (ws : Suppl
         )
 
   -- what has ended stays
-  stays : (k : ℕ) (r : Both g s ws b₀ rs k) → goes ws (G (r .steps)) ≡ false → M (suc k) ≡ inState s (G (r .steps))
+  stays : (k : ℕ) (r : Both g s ws b₀ rs k) → goes ws (G (r .steps)) ≡ false → M (suc k) ≡ inMachine s (G (r .steps))
   stays k r e =
       let m = machineRunner (machineFor g s) in
-      times-last m ws k (startAt (stateIn s b₀) rs) ∙ ap (step m ws) (r .machine) ∙ step-ended m ws (inState s (G (r .steps))) (goes-in s ws (G (r .steps)) ∙ e)
+      times-last m ws k (startAt (stateIn s b₀) rs) ∙ ap (step m ws) (r .machine) ∙ step-ended m ws (inMachine s (G (r .steps))) (goes-in s ws (G (r .steps)) ∙ e)
 
   stay : (k : ℕ) (r : Both g s ws b₀ rs k) → Over s ws (suc k) (G (r .steps)) → Both g s ws b₀ rs (suc k)
   stay k r o = record { steps = r .steps; run = r .run; size = r .size; machine = stays k r (o .ended); met = inr o }
@@ -190,20 +190,20 @@ module _ (g : CFG) (s : Groups) (f : GraphFits g) (a : Arranged g s) (ws : Suppl
         steps = 0;
         run = stepsRun-zero (graphRunner g (s .starters)) ws (startAt b₀ rs);
         size = ap length (registers-of z) ∙ size;
-        machine = times-zero (machineRunner (machineFor g s)) ws (startAt (stateIn s b₀) rs) ∙ ap (inState s) (sym z);
+        machine = times-zero (machineRunner (machineFor g s)) ws (startAt (stateIn s b₀) rs) ∙ ap (inMachine s) (sym z);
         met = inl (record { block = b₀; place = place-of z; starter = m; counted = arrivals-of z });
       }
   after-cycles m size (suc k) = next-cycle k (after-cycles m size k)
 
   -- while words last, a cycle ends by its arrival or a halt
-  cycle-ends : (k : ℕ) → LastsTo ws k → (r : Both g s ws b₀ rs k) → EndOfCycle g (s .starters) ws b₀ rs k (r .steps)
+  cycle-ends : (k : ℕ) → LastsTo ws k → (r : Both g s ws b₀ rs k) → AfterCycles g (s .starters) ws b₀ rs k (r .steps)
   cycle-ends k lasts r = go (r .met)
     where
-      over : (p : Place) → G (r .steps) .place ≡ p → Over s ws k (G (r .steps)) → EndOfCycle g (s .starters) ws b₀ rs k (r .steps)
+      over : (p : Place) → G (r .steps) .place ≡ p → Over s ws k (G (r .steps)) → AfterCycles g (s .starters) ws b₀ rs k (r .steps)
       over (standing b) e o = absurd (false-true (o .ended) (goes-standing ws (G (r .steps)) b e (lasts (G (r .steps) .arrivals) (o .counted))))
       over halted e o = inr (G (r .steps) .registers, record { run = r .run; stopped = e; registers = refl; counted = o .counted })
 
-      go : Here s k (G (r .steps)) ⊎ Over s ws k (G (r .steps)) → EndOfCycle g (s .starters) ws b₀ rs k (r .steps)
+      go : Here s k (G (r .steps)) ⊎ Over s ws k (G (r .steps)) → AfterCycles g (s .starters) ws b₀ rs k (r .steps)
       go (inl h) = inl (h .block, G (r .steps) .registers, record { run = r .run; stands = here-is h; starter = h .starter })
       go (inr o) = over (G (r .steps) .place) refl o
 
@@ -223,18 +223,18 @@ module _ (g : CFG) (s : Groups) (f : GraphFits g) (a : Arranged g s) (ws : Suppl
   abbrev both : Both g s ws b₀ rs k
   both = after-cycles g s f a ws b₀ rs start size k
 
-  end-of-cycle : EndOfCycle g (s .starters) ws b₀ rs k (both .steps)
+  end-of-cycle : AfterCycles g (s .starters) ws b₀ rs k (both .steps)
   end-of-cycle = cycle-ends g s f a ws b₀ rs k lasts both
 
   -- wherever the cycle ends, the machine stands alike
-  machine-alike : (n : ℕ) → EndOfCycle g (s .starters) ws b₀ rs k n → machine ≡ inState s (graph n)
+  machine-alike : (n : ℕ) → AfterCycles g (s .starters) ws b₀ rs k n → machine ≡ inMachine s (graph n)
   machine-alike n e = rw (← end-once g (s .starters) ws b₀ rs k (both .steps) n end-of-cycle e) (both .machine)
 
   halted-graph : (q : List ℕ) → machine .place ≡ halted → machine .registers ≡ q → (n : ℕ) × HaltBefore g (s .starters) ws b₀ rs k n q
   halted-graph q e d = go end-of-cycle
     where
-      go : EndOfCycle g (s .starters) ws b₀ rs k (both .steps) → (n : ℕ) × HaltBefore g (s .starters) ws b₀ rs k n q
-      go (inl r) = absurd (never-both (machine .place) (stateIn s (r .0)) (place-of (both .machine ∙ ap (inState s) (r .2 .stands))) e)
+      go : AfterCycles g (s .starters) ws b₀ rs k (both .steps) → (n : ℕ) × HaltBefore g (s .starters) ws b₀ rs k n q
+      go (inl r) = absurd (never-both (machine .place) (stateIn s (r .0)) (place-of (both .machine ∙ ap (inMachine s) (r .2 .stands))) e)
       go (inr h) = (both .steps, record { run = h .1 .run; stopped = h .1 .stopped; registers = sym (registers-of (both .machine)) ∙ d; counted = h .1 .counted })
 
   halted-machine : (n : ℕ) (q : List ℕ) → HaltBefore g (s .starters) ws b₀ rs k n q → (machine .place ≡ halted) × (machine .registers ≡ q)
@@ -246,15 +246,15 @@ module _ (g : CFG) (s : Groups) (f : GraphFits g) (a : Arranged g s) (ws : Suppl
       → (n : ℕ) × Arrival g (s .starters) ws b₀ rs k n b q
   standing-graph b q m e = go end-of-cycle
     where
-      go : EndOfCycle g (s .starters) ws b₀ rs k (both .steps) → (n : ℕ) × Arrival g (s .starters) ws b₀ rs k n b q
+      go : AfterCycles g (s .starters) ws b₀ rs k (both .steps) → (n : ℕ) × Arrival g (s .starters) ws b₀ rs k n b q
       go (inl r) =
-          let z : standsAt k (stateIn s (r .0)) (r .1) ≡ standsAt k (stateIn s b) q = sym (both .machine ∙ ap (inState s) (r .2 .stands)) ∙ e in
+          let z : standsAt k (stateIn s (r .0)) (r .1) ≡ standsAt k (stateIn s b) q = sym (both .machine ∙ ap (inMachine s) (r .2 .stands)) ∙ e in
           let c : r .0 ≡ b =
-          sym (a .own (r .0) (r .2 .starter)) ∙ ap (λ (k : ℕ). getD (s .starters) k none) (standing-of (place-of z)) ∙ a .own b m in
+          sym (a .own (r .0) (r .2 .starter)) ∙ ap (λ (k : ℕ). getD (s .starters) k absent) (standing-of (place-of z)) ∙ a .own b m in
           (both .steps, rw (c, registers-of z) at (r .2))
       go (inr h) = absurd (never-both (machine .place) (stateIn s b) (place-of e) (halted-machine (both .steps) (h .0) (h .1) .0))
 
-  next-blocks : (n b : ℕ) (q : List ℕ) → Arrival g (s .starters) ws b₀ rs k n b q → (n′ : ℕ) → EndOfCycle g (s .starters) ws b₀ rs (suc k) n′
+  next-blocks : (n b : ℕ) (q : List ℕ) → Arrival g (s .starters) ws b₀ rs k n b q → (n′ : ℕ) → AfterCycles g (s .starters) ws b₀ rs (suc k) n′
       → (n + 1 ≤ n′) × (n′ ≤ n + length (members g s (stateIn s b)))
   next-blocks n b q r n′ e =
       let t : both .steps ≡ n = end-once g (s .starters) ws b₀ rs k (both .steps) n end-of-cycle (inl (b, q, r)) in
@@ -280,6 +280,6 @@ module _ (g : CFG) (s : Groups) (f : GraphFits g) (a : Arranged g s) (ws : Suppl
     either = (both .steps, end-of-cycle);
     apart = arrival-or-halt g (s .starters) ws b₀ rs k;
     halts = λ q. (λ h. halted-graph q (h .0) (h .1), λ h. halted-machine (h .0) q (h .1));
-    stands = λ b q m. (standing-graph b q m, λ h. machine-alike (h .0) (inl (b, q, h .1)) ∙ ap (inState s) (h .1 .stands));
+    stands = λ b q m. (standing-graph b q m, λ h. machine-alike (h .0) (inl (b, q, h .1)) ∙ ap (inMachine s) (h .1 .stands));
     blocks = next-blocks;
   }

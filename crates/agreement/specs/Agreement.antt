@@ -7,16 +7,16 @@ use mathlib.Core.Bool.{true, false}
 use mathlib.Core.List.{List, [], _++_}
 use lib.ListN.{length, getD, take, drop}
 use Rattle.runs.specs.Lists.{mem}
-use Rattle.runs.specs.Runs.{Place, standing, halted, Configuration, standsAt, startAt, Supply, listed, unread, Runner, goes, step, times, stepsRun, answer, numberOf, outcomeOf, countOf, nextOf}
+use Rattle.runs.specs.Runs.{Place, standing, halted, Configuration, standsAt, startAt, Supply, listed, unread, Runner, goes, step, times, stepsRun, answer, runNumber, runOutcome, runCount, runNext}
 use Rattle.runs.specs.Operations.{nextAt}
 use Rattle.runs.specs.declared.RunAnswer.{RunAnswer}
-use Rattle.cfg.specs.Graph.{CFG, graphRunner, wordless}
+use Rattle.cfg.specs.Graph.{CFG, graphRunner, wordlessGraph}
 use Rattle.cfg.specs.Table.{graphOf}
-use Rattle.cfg.specs.Run.{wordsAnswer as graphAnswer, wordsRegisters as graphLeft}
-use Rattle.fsmd.specs.Layout.{maxRegisters, none}
-use Rattle.fsmd.specs.Machine.{stateOf, machineRunner, wordless as wordlessMachine}
+use Rattle.cfg.specs.Run.{graphWordsAnswer, graphWordsRegisters}
+use Rattle.fsmd.specs.Layout.{maxRegisters, absent}
+use Rattle.fsmd.specs.Machine.{stateOf, machineRunner, wordlessMachine}
 use Rattle.fsmd.specs.Table.{machineOf, validState}
-use Rattle.fsmd.specs.Run.{runAnswer, runRegisters, wordsAnswer as machineAnswer, wordsRegisters as machineLeft}
+use Rattle.fsmd.specs.Run.{machineAnswer, machineRegisters, machineWordsAnswer, machineWordsRegisters}
 use Rattle.grouping.specs.Grouping.{Groups, groups}
 use Rattle.placement.specs.Placement.{members}
 
@@ -45,8 +45,8 @@ module _ (g : CFG) (starters : List ℕ) (ws : Supply) (b₀ : ℕ) (rs : List �
     pub counted : graphAfter n .arrivals < k
 
   -- Cycle k, from 1, ends with step n: the step that makes arrival k, or halts.
-  abbrev pub EndOfCycle : ℕ → ℕ → Type 0
-  EndOfCycle k n = ((b : ℕ) × (q : List ℕ) × Arrival k n b q) ⊎ ((q : List ℕ) × HaltBefore k n q)
+  abbrev pub AfterCycles : ℕ → ℕ → Type 0
+  AfterCycles k n = ((b : ℕ) × (q : List ℕ) × Arrival k n b q) ⊎ ((q : List ℕ) × HaltBefore k n q)
 
 -- ---- the machine's side
 
@@ -56,20 +56,20 @@ machineAfter m ws q₀ rs k = times m ws k (startAt q₀ rs)
 
 -- a block's state
 abbrev pub stateIn : Groups → ℕ → ℕ
-stateIn s b = getD (s .states) b none
+stateIn s b = getD (s .states) b absent
 
 abbrev pub placeIn : Groups → Place → Place
 placeIn s (standing b) = standing (stateIn s b)
 placeIn s halted = halted
 
 -- what a graph's configuration is in the machine: the block's state, and all else equal
-abbrev pub inState : Groups → Configuration → Configuration
-inState s c = record { place = placeIn s (c .place); registers = c .registers; arrivals = c .arrivals }
+abbrev pub inMachine : Groups → Configuration → Configuration
+inMachine s c = record { place = placeIn s (c .place); registers = c .registers; arrivals = c .arrivals }
 
 -- Graph and machine after k cycles, from the starter b₀ and its state, both with registers rs, on equal words.
 pub record AgreeAfter (g : CFG) (s : Groups) (m : Runner) (ws : Supply) (b₀ : ℕ) (rs : List ℕ) (k : ℕ) : Type 0 where
   -- the graph reaches arrival k, or halts without reaching it; never both
-  pub either : (n : ℕ) × EndOfCycle g (s .starters) ws b₀ rs k n
+  pub either : (n : ℕ) × AfterCycles g (s .starters) ws b₀ rs k n
   pub apart : (n b : ℕ) (q : List ℕ) → Arrival g (s .starters) ws b₀ rs k n b q → (n′ : ℕ) (q′ : List ℕ) → HaltBefore g (s .starters) ws b₀ rs k n′ q′ → ⊥
   -- the machine has halted exactly when the graph's run halts without reaching arrival k, and then both have equal registers
   pub halts : (q : List ℕ)
@@ -79,7 +79,7 @@ pub record AgreeAfter (g : CFG) (s : Groups) (m : Runner) (ws : Supply) (b₀ : 
   pub stands : (b : ℕ) (q : List ℕ) → mem b (s .starters) ≡ true
       → (machineAfter m ws (stateIn s b₀) rs k ≡ standsAt k (stateIn s b) q) ↔ ((n : ℕ) × Arrival g (s .starters) ws b₀ rs k n b q)
   -- in the next cycle the graph runs at least one block and at most as many as the state has
-  pub blocks : (n b : ℕ) (q : List ℕ) → Arrival g (s .starters) ws b₀ rs k n b q → (n′ : ℕ) → EndOfCycle g (s .starters) ws b₀ rs (suc k) n′
+  pub blocks : (n b : ℕ) (q : List ℕ) → Arrival g (s .starters) ws b₀ rs k n b q → (n′ : ℕ) → AfterCycles g (s .starters) ws b₀ rs (suc k) n′
       → (n + 1 ≤ n′) × (n′ ≤ n + length (members g s (stateIn s b)))
 
 -- ---- whole runs with budgets, on equal words
@@ -87,15 +87,15 @@ pub record AgreeAfter (g : CFG) (s : Groups) (m : Runner) (ws : Supply) (b₀ : 
 -- With a budget of n blocks the graph's run ends as the machine's with k cycles: spent, halted or dry alike,
 -- at the same arrival with equal registers, the one at a starter and the other in its state.
 pub record SameEnd (g : CFG) (s : Groups) (m : Runner) (ws : Supply) (b₀ : ℕ) (rs : List ℕ) (k n : ℕ) : Type 0 where
-  pub outcome : outcomeOf (answer (graphRunner g (s .starters)) ws n (startAt b₀ rs)) ≡ outcomeOf (answer m ws k (startAt (stateIn s b₀) rs))
-  pub same : machineAfter m ws (stateIn s b₀) rs k ≡ inState s (graphAfter g (s .starters) ws b₀ rs n)
+  pub outcome : runOutcome (answer (graphRunner g (s .starters)) ws n (startAt b₀ rs)) ≡ runOutcome (answer m ws k (startAt (stateIn s b₀) rs))
+  pub same : machineAfter m ws (stateIn s b₀) rs k ≡ inMachine s (graphAfter g (s .starters) ws b₀ rs n)
   pub starter : (b : ℕ) → graphAfter g (s .starters) ws b₀ rs n .place ≡ standing b → mem b (s .starters) ≡ true
 
 -- There is a budget of blocks at which they do and, where the machine's run is halted or dry, from which on they do.
 pub record RunsAlike (g : CFG) (s : Groups) (m : Runner) (ws : Supply) (b₀ : ℕ) (rs : List ℕ) (k : ℕ) : Type 0 where
   pub blocks : ℕ
   pub at : SameEnd g s m ws b₀ rs k blocks
-  pub beyond : outcomeOf (answer m ws k (startAt (stateIn s b₀) rs)) ≢ 0 → (n : ℕ) → blocks ≤ n → SameEnd g s m ws b₀ rs k n
+  pub beyond : runOutcome (answer m ws k (startAt (stateIn s b₀) rs)) ≢ 0 → (n : ℕ) → blocks ≤ n → SameEnd g s m ws b₀ rs k n
 
 -- ---- Run machine from state q₀, with a register buffer and budget k, on the words ws
 
@@ -115,46 +115,46 @@ pub record DryCycle (m : Runner) (ws : Supply) (q₀ : ℕ) (rs : List ℕ) (k c
 -- the answer a of k cycles from the buffer's registers, and the buffer after, where not refused
 pub record Answers (m : Runner) (ws : Supply) (q₀ k : ℕ) (buffer after : List ℕ) (a : RunAnswer) : Type 0 where
   -- halted exactly when the machine has halted after k cycles
-  pub halts : (outcomeOf a ≡ 1) ↔ (machineAfter m ws q₀ (take maxRegisters buffer) k .place ≡ halted)
+  pub halts : (runOutcome a ≡ 1) ↔ (machineAfter m ws q₀ (take maxRegisters buffer) k .place ≡ halted)
   -- the registers of that moment, words past 16 as before
   pub registers : after ≡ machineAfter m ws q₀ (take maxRegisters buffer) k .registers ++ drop maxRegisters buffer
   -- the state then stood in, or 255
-  pub next : nextOf a ≡ nextAt (machineAfter m ws q₀ (take maxRegisters buffer) k .place)
+  pub next : runNext a ≡ nextAt (machineAfter m ws q₀ (take maxRegisters buffer) k .place)
   -- the count: k, or the halting cycle's number, or the cycles before the arrival that has no word
-  pub spent : outcomeOf a ≡ 0 → countOf a ≡ k
-  pub ended : outcomeOf a ≡ 1 → HaltingCycle m ws q₀ (take maxRegisters buffer) (countOf a)
-  pub dried : outcomeOf a ≡ 2 → DryCycle m ws q₀ (take maxRegisters buffer) k (countOf a)
+  pub spent : runOutcome a ≡ 0 → runCount a ≡ k
+  pub ended : runOutcome a ≡ 1 → HaltingCycle m ws q₀ (take maxRegisters buffer) (runCount a)
+  pub dried : runOutcome a ≡ 2 → DryCycle m ws q₀ (take maxRegisters buffer) k (runCount a)
 
 -- the same of an operation that may be refused
 pub record RunAgrees (m : Runner) (ws : Supply) (q₀ k : ℕ) (buffer after : List ℕ) (a : RunAnswer) : Type 0 where
   -- never refused 9, 10 or 12, and not at all where the buffer has its 16 words
-  pub not9 : numberOf a ≢ 9
-  pub not10 : numberOf a ≢ 10
-  pub not12 : numberOf a ≢ 12
-  pub accepted : maxRegisters ≤ length buffer → numberOf a ≡ 0
-  pub answers : numberOf a ≡ 0 → Answers m ws q₀ k buffer after a
+  pub not9 : runNumber a ≢ 9
+  pub not10 : runNumber a ≢ 10
+  pub not12 : runNumber a ≢ 12
+  pub accepted : maxRegisters ≤ length buffer → runNumber a ≡ 0
+  pub answers : runNumber a ≡ 0 → Answers m ws q₀ k buffer after a
 
 -- ---- Run graph with words and starters beside Run machine with words
 
 -- the graph's answer and buffer, and the machine's: the same outcome, equal registers, and next the starter of the machine's next state
 pub record SameAnswer (s : Groups) (graph machine : RunAnswer) (after after′ : List ℕ) : Type 0 where
-  pub accepted : (numberOf graph ≡ 0) × (numberOf machine ≡ 0)
-  pub outcome : outcomeOf graph ≡ outcomeOf machine
+  pub accepted : (runNumber graph ≡ 0) × (runNumber machine ≡ 0)
+  pub outcome : runOutcome graph ≡ runOutcome machine
   pub registers : after ≡ after′
-  pub next : (outcomeOf machine ≡ 1) ⊎ ((mem (nextOf graph) (s .starters) ≡ true) × (nextOf machine ≡ stateIn s (nextOf graph)))
+  pub next : (runOutcome machine ≡ 1) ⊎ ((mem (runNext graph) (s .starters) ≡ true) × (runNext machine ≡ stateIn s (runNext graph)))
 
 module _ (graphTable machineTable : List ℕ) (s : Groups) (buffer words starters : List ℕ) (b₀ k : ℕ) where
   -- with a budget of n blocks and one of k cycles
   abbrev pub Alike : ℕ → Type 0
   Alike n =
-      SameAnswer s (graphAnswer graphTable buffer b₀ n words starters) (machineAnswer machineTable buffer (stateIn s b₀) k words)
-      (graphLeft graphTable buffer b₀ n words starters) (machineLeft machineTable buffer (stateIn s b₀) k words)
+      SameAnswer s (graphWordsAnswer graphTable buffer b₀ n words starters) (machineWordsAnswer machineTable buffer (stateIn s b₀) k words)
+      (graphWordsRegisters graphTable buffer b₀ n words starters) (machineWordsRegisters machineTable buffer (stateIn s b₀) k words)
 
   -- there is a budget of blocks at which they are and, where the machine's run is halted or dry, from which on they are
   pub record OperationsAlike : Type 0 where
     pub blocks : ℕ
     pub at : Alike blocks
-    pub beyond : outcomeOf (machineAnswer machineTable buffer (stateIn s b₀) k words) ≢ 0 → (n : ℕ) → blocks ≤ n → Alike n
+    pub beyond : runOutcome (machineWordsAnswer machineTable buffer (stateIn s b₀) k words) ≢ 0 → (n : ℕ) → blocks ≤ n → Alike n
 
 -- ---- demand 3, on the words of a graph table and a machine table
 
@@ -172,11 +172,11 @@ pub record AgreementFor (s : Groups) (graphTable machineTable : List ℕ) : Type
   -- Run machine with words: every k, and so each that a budget can hold
   pub runs : (words : List ℕ) (b₀ : ℕ) → mem b₀ (s .starters) ≡ true → (buffer : List ℕ) (k : ℕ)
       → let q₀ = stateIn s b₀ in
-      RunAgrees (machineRunner (machineOf machineTable)) (listed words) q₀ k buffer (machineLeft machineTable buffer q₀ k words) (machineAnswer machineTable buffer q₀ k words)
+      RunAgrees (machineRunner (machineOf machineTable)) (listed words) q₀ k buffer (machineWordsRegisters machineTable buffer q₀ k words) (machineWordsAnswer machineTable buffer q₀ k words)
   -- and Run machine, of a machine that reads no word
   pub wordlessRuns : wordlessMachine (machineOf machineTable) ≡ true → (b₀ : ℕ) → mem b₀ (s .starters) ≡ true → (buffer : List ℕ) (k : ℕ)
       → let q₀ = stateIn s b₀ in
-      RunAgrees (machineRunner (machineOf machineTable)) unread q₀ k buffer (runRegisters machineTable buffer q₀ k) (runAnswer machineTable buffer q₀ k)
+      RunAgrees (machineRunner (machineOf machineTable)) unread q₀ k buffer (machineRegisters machineTable buffer q₀ k) (machineAnswer machineTable buffer q₀ k)
   -- a starter list that holds the machine's starters and no others
   pub operations : (words starters : List ℕ) → ((b : ℕ) → mem b starters ≡ mem b (s .starters))
       → (b₀ : ℕ) → mem b₀ (s .starters) ≡ true → (buffer : List ℕ) → maxRegisters ≤ length buffer
@@ -185,7 +185,7 @@ pub record AgreementFor (s : Groups) (graphTable machineTable : List ℕ) : Type
   pub entry : mem 0 (s .starters) ≡ true
   pub begins : stateIn s 0 ≡ 0
   -- the machine of a graph without code 20 has none either
-  pub silent : wordless (graphOf graphTable) ≡ true → wordlessMachine (machineOf machineTable) ≡ true
+  pub silent : wordlessGraph (graphOf graphTable) ≡ true → wordlessMachine (machineOf machineTable) ≡ true
   -- further cycles of a machine that has halted or is dry change nothing
   pub idle : (ws : Supply) (c : Configuration) → goes ws c ≡ false → step (machineRunner (machineOf machineTable)) ws c ≡ c
   -- each wire reads only registers at the start of the cycle and earlier wires
@@ -201,8 +201,8 @@ pub record AgreementWithoutWordsFor (s : Groups) (graphTable machineTable : List
   pub agree : (rs : List ℕ) → length rs ≡ maxRegisters → (k : ℕ)
       → AgreeAfter (graphOf graphTable) s (machineRunner (machineOf machineTable)) unread 0 rs k
   pub begins : stateIn s 0 ≡ 0
-  pub runs : wordless (graphOf graphTable) ≡ true → (buffer : List ℕ) (k : ℕ)
-      → RunAgrees (machineRunner (machineOf machineTable)) unread 0 k buffer (runRegisters machineTable buffer 0 k) (runAnswer machineTable buffer 0 k)
+  pub runs : wordlessGraph (graphOf graphTable) ≡ true → (buffer : List ℕ) (k : ℕ)
+      → RunAgrees (machineRunner (machineOf machineTable)) unread 0 k buffer (machineRegisters machineTable buffer 0 k) (machineAnswer machineTable buffer 0 k)
   -- the graph's run without words, which knows no starters, goes through the same places and registers
   pub unmarked : (rs : List ℕ) (n : ℕ)
       → let run = graphAfter (graphOf graphTable) [] unread 0 rs n in

@@ -1,4 +1,4 @@
--- The answer from a place of the merge on, after one turn more. Assumes nothing.
+-- The answer from a place of the merge on, after one step more. Assumes nothing.
 use mathlib.Core.Path.{_≡_, _∙_, refl, sym, ap}
 use mathlib.Core.List.{List, [], _∷_}
 use mathlib.Core.Bool.{Bool, true, false, not}

@@ -21,8 +21,8 @@ use Rattle.capture.specs.declared.recording.Step.{Step}
 use Rattle.capture.specs.declared.recording.Step.the-variants as step
 use Rattle.capture.specs.declared.Head.{Head}
 use Rattle.capture.specs.declared.Merge.{Merge}
-use Rattle.capture.specs.declared.Turn.{Turn}
-use Rattle.capture.specs.declared.Turn.the-variants as turn
+use Rattle.capture.specs.declared.MergeStep.{MergeStep}
+use Rattle.capture.specs.declared.MergeStep.the-variants as merged
 use Rattle.capture.specs.Capture.{wordsOf, Entry, asEntry, lineEntry, recording, faultFrom, entriesOf, Shared, shared, differs, cycleOf, judged}
 
 -- ---- a line; the text stands at `at`
@@ -125,6 +125,6 @@ pub record Progress (r : ℕ) (one two : List ℕ) (m n : Merge) : Type 0 where
   pub answer : answerFrom r one two m ≡ answerFrom r one two n
   pub less : left one two n < left one two m
 
-abbrev pub AfterTurn : ℕ → List ℕ → List ℕ → Merge → Turn → Type 0
-AfterTurn r one two m (turn.Go n) = Progress r one two m n
-AfterTurn r one two m turn.Stop = answerFrom r one two m ≡ judgedAt r one two m
+abbrev pub AfterStep : ℕ → List ℕ → List ℕ → Merge → MergeStep → Type 0
+AfterStep r one two m (merged.Go n) = Progress r one two m n
+AfterStep r one two m merged.Stop = answerFrom r one two m ≡ judgedAt r one two m

@@ -2,14 +2,14 @@
 // merged by their cycles; nothing is stored.
 pub mod recording; // recording.rt: one recording
 
-use cfg::Graph;
+use cfg::GraphTable;
 use recording::Fault;
 use recording::Position;
 use recording::Step;
 ghost use mathlib.Core.Path.{_≡_};
 ghost use Rattle.runs.specs.Lists.{same};
 ghost use Rattle.capture.specs.Capture.{compareCaptures};
-ghost use Rattle.capture.specs.Steps.{positionBehind, Passed, Within, noted, Moved, Ready, AfterTurn, judgedAt};
+ghost use Rattle.capture.specs.Steps.{positionBehind, Passed, Within, noted, Moved, Ready, AfterStep, judgedAt};
 
 pub enum Difference {
     Nowhere,
@@ -38,7 +38,7 @@ struct Merge {
     difference: Difference,
 }
 
-enum Turn {
+enum MergeStep {
     Go(Merge),
     // One of the recordings goes on no more.
     Stop,
@@ -87,10 +87,10 @@ fn behind(registers: u32, text: &[u8], head: Head, cycle: u32, next: usize) -> H
     }
 }
 
-// One turn: over the lower of both next cycles, or over both where they are the same.
-fn merge_next(registers: u32, first: &[u8], second: &[u8], m: Merge) -> Turn
+// One step: over the lower of both next cycles, or over both where they are the same.
+fn merge_next(registers: u32, first: &[u8], second: &[u8], m: Merge) -> MergeStep
     requires { ⌜ Ready registers (now first) (now second) m ⌝ }
-    ensures { λ r. ⌜ AfterTurn registers (now (first .entry)) (now (second .entry)) m r ⌝ }
+    ensures { λ r. ⌜ AfterStep registers (now (first .entry)) (now (second .entry)) m r ⌝ }
 {
     let one = m.first;
     let two = m.second;
@@ -98,13 +98,13 @@ fn merge_next(registers: u32, first: &[u8], second: &[u8], m: Merge) -> Turn
     let x = one.step;
     let y = two.step;
     let Step::Entry(c, p) = x else {
-        return Turn::Stop;
+        return MergeStep::Stop;
     };
     let Step::Entry(d, q) = y else {
-        return Turn::Stop;
+        return MergeStep::Stop;
     };
     if c < d {
-        return Turn::Go(Merge {
+        return MergeStep::Go(Merge {
             first: behind(registers, first, one, c, p),
             second: two,
             shared: m.shared,
@@ -112,7 +112,7 @@ fn merge_next(registers: u32, first: &[u8], second: &[u8], m: Merge) -> Turn
         });
     }
     if d < c {
-        return Turn::Go(Merge {
+        return MergeStep::Go(Merge {
             first: one,
             second: behind(registers, second, two, d, q),
             shared: m.shared,
@@ -121,7 +121,7 @@ fn merge_next(registers: u32, first: &[u8], second: &[u8], m: Merge) -> Turn
     }
     let a = one.position.at;
     let b = two.position.at;
-    Turn::Go(Merge {
+    MergeStep::Go(Merge {
         first: behind(registers, first, one, c, p),
         second: behind(registers, second, two, d, q),
         shared: m.shared + 1,
@@ -157,7 +157,7 @@ pub fn compare_captures(registers: u32, first: &[u8], second: &[u8]) -> CaptureA
     if registers < 1 {
         return CaptureAnswer::Refused(17, 0, 0);
     }
-    if Graph::REGISTERS < (registers as usize) {
+    if GraphTable::REGISTERS < (registers as usize) {
         return CaptureAnswer::Refused(17, 0, 0);
     }
     let start = Position {
@@ -178,7 +178,7 @@ pub fn compare_captures(registers: u32, first: &[u8], second: &[u8]) -> CaptureA
         difference: Difference::Nowhere,
     };
     loop {
-        let Turn::Go(n) = merge_next(registers, first, second, m) else {
+        let MergeStep::Go(n) = merge_next(registers, first, second, m) else {
             return finish(registers, first, second, m);
         };
         m = n;

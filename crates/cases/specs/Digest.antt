@@ -9,7 +9,7 @@ modulus = 4294967291
 abbrev pub digestStep : ℕ → ℕ → ℕ
 digestStep h x = (h * 1000003 + x) % modulus
 
--- each element turns h into the next
+-- each element makes the next of h
 unfoldable pub digestFrom : ℕ → List ℕ → ℕ
 digestFrom h [] = h
 digestFrom h (x ∷ xs) = digestFrom (digestStep h x) xs

@@ -19,8 +19,8 @@ use Rattle.cfg.specs.declared.Ending.{Ending}
 use Rattle.cfg.specs.declared.Ending.the-variants.{Goto, Ite, Halt}
 use Rattle.cfg.specs.declared.Block.{Block}
 use Rattle.cfg.specs.Layout.{maxBlocks, maxRegisters, maxInstructions, graphWords}
-use Rattle.cfg.specs.Graph.{CFG, noInstruction, emptyBlock, blockOf, codeOf, targets, successors, instructionCode, validInstruction, validEnding, unused, validBlock, validGraph}
-use Rattle.cfg.specs.Table.{tableOf, blockAt, graphOf, admitted}
+use Rattle.cfg.specs.Graph.{CFG, noInstruction, emptyBlock, blockOf, instructionsOf, targets, successors, instructionCode, validInstruction, validEnding, unused, validBlock, validGraph}
+use Rattle.cfg.specs.Table.{graphTableOf, blockAt, graphOf, admittedGraph}
 
 -- ---- the blocks of a table
 
@@ -149,7 +149,7 @@ pub valid-block : (b r : ℕ) (k : Block) → validBlock b r k ≡ true → Vali
 unfolding validBlock
 valid-block b r k h =
     let few = leb (k .count) maxInstructions in
-    let code = every (validInstruction r) (codeOf k) in
+    let code = every (validInstruction r) (instructionsOf k) in
     let rest = every unused (drop (k .count) (k .instructions)) in
     let h₂ = and-left (few && code && rest) (validEnding b r (k .ending)) h in
     let h₁ = and-left (few && code) rest h₂ in
@@ -158,7 +158,7 @@ valid-block b r k h =
       instruction = λ i l m.
           valid-instruction r (getD (k .instructions) i noInstruction)
           (rw (← getD-take (k .count) (k .instructions) i noInstruction l)
-          (every-at (validInstruction r) (codeOf k) (and-right few code h₁) i noInstruction (rw length-take (omega arith))));
+          (every-at (validInstruction r) (instructionsOf k) (and-right few code h₁) i noInstruction (rw length-take (omega arith))));
       unusedAt = λ i l m.
           unused-is (getD (k .instructions) i noInstruction)
           (let e : k .count + (i - k .count) ≡ i = omega arith in
@@ -216,17 +216,17 @@ pub record Admitted (t : List ℕ) : Type 0 where
   pub someRegister : 1 ≤ getD t 1 0
   pub fewRegisters : getD t 1 0 ≤ maxRegisters
   pub block : (n : ℕ) → n < getD t 0 0 → ValidBlock (getD t 0 0) (getD t 1 0) (blockAt t n)
-  pub words : tableOf (graphOf t) ≡ take graphWords t
+  pub words : graphTableOf (graphOf t) ≡ take graphWords t
 
 -- the two halves of the test
-pub admitted-halves : (t : List ℕ) → admitted t ≡ true → (validGraph (graphOf t) ≡ true) × (tableOf (graphOf t) ≡ take graphWords t)
-unfolding admitted
+pub admitted-halves : (t : List ℕ) → admittedGraph t ≡ true → (validGraph (graphOf t) ≡ true) × (graphTableOf (graphOf t) ≡ take graphWords t)
+unfolding admittedGraph
 admitted-halves t h =
     let v = validGraph (graphOf t) in
-    let s = same (tableOf (graphOf t)) (take graphWords t) in
-    (and-left v s h, same-eq (tableOf (graphOf t)) (take graphWords t) (and-right v s h))
+    let s = same (graphTableOf (graphOf t)) (take graphWords t) in
+    (and-left v s h, same-eq (graphTableOf (graphOf t)) (take graphWords t) (and-right v s h))
 
-pub admitted-facts : (t : List ℕ) → admitted t ≡ true → Admitted t
+pub admitted-facts : (t : List ℕ) → admittedGraph t ≡ true → Admitted t
 admitted-facts t h =
     let v = valid-graph (graphOf t) (admitted-halves t h .0) in
     let w = admitted-halves t h .1 in

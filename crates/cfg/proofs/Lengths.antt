@@ -12,7 +12,7 @@ use Rattle.cfg.specs.declared.Ending.the-variants.{Goto, Ite, Halt}
 use Rattle.cfg.specs.declared.Block.{Block}
 use Rattle.cfg.specs.Layout.{maxInstructions, instructionWords, endingWords, blockWords, allBlockWords, graphWords}
 use Rattle.cfg.specs.Graph.{CFG}
-use Rattle.cfg.specs.Table.{instructionWordsOf, endingWordsOf, blockWordsOf, tableOf}
+use Rattle.cfg.specs.Table.{instructionWordsOf, endingWordsOf, blockWordsOf, graphTableOf}
 
 pub code-length : (is : List Instruction) → length (concatMap instructionWordsOf is) ≡ instructionWords * length is
 unfolding concatMap
@@ -31,6 +31,6 @@ block-length k h =
     let e = ending-length (k .ending) in
     simp length-append (omega arith)
 
-pub table-length : (g : CFG) → length (tableOf g) ≡ graphWords
-unfolding tableOf
+pub table-length : (g : CFG) → length (graphTableOf g) ≡ graphWords
+unfolding graphTableOf
 table-length g = ap (λ (n : ℕ). suc (suc n)) (length-padded {A = ℕ} allBlockWords 0 (concatMap blockWordsOf (g .blocks)))

@@ -9,9 +9,9 @@ use Rattle.runs.specs.Lists.{upFrom, every}
 use Rattle.runs.proofs.ListLaws.{every-and, every-map, take-map-upFrom}
 use Rattle.cfg.specs.declared.Block.{Block}
 use Rattle.cfg.specs.Layout.{maxBlocks, maxRegisters, maxInstructions, instructionWords, codeOffset, endingOffset, lastOffset, blockWords, allBlockWords, graphWords, blockOffset}
-use Rattle.cfg.specs.Graph.{codeOf, validInstruction, wordless}
+use Rattle.cfg.specs.Graph.{instructionsOf, validInstruction, wordlessGraph}
 use Rattle.cfg.specs.Fits.{zeros, endingFits, blockFits, passes, blockPasses}
-use Rattle.cfg.specs.Table.{instructionAt, blockAt, graphOf, admitted}
+use Rattle.cfg.specs.Table.{instructionAt, blockAt, graphOf, admittedGraph}
 use Rattle.cfg.proofs.Blocks.{count-at}
 use Rattle.cfg.proofs.Codes.{Good}
 use Rattle.cfg.proofs.Words.{instructions-are, blocks-are, block-many, block-few, by-blocks}
@@ -48,18 +48,18 @@ all-pass : {A : Type 0} (l : List A) → every (λ x. true) l ≡ true
 all-pass [] = refl
 all-pass (x ∷ l) = all-pass l
 
-passing-is : (words : Bool) (t : List ℕ) → (words || wordless (graphOf t)) ≡ every (λ n. every (passes words) (codeOf (blockAt t n))) (upFrom 0 (getD t 0 0))
-unfolding wordless
+passing-is : (words : Bool) (t : List ℕ) → (words || wordlessGraph (graphOf t)) ≡ every (λ n. every (passes words) (instructionsOf (blockAt t n))) (upFrom 0 (getD t 0 0))
+unfolding wordlessGraph
 passing-is true t =
-    sym (ap (λ (f : ℕ → Bool). every f (upFrom 0 (getD t 0 0))) (fun-ext (λ n. all-pass (codeOf (blockAt t n)))) ∙ all-pass (upFrom 0 (getD t 0 0)))
+    sym (ap (λ (f : ℕ → Bool). every f (upFrom 0 (getD t 0 0))) (fun-ext (λ n. all-pass (instructionsOf (blockAt t n)))) ∙ all-pass (upFrom 0 (getD t 0 0)))
 passing-is false t =
-    ap (λ (l : List Block). every (λ k. every (λ i. not (eqb (i .code) 20)) (codeOf k)) l) (blocks-are t)
-    ∙ every-map (blockAt t) (λ k. every (λ i. not (eqb (i .code) 20)) (codeOf k)) (upFrom 0 (getD t 0 0))
+    ap (λ (l : List Block). every (λ k. every (λ i. not (eqb (i .code) 20)) (instructionsOf k)) l) (blocks-are t)
+    ∙ every-map (blockAt t) (λ k. every (λ i. not (eqb (i .code) 20)) (instructionsOf k)) (upFrom 0 (getD t 0 0))
 
 module _ (words : Bool) (t : List ℕ) where
   -- admitted, and passing
   abbrev pub Passing : Bool
-  Passing = admitted t && (words || wordless (graphOf t))
+  Passing = admittedGraph t && (words || wordlessGraph (graphOf t))
 
   pub passing-blocks : graphWords ≤ length t → 1 ≤ getD t 0 0 → getD t 0 0 ≤ maxBlocks → 1 ≤ getD t 1 0 → getD t 1 0 ≤ maxRegisters
       → Passing
@@ -69,7 +69,7 @@ module _ (words : Bool) (t : List ℕ) where
       let n = getD t 0 0 in
       let fit = every (blockFits n (getD t 1 0) t) (upFrom 0 n) in
       let clear = zeros t (blockOffset n) (allBlockWords - blockWords * n) in
-      let pass = every (λ k. every (passes words) (codeOf (blockAt t k))) (upFrom 0 n) in
+      let pass = every (λ k. every (passes words) (instructionsOf (blockAt t k))) (upFrom 0 n) in
       rw (by-blocks t l a b c d, passing-is words t)
       (swap fit clear pass
-      ∙ ap (λ (x : Bool). x && clear) (every-and (blockFits n (getD t 1 0) t) (λ k. every (passes words) (codeOf (blockAt t k))) (upFrom 0 n)))
+      ∙ ap (λ (x : Bool). x && clear) (every-and (blockFits n (getD t 1 0) t) (λ k. every (passes words) (instructionsOf (blockAt t k))) (upFrom 0 n)))

@@ -17,9 +17,9 @@ use Rattle.cfg.specs.declared.Ending.{Ending}
 use Rattle.cfg.specs.declared.Ending.the-variants.{Goto, Ite, Halt}
 use Rattle.cfg.specs.declared.Block.{Block}
 use Rattle.cfg.specs.Layout.{maxRegisters, graphWords}
-use Rattle.cfg.specs.Graph.{noInstruction, codeOf, execute, executeAll, holds, leave, runBlock, wordless}
-use Rattle.cfg.specs.Table.{blockAt, graphOf, admitted}
-use Rattle.cfg.specs.Run.{startersFit, refusal, wordsRefusal}
+use Rattle.cfg.specs.Graph.{noInstruction, instructionsOf, execute, executeAll, holds, leave, runBlock, wordlessGraph}
+use Rattle.cfg.specs.Table.{blockAt, graphOf, admittedGraph}
+use Rattle.cfg.specs.Run.{startersFit, graphRefusal, graphWordsRefusal}
 use Rattle.cfg.specs.Steps.{Within, EndingWithin, BlockWithin, markedRunner}
 use Rattle.cfg.proofs.Blocks.{instructions-length}
 use Rattle.cfg.proofs.Admitted.{Admitted, ValidInstruction, ValidEnding, block-below}
@@ -68,18 +68,18 @@ execute-cons s i is rs = refl
 
 module _ (s : ℕ) (k : Block) (fits : k .count ≤ length (k .instructions)) where
   pub code-next : (i : ℕ) (rs : List ℕ) → i < k .count
-      → executeAll s (drop i (codeOf k)) rs ≡ executeAll s (drop (i + 1) (codeOf k)) (execute s (getD (k .instructions) i noInstruction) rs)
+      → executeAll s (drop i (instructionsOf k)) rs ≡ executeAll s (drop (i + 1) (instructionsOf k)) (execute s (getD (k .instructions) i noInstruction) rs)
   code-next i rs h =
       let n = length-take-le (k .count) (k .instructions) fits in
       let e = getD-take (k .count) (k .instructions) i noInstruction h in
-      ap (λ (l : List Instruction). executeAll s l rs) (drop-cons (codeOf k) i noInstruction (omega arith))
-      ∙ execute-cons s (getD (codeOf k) i noInstruction) (drop (suc i) (codeOf k)) rs
+      ap (λ (l : List Instruction). executeAll s l rs) (drop-cons (instructionsOf k) i noInstruction (omega arith))
+      ∙ execute-cons s (getD (instructionsOf k) i noInstruction) (drop (suc i) (instructionsOf k)) rs
       ∙ rw (e, add-one)
 
-  pub code-done : (i : ℕ) (rs : List ℕ) → k .count ≤ i → executeAll s (drop i (codeOf k)) rs ≡ rs
+  pub code-done : (i : ℕ) (rs : List ℕ) → k .count ≤ i → executeAll s (drop i (instructionsOf k)) rs ≡ rs
   code-done i rs h =
       let n = length-take-le (k .count) (k .instructions) fits in
-      ap (λ (l : List Instruction). executeAll s l rs) (drop-of-length-le (codeOf k) {i = i} (omega arith)) ∙ execute-nil s rs
+      ap (λ (l : List Instruction). executeAll s l rs) (drop-of-length-le (instructionsOf k) {i = i} (omega arith)) ∙ execute-nil s rs
 
 -- ---- what admission gives of a block that is run
 
@@ -143,7 +143,7 @@ next-below t a n l rs m h = leave-below (getD t 0 0) (getD t 1 0) (blockAt t n .
 -- ---- one step
 
 run-is : (w : ℕ) (k : Block) (rs : List ℕ)
-    → runBlock w k rs ≡ record { place = leave (k .ending) (executeAll w (codeOf k) rs); registers = executeAll w (codeOf k) rs }
+    → runBlock w k rs ≡ record { place = leave (k .ending) (executeAll w (instructionsOf k) rs); registers = executeAll w (instructionsOf k) rs }
 unfolding runBlock
 run-is w k rs = refl
 
@@ -151,7 +151,7 @@ run-is w k rs = refl
 pub turn : (t marks : List ℕ) (ws : Supply) (budget : ℕ) (c₀ : Configuration) (count k n : ℕ) (rs after : List ℕ) (p : Place)
     → n < getD t 0 0 → count < budget → ws .lasts k ≡ true
     → Reached (markedRunner (graphOf t) marks) ws budget c₀ count (standsAt k n rs)
-    → after ≡ executeAll (ws .word k) (codeOf (blockAt t n)) rs
+    → after ≡ executeAll (ws .word k) (instructionsOf (blockAt t n)) rs
     → p ≡ leave (blockAt t n .ending) after
     → Reached (markedRunner (graphOf t) marks) ws budget c₀ (count + 1) (moved (λ b. eqb (getD marks b 0) 1) k (record { place = p; registers = after }))
 turn t marks ws budget c₀ count k n rs after p l h w r e q =
@@ -175,60 +175,60 @@ moved-stands r ws budget c₀ count k x rs m h =
 -- ---- refusals
 
 module _ (t rs : List ℕ) (start : ℕ) where
-  pub short-table : length t < graphWords → refusal t rs start ≡ 7
-  unfolding refusal
+  pub short-table : length t < graphWords → graphRefusal t rs start ≡ 7
+  unfolding graphRefusal
   short-table h = rw (lt-ltb (length t) graphWords h)
 
   module _ (l : graphWords ≤ length t) where
-    pub short-registers : length rs < maxRegisters → refusal t rs start ≡ 7
-    unfolding refusal
+    pub short-registers : length rs < maxRegisters → graphRefusal t rs start ≡ 7
+    unfolding graphRefusal
     short-registers h = rw (le-ltb (length t) graphWords l, lt-ltb (length rs) maxRegisters h)
 
     module _ (m : maxRegisters ≤ length rs) where
-      pub not-admitted : admitted t ≡ false → refusal t rs start ≡ 6
-      unfolding refusal
+      pub not-admitted : admittedGraph t ≡ false → graphRefusal t rs start ≡ 6
+      unfolding graphRefusal
       not-admitted h = rw (le-ltb (length t) graphWords l, le-ltb (length rs) maxRegisters m, h)
 
-      module _ (ok : admitted t ≡ true) where
-        pub words-needed : wordless (graphOf t) ≡ false → refusal t rs start ≡ 12
-        unfolding refusal
+      module _ (ok : admittedGraph t ≡ true) where
+        pub words-needed : wordlessGraph (graphOf t) ≡ false → graphRefusal t rs start ≡ 12
+        unfolding graphRefusal
         words-needed h = rw (le-ltb (length t) graphWords l, le-ltb (length rs) maxRegisters m, ok, h)
 
-        module _ (w : wordless (graphOf t) ≡ true) where
-          pub no-start : getD t 0 0 ≤ start → refusal t rs start ≡ 9
-          unfolding refusal
+        module _ (w : wordlessGraph (graphOf t) ≡ true) where
+          pub no-start : getD t 0 0 ≤ start → graphRefusal t rs start ≡ 9
+          unfolding graphRefusal
           no-start h = rw (le-ltb (length t) graphWords l, le-ltb (length rs) maxRegisters m, ok, w, le-ltb start (getD t 0 0) h)
 
-          pub none-refused : start < getD t 0 0 → refusal t rs start ≡ 0
-          unfolding refusal
+          pub none-refused : start < getD t 0 0 → graphRefusal t rs start ≡ 0
+          unfolding graphRefusal
           none-refused h = rw (le-ltb (length t) graphWords l, le-ltb (length rs) maxRegisters m, ok, w, lt-ltb start (getD t 0 0) h)
 
 -- with words
 module _ (t rs : List ℕ) (start : ℕ) (starters : List ℕ) where
-  pub words-short-table : length t < graphWords → wordsRefusal t rs start starters ≡ 7
-  unfolding wordsRefusal
+  pub words-short-table : length t < graphWords → graphWordsRefusal t rs start starters ≡ 7
+  unfolding graphWordsRefusal
   words-short-table h = rw (lt-ltb (length t) graphWords h)
 
   module _ (l : graphWords ≤ length t) where
-    pub words-short-registers : length rs < maxRegisters → wordsRefusal t rs start starters ≡ 7
-    unfolding wordsRefusal
+    pub words-short-registers : length rs < maxRegisters → graphWordsRefusal t rs start starters ≡ 7
+    unfolding graphWordsRefusal
     words-short-registers h = rw (le-ltb (length t) graphWords l, lt-ltb (length rs) maxRegisters h)
 
     module _ (m : maxRegisters ≤ length rs) where
-      pub words-not-admitted : admitted t ≡ false → wordsRefusal t rs start starters ≡ 6
-      unfolding wordsRefusal
+      pub words-not-admitted : admittedGraph t ≡ false → graphWordsRefusal t rs start starters ≡ 6
+      unfolding graphWordsRefusal
       words-not-admitted h = rw (le-ltb (length t) graphWords l, le-ltb (length rs) maxRegisters m, h)
 
-      module _ (ok : admitted t ≡ true) where
-        pub words-no-start : getD t 0 0 ≤ start → wordsRefusal t rs start starters ≡ 9
-        unfolding wordsRefusal
+      module _ (ok : admittedGraph t ≡ true) where
+        pub words-no-start : getD t 0 0 ≤ start → graphWordsRefusal t rs start starters ≡ 9
+        unfolding graphWordsRefusal
         words-no-start h = rw (le-ltb (length t) graphWords l, le-ltb (length rs) maxRegisters m, ok, le-ltb start (getD t 0 0) h)
 
         module _ (h : start < getD t 0 0) where
-          pub words-unfit : startersFit (getD t 0 0) start starters ≡ false → wordsRefusal t rs start starters ≡ 11
-          unfolding wordsRefusal
+          pub words-unfit : startersFit (getD t 0 0) start starters ≡ false → graphWordsRefusal t rs start starters ≡ 11
+          unfolding graphWordsRefusal
           words-unfit f = rw (le-ltb (length t) graphWords l, le-ltb (length rs) maxRegisters m, ok, lt-ltb start (getD t 0 0) h, f)
 
-          pub words-none-refused : startersFit (getD t 0 0) start starters ≡ true → wordsRefusal t rs start starters ≡ 0
-          unfolding wordsRefusal
+          pub words-none-refused : startersFit (getD t 0 0) start starters ≡ true → graphWordsRefusal t rs start starters ≡ 0
+          unfolding graphWordsRefusal
           words-none-refused f = rw (le-ltb (length t) graphWords l, le-ltb (length rs) maxRegisters m, ok, lt-ltb start (getD t 0 0) h, f)

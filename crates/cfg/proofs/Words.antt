@@ -10,15 +10,15 @@ use lib.ListN.{length, getD, take, drop, replicate, length-drop, length-append, 
 use lib.Seq.{drop-cons, take-add, drop-drop, length-take-le}
 use borrow.Author.Tests.{eq-eqb, ne-eqb, lt-leb, le-leb}
 use Rattle.word.specs.declared.Comparison.the-variants.{Eq, Ne, Lt, Ge, Ltu, Geu}
-use Rattle.word.specs.Word.{comparisonAt, codeOf as comparisonCode}
+use Rattle.word.specs.Word.{comparisonAt, comparisonCode}
 use Rattle.runs.specs.Lists.{upFrom, same, every, padded, concatMap}
 use Rattle.runs.proofs.ListLaws.{eqb-sym, same-front, same-append, same-zeros, every-and, every-map, padded-append, take-map-upFrom, drop-map-upFrom}
 use Rattle.cfg.specs.declared.Instruction.{Instruction}
 use Rattle.cfg.specs.declared.Ending.the-variants.{Ite}
 use Rattle.cfg.specs.declared.Block.{Block}
 use Rattle.cfg.specs.Layout.{maxBlocks, maxRegisters, maxInstructions, headWords, instructionWords, codeWords, endingWords, codeOffset, endingOffset, lastOffset, blockWords, allBlockWords, graphWords, blockOffset}
-use Rattle.cfg.specs.Graph.{CFG, unused, codeOf, validInstruction, validEnding, validBlock, validGraph}
-use Rattle.cfg.specs.Table.{instructionWordsOf, endingWordsOf, blockWordsOf, tableOf, instructionAt, endingAt, blockAt, graphOf, admitted}
+use Rattle.cfg.specs.Graph.{CFG, unused, instructionsOf, validInstruction, validEnding, validBlock, validGraph}
+use Rattle.cfg.specs.Table.{instructionWordsOf, endingWordsOf, blockWordsOf, graphTableOf, instructionAt, endingAt, blockAt, graphOf, admittedGraph}
 use Rattle.cfg.specs.Fits.{zeros, endingFits, blockFits}
 use Rattle.cfg.proofs.Lengths.{ending-length, block-length}
 use Rattle.cfg.proofs.Blocks.{count-at, ending-of, ending-goto, ending-ite, ending-halt}
@@ -179,7 +179,7 @@ fits-block b r t n = refl
 
 valid-is : (b r : ℕ) (k : Block)
     → validBlock b r k
-    ≡ leb (k .count) maxInstructions && every (validInstruction r) (codeOf k) && every unused (drop (k .count) (k .instructions)) && validEnding b r (k .ending)
+    ≡ leb (k .count) maxInstructions && every (validInstruction r) (instructionsOf k) && every unused (drop (k .count) (k .instructions)) && validEnding b r (k .ending)
 unfolding validBlock
 valid-is b r k = refl
 
@@ -236,8 +236,8 @@ blocks-words t m k (suc n) h =
 
 -- ---- the whole table
 
-pub admitted-is : (t : List ℕ) → admitted t ≡ validGraph (graphOf t) && same (tableOf (graphOf t)) (take graphWords t)
-unfolding admitted
+pub admitted-is : (t : List ℕ) → admittedGraph t ≡ validGraph (graphOf t) && same (graphTableOf (graphOf t)) (take graphWords t)
+unfolding admittedGraph
 admitted-is t = refl
 
 graph-is : (g : CFG)
@@ -247,8 +247,8 @@ graph-is : (g : CFG)
 unfolding validGraph
 graph-is g = refl
 
-pub table-is : (g : CFG) → tableOf g ≡ length (g .blocks) ∷ g .registers ∷ padded allBlockWords 0 (concatMap blockWordsOf (g .blocks))
-unfolding tableOf
+pub table-is : (g : CFG) → graphTableOf g ≡ length (g .blocks) ∷ g .registers ∷ padded allBlockWords 0 (concatMap blockWordsOf (g .blocks))
+unfolding graphTableOf
 table-is g = refl
 
 -- the head agrees, so the rest decides; m stands for the words after the head
@@ -275,7 +275,7 @@ all-length t k (suc n) =
 
 -- the table's words are those of its graph where each block's are, and the rest is 0
 table-words : (t : List ℕ) → graphWords ≤ length t → getD t 0 0 ≤ maxBlocks
-    → same (tableOf (graphOf t)) (take graphWords t)
+    → same (graphTableOf (graphOf t)) (take graphWords t)
     ≡ every (own t) (upFrom 0 (getD t 0 0)) && zeros t (blockOffset (getD t 0 0)) (allBlockWords - blockWords * getD t 0 0)
 table-words t l h =
     let b = getD t 0 0 in
@@ -285,31 +285,31 @@ table-words t l h =
     let z : 0 + b ≡ b = omega arith in
     let w = blocks-words t (allBlockWords - blockWords * b) 0 b (omega arith) in
     let two = take-word t 0 (suc allBlockWords) (omega arith) ∙ ap (λ (x : List ℕ). b ∷ x) (take-word t 1 allBlockWords (omega arith)) in
-    by-rest allBlockWords b (getD t 1 0) (length (graphOf t .blocks)) (graphOf t .registers) all (concatMap blockWordsOf (graphOf t .blocks)) (take allBlockWords (drop headWords t)) (tableOf (graphOf t)) (take graphWords t) (table-is (graphOf t)) (blocks-length t) (registers-are t) (ap (concatMap blockWordsOf) (blocks-are t)) two (omega arith)
+    by-rest allBlockWords b (getD t 1 0) (length (graphOf t .blocks)) (graphOf t .registers) all (concatMap blockWordsOf (graphOf t .blocks)) (take allBlockWords (drop headWords t)) (graphTableOf (graphOf t)) (take graphWords t) (table-is (graphOf t)) (blocks-length t) (registers-are t) (ap (concatMap blockWordsOf) (blocks-are t)) two (omega arith)
     ∙ ap (λ (k : ℕ). same (all ++ replicate (allBlockWords - k) 0) (take allBlockWords (drop headWords t))) n
     ∙ (rw (e, z) at w)
 
 module _ (t : List ℕ) where
-  by-head : admitted t
+  by-head : admittedGraph t
       ≡ leb 1 (getD t 0 0) && leb (getD t 0 0) maxBlocks && leb 1 (getD t 1 0) && leb (getD t 1 0) maxRegisters
       && every (validBlock (getD t 0 0) (getD t 1 0)) (map (blockAt t) (upFrom 0 (getD t 0 0)))
-      && same (tableOf (graphOf t)) (take graphWords t)
+      && same (graphTableOf (graphOf t)) (take graphWords t)
   by-head = rw (admitted-is t, graph-is (graphOf t), blocks-length t, registers-are t, blocks-are t)
 
-  pub no-block : getD t 0 0 < 1 → admitted t ≡ false
+  pub no-block : getD t 0 0 < 1 → admittedGraph t ≡ false
   no-block h = rw (by-head, lt-leb 1 (getD t 0 0) h)
 
-  pub many-blocks : 1 ≤ getD t 0 0 → maxBlocks < getD t 0 0 → admitted t ≡ false
+  pub many-blocks : 1 ≤ getD t 0 0 → maxBlocks < getD t 0 0 → admittedGraph t ≡ false
   many-blocks h₁ h = rw (by-head, le-leb 1 (getD t 0 0) h₁, lt-leb (getD t 0 0) maxBlocks h)
 
-  pub no-register : 1 ≤ getD t 0 0 → getD t 0 0 ≤ maxBlocks → getD t 1 0 < 1 → admitted t ≡ false
+  pub no-register : 1 ≤ getD t 0 0 → getD t 0 0 ≤ maxBlocks → getD t 1 0 < 1 → admittedGraph t ≡ false
   no-register h₁ h₂ h = rw (by-head, le-leb 1 (getD t 0 0) h₁, le-leb (getD t 0 0) maxBlocks h₂, lt-leb 1 (getD t 1 0) h)
 
-  pub many-registers : 1 ≤ getD t 0 0 → getD t 0 0 ≤ maxBlocks → 1 ≤ getD t 1 0 → maxRegisters < getD t 1 0 → admitted t ≡ false
+  pub many-registers : 1 ≤ getD t 0 0 → getD t 0 0 ≤ maxBlocks → 1 ≤ getD t 1 0 → maxRegisters < getD t 1 0 → admittedGraph t ≡ false
   many-registers h₁ h₂ h₃ h = rw (by-head, le-leb 1 (getD t 0 0) h₁, le-leb (getD t 0 0) maxBlocks h₂, le-leb 1 (getD t 1 0) h₃, lt-leb (getD t 1 0) maxRegisters h)
 
   pub by-blocks : graphWords ≤ length t → 1 ≤ getD t 0 0 → getD t 0 0 ≤ maxBlocks → 1 ≤ getD t 1 0 → getD t 1 0 ≤ maxRegisters
-      → admitted t
+      → admittedGraph t
       ≡ every (blockFits (getD t 0 0) (getD t 1 0) t) (upFrom 0 (getD t 0 0)) && zeros t (blockOffset (getD t 0 0)) (allBlockWords - blockWords * getD t 0 0)
   by-blocks l h₁ h₂ h₃ h₄ =
       let b = getD t 0 0 in

@@ -8,7 +8,7 @@ use Rattle.word.specs.Word.{inCode}
 use Rattle.runs.specs.Lists.{same, every}
 use Rattle.cfg.specs.Layout.{endingWords, blockWords, blockOffset}
 use Rattle.cfg.specs.declared.Instruction.{Instruction}
-use Rattle.cfg.specs.Graph.{codeOf, validEnding, validBlock}
+use Rattle.cfg.specs.Graph.{instructionsOf, validEnding, validBlock}
 use Rattle.cfg.specs.Table.{endingWordsOf, blockWordsOf, endingAt, blockAt}
 
 -- the n words from o on are 0
@@ -31,4 +31,4 @@ passes words i = words || not (eqb (i .code) inCode)
 
 -- and so do the instructions of block n
 abbrev pub blockPasses : Bool → ℕ → ℕ → List ℕ → ℕ → Bool
-blockPasses words b r t n = blockFits b r t n && every (passes words) (codeOf (blockAt t n))
+blockPasses words b r t n = blockFits b r t n && every (passes words) (instructionsOf (blockAt t n))

@@ -29,8 +29,8 @@ abbrev pub blockOf : CFG → ℕ → Block
 blockOf g n = getD (g .blocks) n emptyBlock
 
 -- a block's instructions
-abbrev pub codeOf : Block → List Instruction
-codeOf b = take (b .count) (b .instructions)
+abbrev pub instructionsOf : Block → List Instruction
+instructionsOf b = take (b .count) (b .instructions)
 
 -- successors, true first
 abbrev pub targets : Ending → List ℕ
@@ -69,15 +69,15 @@ leave Halt rs = halted
 
 unfoldable pub runBlock : ℕ → Block → List ℕ → Moved
 unfolding executeAll leave
-runBlock sampled b rs = let after = executeAll sampled (codeOf b) rs in record { place = leave (b .ending) after; registers = after }
+runBlock sampled b rs = let after = executeAll sampled (instructionsOf b) rs in record { place = leave (b .ending) after; registers = after }
 
 -- one step runs the block stood at; each that moves to a starter makes the next arrival
 abbrev pub graphRunner : CFG → List ℕ → Runner
 graphRunner g starters = record { unit = λ sampled n rs. runBlock sampled (blockOf g n) rs; arrives = λ n. mem n starters }
 
 -- no instruction reads the sampled word
-unfoldable pub wordless : CFG → Bool
-wordless g = every (λ b. every (λ i. not (eqb (i .code) inCode)) (codeOf b)) (g .blocks)
+unfoldable pub wordlessGraph : CFG → Bool
+wordlessGraph g = every (λ b. every (λ i. not (eqb (i .code) inCode)) (instructionsOf b)) (g .blocks)
 
 -- ---- which graphs there are
 
@@ -105,7 +105,7 @@ unfoldable pub validBlock : ℕ → ℕ → Block → Bool
 unfolding validInstruction validEnding
 validBlock b r blk =
     leb (blk .count) maxInstructions
-    && every (validInstruction r) (codeOf blk)
+    && every (validInstruction r) (instructionsOf blk)
     && every unused (drop (blk .count) (blk .instructions))
     && validEnding b r (blk .ending)
 

@@ -4,7 +4,7 @@ use mathlib.Core.Bool.{Bool, true, false, _&&_}
 use mathlib.Core.List.{List, [], _∷_, _++_, map}
 use lib.ListN.{length, getD, take}
 use lib.Dec.{eqb}
-use Rattle.word.specs.Word.{choose, comparisonAt, codeOf as comparisonCode}
+use Rattle.word.specs.Word.{choose, comparisonAt, comparisonCode}
 use Rattle.runs.specs.Lists.{upFrom, same, padded, concatMap}
 use Rattle.cfg.specs.declared.Instruction.{Instruction}
 use Rattle.cfg.specs.declared.Condition.{Condition}
@@ -30,9 +30,9 @@ unfoldable pub blockWordsOf : Block → List ℕ
 unfolding concatMap
 blockWordsOf b = b .count ∷ (concatMap instructionWordsOf (b .instructions) ++ (endingWordsOf (b .ending) ++ (0 ∷ [])))
 
-unfoldable pub tableOf : CFG → List ℕ
+unfoldable pub graphTableOf : CFG → List ℕ
 unfolding concatMap blockWordsOf
-tableOf g = length (g .blocks) ∷ g .registers ∷ padded allBlockWords 0 (concatMap blockWordsOf (g .blocks))
+graphTableOf g = length (g .blocks) ∷ g .registers ∷ padded allBlockWords 0 (concatMap blockWordsOf (g .blocks))
 
 -- ---- the graph of a table; what a word that no graph has stands for is of no matter
 
@@ -76,6 +76,6 @@ graphOf t = record { registers = registerCount t; blocks = map (blockAt t) (upFr
 
 -- ---- admitted tables: the first words are those of a valid graph
 -- (that these are the tables that reading makes is proved beside reading)
-unfoldable pub admitted : List ℕ → Bool
-unfolding graphOf tableOf validGraph
-admitted t = validGraph (graphOf t) && same (tableOf (graphOf t)) (take graphWords t)
+unfoldable pub admittedGraph : List ℕ → Bool
+unfolding graphOf graphTableOf validGraph
+admittedGraph t = validGraph (graphOf t) && same (graphTableOf (graphOf t)) (take graphWords t)

@@ -1,7 +1,7 @@
 // Which tables are admitted: the words of a valid graph, and every unused word 0.
 use crate::Block;
 use crate::Ending;
-use crate::Graph;
+use crate::GraphTable;
 use crate::Instruction;
 use crate::decode;
 use word::Code;
@@ -12,12 +12,12 @@ ghost use mathlib.Core.List.{map};
 ghost use Prim.Native.Nat.{_+_, _-_, _≤_, _<_};
 ghost use lib.ListN.{length};
 ghost use lib.Dec.{ltb, eqb};
-ghost use Rattle.word.specs.Word.{choose, arity, codeOf, comparisonAt, sxCode};
+ghost use Rattle.word.specs.Word.{choose, arity, comparisonCode, comparisonAt, sxCode};
 ghost use Rattle.runs.specs.Lists.{upFrom, every};
 ghost use Rattle.cfg.specs.declared.Ending.the-variants.{Ite};
 ghost use Rattle.cfg.specs.Layout.{maxBlocks, maxInstructions, endingWords, blockWords, graphWords};
-ghost use Rattle.cfg.specs.Graph.{wordless, validInstruction, validEnding};
-ghost use Rattle.cfg.specs.Table.{instructionAt, graphOf, admitted};
+ghost use Rattle.cfg.specs.Graph.{wordlessGraph, validInstruction, validEnding};
+ghost use Rattle.cfg.specs.Table.{instructionAt, graphOf, admittedGraph};
 ghost use Rattle.cfg.specs.Fits.{zeros, endingFits, passes, blockPasses};
 
 // The words from `from` up to `to` are 0.
@@ -125,8 +125,8 @@ fn goto_fits(c: u32, a: u32, b: u32, t: u32, f: u32, blocks: u32) -> bool
 }
 
 // An ite's.
-fn ite_fits(head: Graph, c: u32, a: u32, b: u32, t: u32, f: u32) -> bool
-    ensures { λ r. ⌜ r ≡ (eqb (codeOf (comparisonAt c)) c && validEnding (head .blocks) (head .registers) (Ite (record { comparison = comparisonAt c; a = a; b = b }) t f)) ⌝ }
+fn ite_fits(head: GraphTable, c: u32, a: u32, b: u32, t: u32, f: u32) -> bool
+    ensures { λ r. ⌜ r ≡ (eqb (comparisonCode (comparisonAt c)) c && validEnding (head .blocks) (head .registers) (Ite (record { comparison = comparisonAt c; a = a; b = b }) t f)) ⌝ }
 {
     if c < Comparison::FIRST {
         return false;
@@ -165,7 +165,7 @@ fn halt_fits(c: u32, a: u32, b: u32, t: u32, f: u32) -> bool
     f == 0
 }
 
-fn ending_fits(table: &[u32], at: usize, head: Graph) -> bool
+fn ending_fits(table: &[u32], at: usize, head: GraphTable) -> bool
     requires { ⌜ at + endingWords ≤ length (now table) ⌝ }
     ensures { λ r. ⌜ r ≡ endingFits (head .blocks) (head .registers) (now (table .entry)) at ⌝ }
 {
@@ -183,11 +183,11 @@ fn ending_fits(table: &[u32], at: usize, head: Graph) -> bool
     }
 }
 
-fn block_fits(table: &[u32], n: usize, head: Graph, words: bool) -> bool
+fn block_fits(table: &[u32], n: usize, head: GraphTable, words: bool) -> bool
     requires { ⌜ (n < maxBlocks) × (graphWords ≤ length (now table)) ⌝ }
     ensures { λ r. ⌜ r ≡ blockPasses words (head .blocks) (head .registers) (now (table .entry)) n ⌝ }
 {
-    let start = Graph::HEAD + Block::WORDS * n;
+    let start = GraphTable::HEAD + Block::WORDS * n;
     let used = table[start] as usize;
     if Block::INSTRUCTIONS < used {
         return false;
@@ -208,7 +208,7 @@ fn block_fits(table: &[u32], n: usize, head: Graph, words: bool) -> bool
     table[start + Block::LAST] == 0
 }
 
-fn blocks_fit(table: &[u32], head: Graph, words: bool) -> bool
+fn blocks_fit(table: &[u32], head: GraphTable, words: bool) -> bool
     requires { ⌜ (head .blocks ≤ maxBlocks) × (graphWords ≤ length (now table)) ⌝ }
     ensures { λ r. ⌜ r ≡ every (blockPasses words (head .blocks) (head .registers) (now (table .entry))) (upFrom 0 (head .blocks)) ⌝ }
 {
@@ -226,7 +226,7 @@ fn blocks_fit(table: &[u32], head: Graph, words: bool) -> bool
 // The table's words are those of a valid graph, and code 20 is among them only where words are given: one pass looks at both.
 pub fn passes_with(table: &[u32], words: bool) -> bool
     requires { ⌜ graphWords ≤ length (now table) ⌝ }
-    ensures { λ r. ⌜ r ≡ (admitted (now (table .entry)) && (words || wordless (graphOf (now (table .entry))))) ⌝ }
+    ensures { λ r. ⌜ r ≡ (admittedGraph (now (table .entry)) && (words || wordlessGraph (graphOf (now (table .entry))))) ⌝ }
 {
     let head = decode::head_of(table);
     let blocks = head.blocks as usize;
@@ -234,25 +234,29 @@ pub fn passes_with(table: &[u32], words: bool) -> bool
     if blocks < 1 {
         return false;
     }
-    if Graph::BLOCKS < blocks {
+    if GraphTable::BLOCKS < blocks {
         return false;
     }
     if registers < 1 {
         return false;
     }
-    if Graph::REGISTERS < registers {
+    if GraphTable::REGISTERS < registers {
         return false;
     }
     if !blocks_fit(table, head, words) {
         return false;
     }
-    all_zero(table, Graph::HEAD + Block::WORDS * blocks, Graph::WORDS)
+    all_zero(
+        table,
+        GraphTable::HEAD + Block::WORDS * blocks,
+        GraphTable::WORDS,
+    )
 }
 
 // The table's words are those of a valid graph.
 pub fn is_admitted(table: &[u32]) -> bool
     requires { ⌜ graphWords ≤ length (now table) ⌝ }
-    ensures { λ r. ⌜ r ≡ admitted (now (table .entry)) ⌝ }
+    ensures { λ r. ⌜ r ≡ admittedGraph (now (table .entry)) ⌝ }
 {
     passes_with(table, true)
 }

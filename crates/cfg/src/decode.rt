@@ -2,7 +2,7 @@
 use crate::Block;
 use crate::Condition;
 use crate::Ending;
-use crate::Graph;
+use crate::GraphTable;
 use crate::Instruction;
 use word::Comparison;
 ghost use mathlib.Core.Path.{_≡_};
@@ -12,13 +12,13 @@ ghost use Rattle.cfg.specs.Layout.{maxBlocks, maxInstructions, headWords
 ghost use Rattle.cfg.specs.Table.{blockCount, registerCount, instructionAt, endingAt, blockAt};
 
 // B and R.
-pub fn head_of(table: &[u32]) -> Graph
+pub fn head_of(table: &[u32]) -> GraphTable
     requires { ⌜ headWords ≤ length (now table) ⌝ }
     ensures { λ r. ⌜ (r .blocks ≡ blockCount (now (table .entry))) × (r .registers ≡ registerCount (now (table .entry))) ⌝ }
 {
-    Graph {
-        blocks: table[Graph::BLOCK_COUNT],
-        registers: table[Graph::REGISTER_COUNT],
+    GraphTable {
+        blocks: table[GraphTable::BLOCK_COUNT],
+        registers: table[GraphTable::REGISTER_COUNT],
     }
 }
 
@@ -65,7 +65,7 @@ pub fn block_at(table: &[u32], n: usize) -> Block
     requires { ⌜ (n < maxBlocks) × (graphWords ≤ length (now table)) ⌝ }
     ensures { λ r. ⌜ r ≡ blockAt (now (table .entry)) n ⌝ }
 {
-    let start = Graph::HEAD + Block::WORDS * n;
+    let start = GraphTable::HEAD + Block::WORDS * n;
     let count = table[start];
     let i0 = instruction_at(table, start, 0);
     let i1 = instruction_at(table, start, 1);

@@ -11,12 +11,12 @@ pub mod starters; // starters.rt: the starters of a run with words
 pub mod run; // run.rt: a graph's run with a budget
 
 // The head of a graph table: how many blocks and registers the graph has.
-pub struct Graph {
+pub struct GraphTable {
     pub blocks: u32,
     pub registers: u32,
 }
 
-impl Graph {
+impl GraphTable {
     // Limits, the bytes of a text among them.
     pub const BLOCKS: usize = RunAnswer::PLACES;
 
@@ -30,7 +30,7 @@ impl Graph {
     // Words of the head, and of the whole table.
     pub const HEAD: usize = 2;
 
-    pub const WORDS: usize = Graph::HEAD + Graph::BLOCKS * Block::WORDS;
+    pub const WORDS: usize = GraphTable::HEAD + GraphTable::BLOCKS * Block::WORDS;
 }
 
 // Code, written register, first and second operand; of a set the first operand is the literal.

@@ -1,7 +1,7 @@
 // A graph's run with a budget of blocks, on the words of a list.
 use crate::Block;
 use crate::Ending;
-use crate::Graph;
+use crate::GraphTable;
 use crate::Instruction;
 use crate::admission;
 use crate::decode;
@@ -17,11 +17,11 @@ ghost use lib.Dec.{eqb};
 ghost use lib.ListN.{length, take, drop};
 ghost use Rattle.word.specs.Word.{choose, evalOf, setCode};
 ghost use Rattle.runs.specs.Runs.{startAt, upTo, answer, registersAfter};
-ghost use Rattle.cfg.specs.Graph.{codeOf, executeAll, leave};
+ghost use Rattle.cfg.specs.Graph.{instructionsOf, executeAll, leave};
 ghost use Rattle.cfg.specs.Layout.{maxBlocks, maxRegisters, graphWords};
-ghost use Rattle.cfg.specs.Table.{blockCount, blockAt, graphOf, admitted};
+ghost use Rattle.cfg.specs.Table.{blockCount, blockAt, graphOf, admittedGraph};
 ghost use Rattle.cfg.specs.Steps.{EndingWithin, BlockWithin, placeOf, markedRunner};
-ghost use Rattle.cfg.specs.Run.{runAnswer, runRegisters, wordsAnswer, wordsRegisters};
+ghost use Rattle.cfg.specs.Run.{graphAnswer, graphRegisters, graphWordsAnswer, graphWordsRegisters};
 
 // The block that comes next.
 pub enum Next {
@@ -49,9 +49,9 @@ fn value_of(sampled: u32, i: Instruction, x: u32, y: u32) -> u32
 // of all eight.
 fn execute_all(table: &[u32], n: usize, sampled: u32, file: Registers) -> Registers
     requires { ⌜ (n < maxBlocks) × (graphWords ≤ length (now table)) × BlockWithin (blockAt (now table) n) ⌝ }
-    ensures { λ r. ⌜ r .words ≡ executeAll sampled (codeOf (blockAt (now (table .entry)) n)) (file .words) ⌝ }
+    ensures { λ r. ⌜ r .words ≡ executeAll sampled (instructionsOf (blockAt (now (table .entry)) n)) (file .words) ⌝ }
 {
-    let start = Graph::HEAD + Block::WORDS * n;
+    let start = GraphTable::HEAD + Block::WORDS * n;
     let count = table[start] as usize;
     let mut current = file;
     let mut i = 0;
@@ -99,7 +99,7 @@ fn run_blocks(
     limit: u32,
     marks: &[u32],
 ) -> Ran
-    requires { ⌜ (admitted (now table) ≡ true) × (start < blockCount (now table)) × (length (now marks) ≡ maxBlocks) ⌝ }
+    requires { ⌜ (admittedGraph (now table) ≡ true) × (start < blockCount (now table)) × (length (now marks) ≡ maxBlocks) ⌝ }
     ensures { λ r. ⌜ (r .answer ≡ answer (markedRunner (graphOf (now (table .entry))) (now (marks .entry))) (upTo limit (now (words .entry))) budget (startAt start (file .words))) × (r .registers .words ≡ registersAfter (markedRunner (graphOf (now (table .entry))) (now (marks .entry))) (upTo limit (now (words .entry))) budget (startAt start (file .words))) ⌝ }
 {
     let mut at = start;
@@ -146,7 +146,7 @@ fn run_from(
     limit: u32,
     marks: &[u32],
 ) -> RunAnswer
-    requires { ⌜ (admitted (now table) ≡ true) × (start < blockCount (now table)) × (length (now marks) ≡ maxBlocks) ⌝ }
+    requires { ⌜ (admittedGraph (now table) ≡ true) × (start < blockCount (now table)) × (length (now marks) ≡ maxBlocks) ⌝ }
     requires { ⌜ maxRegisters ≤ length (now registers) ⌝ }
     ensures { λ r. ⌜ r ≡ answer (markedRunner (graphOf (now (table .entry))) (now (marks .entry))) (upTo limit (now (words .entry))) budget (startAt start (take maxRegisters (now (registers .entry)))) ⌝ }
     ensures { λ _. ⌜ now (registers .exit) ≡ registersAfter (markedRunner (graphOf (now (table .entry))) (now (marks .entry))) (upTo limit (now (words .entry))) budget (startAt start (take maxRegisters (now (registers .entry)))) ++ drop maxRegisters (now (registers .entry)) ⌝ }
@@ -159,13 +159,13 @@ fn run_from(
 
 // "Run graph": from a start block, with a budget of blocks. Every arrival has a word, which nothing reads.
 pub fn run_graph(table: &[u32], registers: &mut [u32], start: u32, budget: u32) -> RunAnswer
-    ensures { λ r. ⌜ r ≡ runAnswer (now (table .entry)) (now (registers .entry)) start budget ⌝ }
-    ensures { λ _. ⌜ now (registers .exit) ≡ runRegisters (now (table .entry)) (now (registers .entry)) start budget ⌝ }
+    ensures { λ r. ⌜ r ≡ graphAnswer (now (table .entry)) (now (registers .entry)) start budget ⌝ }
+    ensures { λ _. ⌜ now (registers .exit) ≡ graphRegisters (now (table .entry)) (now (registers .entry)) start budget ⌝ }
 {
-    if table.len() < Graph::WORDS {
+    if table.len() < GraphTable::WORDS {
         return RunAnswer::Refused(7);
     }
-    if registers.len() < Graph::REGISTERS {
+    if registers.len() < GraphTable::REGISTERS {
         return RunAnswer::Refused(7);
     }
     if !admission::passes_with(table, false) {
@@ -175,10 +175,10 @@ pub fn run_graph(table: &[u32], registers: &mut [u32], start: u32, budget: u32) 
         }
         return RunAnswer::Refused(6);
     }
-    if table[Graph::BLOCK_COUNT] <= start {
+    if table[GraphTable::BLOCK_COUNT] <= start {
         return RunAnswer::Refused(9);
     }
-    let marks = [0u32; Graph::BLOCKS];
+    let marks = [0u32; GraphTable::BLOCKS];
     run_from(table, registers, start, budget, &[], budget, &marks)
 }
 
@@ -191,23 +191,23 @@ pub fn run_graph_with_words(
     words: &[u32],
     starters: &[u32],
 ) -> RunAnswer
-    ensures { λ r. ⌜ r ≡ wordsAnswer (now (table .entry)) (now (registers .entry)) start budget (now (words .entry)) (now (starters .entry)) ⌝ }
-    ensures { λ _. ⌜ now (registers .exit) ≡ wordsRegisters (now (table .entry)) (now (registers .entry)) start budget (now (words .entry)) (now (starters .entry)) ⌝ }
+    ensures { λ r. ⌜ r ≡ graphWordsAnswer (now (table .entry)) (now (registers .entry)) start budget (now (words .entry)) (now (starters .entry)) ⌝ }
+    ensures { λ _. ⌜ now (registers .exit) ≡ graphWordsRegisters (now (table .entry)) (now (registers .entry)) start budget (now (words .entry)) (now (starters .entry)) ⌝ }
 {
-    if table.len() < Graph::WORDS {
+    if table.len() < GraphTable::WORDS {
         return RunAnswer::Refused(7);
     }
-    if registers.len() < Graph::REGISTERS {
+    if registers.len() < GraphTable::REGISTERS {
         return RunAnswer::Refused(7);
     }
     if !admission::is_admitted(table) {
         return RunAnswer::Refused(6);
     }
-    let blocks = table[Graph::BLOCK_COUNT];
+    let blocks = table[GraphTable::BLOCK_COUNT];
     if blocks <= start {
         return RunAnswer::Refused(9);
     }
-    let mut marks = [0u32; Graph::BLOCKS];
+    let mut marks = [0u32; GraphTable::BLOCKS];
     if !starters::marked(&mut marks, starters, blocks, start) {
         return RunAnswer::Refused(11);
     }

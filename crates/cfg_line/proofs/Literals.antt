@@ -11,7 +11,7 @@ use Rattle.word.specs.Word.{choose}
 use Rattle.delimited.specs.declared.Field.{Field}
 use Rattle.delimited.specs.declared.Field.the-variants.{Value, Bad}
 use Rattle.delimited.specs.Number.{decimal, atMost}
-use Rattle.delimited.specs.Cursor.{stops, upTo, stopOf, valued, fieldAt}
+use Rattle.delimited.specs.Cursor.{stops, frontField, stopOf, valued, fieldAt}
 use Rattle.delimited.proofs.Numbers.{first-in}
 use Rattle.cfg_line.specs.Number.{literalOf, negative}
 
@@ -30,16 +30,16 @@ negated-valued (some v) n = go (eqb v 0)
 
 pub literal-minus : (end at : ℕ) (s : List ℕ) → fieldAt literalOf end at (45 ∷ s) ≡ negated (fieldAt (atMost (2 ^ 31)) end (at + 1) s)
 unfolding literalOf fieldAt
-literal-minus end at s = first-in literalOf end at s 45 refl ∙ go (eqb (stopOf s) end) (atMost (2 ^ 31) (upTo s))
+literal-minus end at s = first-in literalOf end at s 45 refl ∙ go (eqb (stopOf s) end) (atMost (2 ^ 31) (frontField s))
   where
     go :
         (t : Bool) (o : Option ℕ)
-        → choose t (valued (negative o) (at + 1 + length (upTo s) + 1)) Bad ≡ negated (choose t (valued o (at + 1 + length (upTo s) + 1)) Bad)
-    go true o = negated-valued o (at + 1 + length (upTo s) + 1)
+        → choose t (valued (negative o) (at + 1 + length (frontField s) + 1)) Bad ≡ negated (choose t (valued o (at + 1 + length (frontField s) + 1)) Bad)
+    go true o = negated-valued o (at + 1 + length (frontField s) + 1)
     go false o = refl
 
 pub literal-plain : (end at : ℕ) (s : List ℕ) (b : ℕ) → (b ≡ 45 → ⊥) → fieldAt literalOf end at (b ∷ s) ≡ fieldAt (atMost (2 ^ 31 - 1)) end at (b ∷ s)
-unfolding literalOf fieldAt upTo stopOf atMost decimal
+unfolding literalOf fieldAt frontField stopOf atMost decimal
 literal-plain end at s b n = go (stops b) refl
   where
     go : (t : Bool) → stops b ≡ t → fieldAt literalOf end at (b ∷ s) ≡ fieldAt (atMost (2 ^ 31 - 1)) end at (b ∷ s)

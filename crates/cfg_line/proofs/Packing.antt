@@ -13,7 +13,7 @@ use Rattle.runs.proofs.Tests.{and-true as both}
 use Rattle.runs.specs.Lists.{every, same}
 use Rattle.cfg_line.specs.declared.Name.{Name}
 use Rattle.cfg_line.specs.declared.Name.the-variants.{Packed, Bad}
-use Rattle.delimited.specs.Cursor.{stops, upTo, stopOf}
+use Rattle.delimited.specs.Cursor.{stops, frontField, stopOf}
 use Rattle.cfg_line.specs.Cursor.{byte, packed, nameAt}
 use Rattle.cfg_line.specs.Name.{keywordOf}
 
@@ -65,8 +65,8 @@ found w f bw kw bf kf = ap keywordOf (unpacked w f bw bf (sym kw ∙ kf))
 
 abbrev pub nameFrom : ℕ → ℕ → List ℕ → Name
 nameFrom k at s =
-    choose (stops (stopOf s) && ltb (packed k (upTo s)) (2 ^ 48))
-    (Packed (packed k (upTo s)) (at + length (upTo s) + 1) (stopOf s))
+    choose (stops (stopOf s) && ltb (packed k (frontField s)) (2 ^ 48))
+    (Packed (packed k (frontField s)) (at + length (frontField s) + 1) (stopOf s))
     Bad
 
 pub name-from : (at : ℕ) (s : List ℕ) → nameAt at s ≡ nameFrom 1 at s
@@ -84,23 +84,23 @@ none-stops b m n = rw (ne-eqb b 44 m, ne-eqb b 10 n)
 
 module _ (k at : ℕ) (s : List ℕ) where
   pub name-end : (b : ℕ) → stops b ≡ true → k < 2 ^ 48 → nameFrom k at (b ∷ s) ≡ Packed k (at + 1) b
-  unfolding upTo stopOf packed
+  unfolding frontField stopOf packed
   name-end b h l =
       let z : at + 0 + 1 ≡ at + 1 = omega arith in
       rw (h, h, lt-ltb k (2 ^ 48) l, z)
 
   pub name-more : (b : ℕ) → stops b ≡ false → nameFrom k at (b ∷ s) ≡ nameFrom (k * 256 + b) (at + 1) s
-  unfolding upTo stopOf packed
+  unfolding frontField stopOf packed
   name-more b h =
-      let z : at + suc (length (upTo s)) + 1 ≡ at + 1 + length (upTo s) + 1 = omega arith in
+      let z : at + suc (length (frontField s)) + 1 ≡ at + 1 + length (frontField s) + 1 = omega arith in
       rw (h, z)
 
   pub name-long : (b : ℕ) → stops b ≡ false → 2 ^ 40 ≤ k → nameFrom k at (b ∷ s) ≡ Bad
-  unfolding upTo stopOf packed
+  unfolding frontField stopOf packed
   name-long b h l =
-      let g = packed-grows (k * 256 + b) (upTo s) in
-      rw (h, le-ltb (packed (k * 256 + b) (upTo s)) (2 ^ 48) (omega arith), and-false)
+      let g = packed-grows (k * 256 + b) (frontField s) in
+      rw (h, le-ltb (packed (k * 256 + b) (frontField s)) (2 ^ 48) (omega arith), and-false)
 
   pub name-none : nameFrom k at [] ≡ Bad
-  unfolding upTo stopOf packed
+  unfolding frontField stopOf packed
   name-none = refl

@@ -8,7 +8,7 @@ use Rattle.word.specs.Word.{choose, comparisonAt}
 use Rattle.delimited.specs.declared.Field.{Field}
 use Rattle.delimited.specs.declared.Field.the-variants as field
 use Rattle.delimited.specs.Parts.{Fields}
-use Rattle.delimited.specs.Cursor.{stops, upTo, stopOf, fieldAt, frontLine}
+use Rattle.delimited.specs.Cursor.{stops, frontField, stopOf, fieldAt, frontLine}
 use Rattle.cfg_line.specs.declared.Name.{Name}
 use Rattle.cfg_line.specs.declared.Name.the-variants as name
 use Rattle.cfg_line.specs.declared.Comparing.{Comparing}
@@ -29,10 +29,10 @@ packed k [] = k
 packed k (b ∷ bs) = packed (k * 256 + b) bs
 
 unfoldable pub nameAt : ℕ → List ℕ → Name
-unfolding upTo stopOf packed
+unfolding frontField stopOf packed
 nameAt at s =
-    choose (stops (stopOf s) && ltb (packed 1 (upTo s)) (2 ^ 48))
-    (name.Packed (packed 1 (upTo s)) (at + length (upTo s) + 1) (stopOf s))
+    choose (stops (stopOf s) && ltb (packed 1 (frontField s)) (2 ^ 48))
+    (name.Packed (packed 1 (frontField s)) (at + length (frontField s) + 1) (stopOf s))
     name.Bad
 
 abbrev pub compared : Field → Comparing

@@ -12,7 +12,7 @@ use Rattle.cfg_line.specs.declared.Keyword.{Keyword}
 use Rattle.cfg_line.specs.declared.Keyword.the-variants as keyword
 use Rattle.cfg_line.specs.declared.Line.{Line}
 use Rattle.cfg_line.specs.declared.Line.the-variants as line
-use Rattle.cfg_line.specs.Number.{numberOf, literalOf}
+use Rattle.cfg_line.specs.Number.{smallNumber, literalOf}
 use Rattle.cfg_line.specs.Name.{comparisonOf, keywordOf}
 
 -- ---- forms, by a line's fields behind the first
@@ -27,7 +27,7 @@ field read k [] = line.NoForm
 field read k (f ∷ fs) = withValue (read f) (λ v. k v fs)
 
 abbrev pub number : (ℕ → Fields → Line) → Fields → Line
-number k fs = field numberOf k fs
+number k fs = field smallNumber k fs
 
 -- no field more
 abbrev pub end : Line → Fields → Line
@@ -67,6 +67,6 @@ byName [] = line.NoForm
 byName (name ∷ fs) = formOf (keywordOf name) fs
 
 -- a line without its line feed; fields are parted by commas
-unfoldable pub lineOf : List ℕ → Line
+unfoldable pub lineForm : List ℕ → Line
 unfolding splitAt byName
-lineOf l = byName (splitAt 44 l)
+lineForm l = byName (splitAt 44 l)

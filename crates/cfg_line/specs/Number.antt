@@ -7,8 +7,8 @@ use Rattle.word.specs.Word.{choose}
 use Rattle.delimited.specs.Number.{atMost}
 
 -- "Numbers are 0 to 255 without leading zeros"
-abbrev pub numberOf : List ℕ → Option ℕ
-numberOf f = atMost 255 f
+abbrev pub smallNumber : List ℕ → Option ℕ
+smallNumber f = atMost 255 f
 
 -- the word of a value below zero; there is no -0
 abbrev pub negative : Option ℕ → Option ℕ

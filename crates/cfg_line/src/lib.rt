@@ -1,7 +1,7 @@
 // One line of a graph's text: its form. A text is read from front to back, each byte once: a function takes the text and
 // where it stands, and hands back where the next field or line begins.
 use cfg::Condition;
-use cfg::Graph;
+use cfg::GraphTable;
 use cfg::Instruction;
 use delimited::Field;
 use word::Code;
@@ -13,7 +13,7 @@ ghost use Prim.Native.Nat.{ℕ, _^_};
 ghost use lib.ListN.{drop};
 ghost use Rattle.runs.specs.Lists.{every};
 ghost use Rattle.delimited.specs.Cursor.{stops, fieldAt};
-ghost use Rattle.cfg_line.specs.Number.{numberOf, literalOf};
+ghost use Rattle.cfg_line.specs.Number.{smallNumber, literalOf};
 ghost use Rattle.cfg_line.specs.Name.{keywordOf};
 ghost use Rattle.cfg_line.specs.Form.{formOf, byName};
 ghost use Rattle.cfg_line.specs.Cursor.{byte, packed, nameAt, comparingAt, noForm, parsedAt};
@@ -67,7 +67,7 @@ enum Comparing {
 // 0 to 255.
 fn number(text: &[u8], at: usize, end: u8) -> Field
     requires { ⌜ stops end ≡ true ⌝ }
-    ensures { λ r. ⌜ r ≡ fieldAt numberOf end at (drop at (now (text .entry))) ⌝ }
+    ensures { λ r. ⌜ r ≡ fieldAt smallNumber end at (drop at (now (text .entry))) ⌝ }
 {
     delimited::at_most(text, at, end, 255)
 }
@@ -184,13 +184,13 @@ fn graph_form(text: &[u8], at: usize) -> Parsed
     if b < 1 {
         return no_form();
     }
-    if Graph::BLOCKS < (b as usize) {
+    if GraphTable::BLOCKS < (b as usize) {
         return no_form();
     }
     if r < 1 {
         return no_form();
     }
-    if Graph::REGISTERS < (r as usize) {
+    if GraphTable::REGISTERS < (r as usize) {
         return no_form();
     }
     Parsed {

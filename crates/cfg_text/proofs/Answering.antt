@@ -9,16 +9,16 @@ use lib.Dec.{ltb}
 use borrow.Author.Tests.{lt-ltb, le-ltb}
 use Rattle.cfg.specs.Layout.{graphWords}
 use Rattle.cfg.specs.Graph.{CFG}
-use Rattle.cfg.specs.Table.{tableOf}
+use Rattle.cfg.specs.Table.{graphTableOf}
 use Rattle.cfg_text.specs.declared.ReadAnswer.{ReadAnswer}
 use Rattle.cfg_text.specs.declared.ReadAnswer.the-variants.{Refused, Read}
 use Rattle.cfg_text.specs.Walk.{Reading, refused, read, start}
-use Rattle.cfg_text.specs.Read.{maxText, readText, reading, answerOf, wordsOf, readAnswer, readWords}
-use Rattle.cfg_text.specs.Place.{Answers, written, filled}
+use Rattle.cfg_text.specs.Read.{maxText, readText, reading, readingAnswer, wordsAfter, readAnswer, readWords}
+use Rattle.cfg_text.specs.ReadSteps.{AnswersReading, wordsSoFar, filled}
 
 -- a table of zeros
 pub blank : replicate graphWords 0 ≡ filled start
-unfolding filled written
+unfolding filled wordsSoFar
 blank = refl
 
 module _ (text table : List ℕ) where
@@ -39,10 +39,10 @@ module _ (text table : List ℕ) where
       unfolding reading
       both-pass = rw (le-ltb maxText (length text) short, le-ltb (length table) graphWords long)
 
-      module _ (r : ReadAnswer) (w : List ℕ) (a : Answers r w (readText text)) where
+      module _ (r : ReadAnswer) (w : List ℕ) (a : AnswersReading r w (readText text)) where
         pub answered : r ≡ readAnswer text table
         unfolding readAnswer
-        answered = a .answer ∙ ap answerOf (sym both-pass)
+        answered = a .answer ∙ ap readingAnswer (sym both-pass)
 
         read-not-refused : {X : Type 0} {k n : ℕ} → Read ≡ Refused k n → X
         read-not-refused e =
@@ -52,17 +52,17 @@ module _ (text table : List ℕ) where
         -- on a refusal the table stays
         pub stays : (r ≡ Read → ⊥) → table ≡ readWords text table
         unfolding readWords
-        stays h = by (readText text) refl ∙ ap (λ (x : Reading). wordsOf x table) (sym both-pass)
+        stays h = by (readText text) refl ∙ ap (λ (x : Reading). wordsAfter x table) (sym both-pass)
           where
-            by : (x : Reading) → readText text ≡ x → table ≡ wordsOf (readText text) table
-            by (refused k n) e = ap (λ (y : Reading). wordsOf y table) (sym e)
-            by (read g) e = absurd (h (a .answer ∙ ap answerOf e))
+            by : (x : Reading) → readText text ≡ x → table ≡ wordsAfter (readText text) table
+            by (refused k n) e = ap (λ (y : Reading). wordsAfter y table) (sym e)
+            by (read g) e = absurd (h (a .answer ∙ ap readingAnswer e))
 
         -- a graph's words go in front
         pub written-over : (v : List ℕ) → r ≡ Read → v ≡ w ++ drop graphWords table → v ≡ readWords text table
         unfolding readWords
-        written-over v h e = e ∙ by (readText text) refl ∙ ap (λ (x : Reading). wordsOf x table) (sym both-pass)
+        written-over v h e = e ∙ by (readText text) refl ∙ ap (λ (x : Reading). wordsAfter x table) (sym both-pass)
           where
-            by : (x : Reading) → readText text ≡ x → w ++ drop graphWords table ≡ wordsOf (readText text) table
-            by (refused k n) q = read-not-refused (sym h ∙ a .answer ∙ ap answerOf q)
-            by (read g) q = ap (λ (l : List ℕ). l ++ drop graphWords table) (a .words g q) ∙ ap (λ (y : Reading). wordsOf y table) (sym q)
+            by : (x : Reading) → readText text ≡ x → w ++ drop graphWords table ≡ wordsAfter (readText text) table
+            by (refused k n) q = read-not-refused (sym h ∙ a .answer ∙ ap readingAnswer q)
+            by (read g) q = ap (λ (l : List ℕ). l ++ drop graphWords table) (a .words g q) ∙ ap (λ (y : Reading). wordsAfter y table) (sym q)

@@ -1,7 +1,7 @@
 pub mod Examples
 pub mod Padding
 pub mod Stores
-pub mod Turns
+pub mod LineSteps
 pub mod Otherwise
 pub mod Steps
 pub mod Reached

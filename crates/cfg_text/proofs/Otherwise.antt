@@ -16,7 +16,7 @@ use Rattle.cfg_text.specs.declared.Due.the-variants as due
 use Rattle.cfg_text.specs.declared.ReadAnswer.{ReadAnswer}
 use Rattle.cfg_text.specs.declared.ReadAnswer.the-variants.{Refused, Read}
 use Rattle.cfg_text.specs.Walk.{start, between, refuse, next}
-use Rattle.cfg_text.specs.Place.{misfitOf}
+use Rattle.cfg_text.specs.ReadSteps.{misfitOf}
 
 abbrev formed : List ℕ
 formed = 0 ∷ 1 ∷ 2 ∷ 3 ∷ 4 ∷ 5 ∷ []

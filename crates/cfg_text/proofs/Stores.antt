@@ -13,12 +13,12 @@ use Rattle.runs.specs.Lists.{every, padded, concatMap}
 use Rattle.cfg.proofs.Lengths.{code-length, block-length}
 use Rattle.cfg.specs.Layout.{maxInstructions, instructionWords, codeWords, codeOffset, endingOffset, blockWords, allBlockWords, graphWords, blockOffset}
 use Rattle.cfg.specs.Graph.{noInstruction}
-use Rattle.cfg.specs.Table.{instructionWordsOf, endingWordsOf, blockWordsOf, tableOf}
+use Rattle.cfg.specs.Table.{instructionWordsOf, endingWordsOf, blockWordsOf, graphTableOf}
 use Rattle.cfg.specs.declared.Instruction.{Instruction}
 use Rattle.cfg.specs.declared.Ending.{Ending}
 use Rattle.cfg.specs.declared.Block.{Block}
 use Rattle.cfg_text.specs.Walk.{Progress, start, between, inside, blockWith}
-use Rattle.cfg_text.specs.Place.{written, filled, sized, endedAt}
+use Rattle.cfg_text.specs.ReadSteps.{wordsSoFar, filled, sized, endedAt}
 use Rattle.cfg_text.proofs.Padding.{padded-more, set-at, sets-next}
 
 -- ---- how many words
@@ -55,25 +55,25 @@ code-eight is h =
 -- ---- what each line stores
 
 module _ (b r : ℕ) (bs : List Block) (whole : every sized bs ≡ true) where
-  behind-blocks : length (written (between b r bs)) ≡ blockOffset (length bs)
-  unfolding written
+  behind-blocks : length (wordsSoFar (between b r bs)) ≡ blockOffset (length bs)
+  unfolding wordsSoFar
   behind-blocks =
       let h = blocks-length bs whole in
       omega arith
 
-  behind-code : (is : List Instruction) → length (written (inside b r bs is)) ≡ blockOffset (length bs) + codeOffset + instructionWords * length is
-  unfolding written
+  behind-code : (is : List Instruction) → length (wordsSoFar (inside b r bs is)) ≡ blockOffset (length bs) + codeOffset + instructionWords * length is
+  unfolding wordsSoFar
   behind-code is =
       let h = blocks-length bs whole in
       let c = code-length is in
       simp length-append (omega arith)
 
   pub opened-words : filled (between b r bs) ≡ filled (inside b r bs [])
-  unfolding filled written concatMap
+  unfolding filled wordsSoFar concatMap
   opened-words = sym (padded-more 0 graphWords 1 (b ∷ r ∷ concatMap blockWordsOf bs))
 
-  joined-written : (is : List Instruction) (i : Instruction) → written (inside b r bs is) ++ instructionWordsOf i ≡ written (inside b r bs (is ++ (i ∷ [])))
-  unfolding written
+  joined-written : (is : List Instruction) (i : Instruction) → wordsSoFar (inside b r bs is) ++ instructionWordsOf i ≡ wordsSoFar (inside b r bs (is ++ (i ∷ [])))
+  unfolding wordsSoFar
   joined-written is i =
       ap (λ (l : List ℕ). b ∷ r ∷ l) (append-assoc (concatMap blockWordsOf bs) (0 ∷ concatMap instructionWordsOf is) (instructionWordsOf i))
       ∙ ap (λ (l : List ℕ). b ∷ r ∷ (concatMap blockWordsOf bs ++ (0 ∷ l))) (sym (concat-one instructionWordsOf is i))
@@ -83,7 +83,7 @@ module _ (b r : ℕ) (bs : List Block) (whole : every sized bs ≡ true) where
   unfolding filled
   joined-words is i =
       ap (λ (n : ℕ). sets (filled (inside b r bs is)) n (instructionWordsOf i)) (sym (behind-code is))
-      ∙ sets-next 0 graphWords (written (inside b r bs is)) (instructionWordsOf i)
+      ∙ sets-next 0 graphWords (wordsSoFar (inside b r bs is)) (instructionWordsOf i)
       ∙ ap (padded graphWords 0) (joined-written is i)
 
   -- the count, and the instructions filled up with zeros
@@ -98,7 +98,7 @@ module _ (b r : ℕ) (bs : List Block) (whole : every sized bs ≡ true) where
       simp (length-append, length-replicate) (omega arith)
 
   counted-words : (is : List Instruction) → set (filled (inside b r bs is)) (blockOffset (length bs)) (length is) ≡ padded graphWords 0 (counted is)
-  unfolding filled written counted
+  unfolding filled wordsSoFar counted
   counted-words is =
       let x = b ∷ r ∷ concatMap blockWordsOf bs in
       let c = concatMap instructionWordsOf is in
@@ -109,8 +109,8 @@ module _ (b r : ℕ) (bs : List Block) (whole : every sized bs ≡ true) where
       ∙ ap (padded graphWords 0) (append-assoc x (length is ∷ c) z)
 
   closed-written : (is : List Instruction) (e : Ending) → length is ≤ maxInstructions
-      → (counted is ++ endingWordsOf e) ++ (0 ∷ []) ≡ written (between b r (bs ++ (blockWith is e ∷ [])))
-  unfolding written counted blockWordsOf
+      → (counted is ++ endingWordsOf e) ++ (0 ∷ []) ≡ wordsSoFar (between b r (bs ++ (blockWith is e ∷ [])))
+  unfolding wordsSoFar counted blockWordsOf
   closed-written is e few =
       let w = concatMap blockWordsOf bs in
       let c = concatMap instructionWordsOf is ++ replicate (codeWords - instructionWords * length is) 0 in
@@ -129,14 +129,14 @@ module _ (b r : ℕ) (bs : List Block) (whole : every sized bs ≡ true) where
       ∙ sym (padded-more 0 graphWords 1 (counted is ++ endingWordsOf e))
       ∙ ap (padded graphWords 0) (closed-written is e few)
 
-  pub table-words : length bs ≡ b → filled (between b r bs) ≡ tableOf (record { registers = r; blocks = bs })
-  unfolding filled written tableOf
+  pub table-words : length bs ≡ b → filled (between b r bs) ≡ graphTableOf (record { registers = r; blocks = bs })
+  unfolding filled wordsSoFar graphTableOf
   table-words e = ap (λ (n : ℕ). n ∷ r ∷ padded allBlockWords 0 (concatMap blockWordsOf bs)) (sym e)
 
 pub graph-words : (b r : ℕ) → set (set (filled start) 0 b) 1 r ≡ filled (between b r [])
-unfolding filled written concatMap
+unfolding filled wordsSoFar concatMap
 graph-words b r = sets-next 0 graphWords [] (b ∷ r ∷ [])
 
 pub filled-length : (q : Progress) → length (filled q) ≡ graphWords
 unfolding filled
-filled-length q = length-padded graphWords 0 (written q)
+filled-length q = length-padded graphWords 0 (wordsSoFar q)

@@ -1,3 +1,3 @@
 pub mod Walk
 pub mod Read
-pub mod Place
+pub mod ReadSteps

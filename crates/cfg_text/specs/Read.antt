@@ -7,7 +7,7 @@ use lib.ListN.{length, drop}
 use lib.Dec.{ltb}
 use Rattle.word.specs.Word.{choose}
 use Rattle.cfg.specs.Layout.{graphWords}
-use Rattle.cfg.specs.Table.{tableOf}
+use Rattle.cfg.specs.Table.{graphTableOf}
 use Rattle.delimited.specs.Parts.{splitAt}
 use Rattle.cfg_text.specs.declared.ReadAnswer.{ReadAnswer}
 use Rattle.cfg_text.specs.declared.ReadAnswer.the-variants.{Refused, Read}
@@ -29,22 +29,22 @@ reading text table =
     choose (ltb maxText (length text)) (refused 1 0)
     (choose (ltb (length table) graphWords) (refused 7 0) (readText text))
 
-abbrev pub answerOf : Reading → ReadAnswer
-answerOf (refused k n) = Refused k n
-answerOf (read g) = Read
+abbrev pub readingAnswer : Reading → ReadAnswer
+readingAnswer (refused k n) = Refused k n
+readingAnswer (read g) = Read
 
 -- the graph's words in front; on a refusal what the table held
-abbrev pub wordsOf : Reading → List ℕ → List ℕ
-wordsOf (refused k n) table = table
-wordsOf (read g) table = tableOf g ++ drop graphWords table
+abbrev pub wordsAfter : Reading → List ℕ → List ℕ
+wordsAfter (refused k n) table = table
+wordsAfter (read g) table = graphTableOf g ++ drop graphWords table
 
 unfoldable pub readAnswer : List ℕ → List ℕ → ReadAnswer
 unfolding reading
-readAnswer text table = answerOf (reading text table)
+readAnswer text table = readingAnswer (reading text table)
 
 unfoldable pub readWords : List ℕ → List ℕ → List ℕ
-unfolding reading tableOf
-readWords text table = wordsOf (reading text table) table
+unfolding reading graphTableOf
+readWords text table = wordsAfter (reading text table) table
 
 -- the table's first words are such as reading makes: some text is accepted and leaves this very table
 pub record Readable (table : List ℕ) : Type 0 where
@@ -53,10 +53,10 @@ pub record Readable (table : List ℕ) : Type 0 where
   pub made : readWords text table ≡ table
 
 -- paper 01's fields of an answer: number and line
-abbrev pub numberOf : ReadAnswer → ℕ
-numberOf (Refused k n) = k
-numberOf Read = 0
+abbrev pub readNumber : ReadAnswer → ℕ
+readNumber (Refused k n) = k
+readNumber Read = 0
 
-abbrev pub lineOf : ReadAnswer → ℕ
-lineOf (Refused k n) = n
-lineOf Read = 0
+abbrev pub readLine : ReadAnswer → ℕ
+readLine (Refused k n) = n
+readLine Read = 0

@@ -15,7 +15,7 @@ use Rattle.cfg.specs.declared.Ending.the-variants as ending
 use Rattle.cfg.specs.declared.Block.{Block}
 use Rattle.cfg_line.specs.declared.Line.{Line}
 use Rattle.cfg_line.specs.declared.Line.the-variants as line
-use Rattle.cfg_line.specs.Form.{lineOf}
+use Rattle.cfg_line.specs.Form.{lineForm}
 
 -- where reading stands: the graph line is due; B, R and the blocks read so far, the next block line being due while there are
 -- fewer than B; in a block, with its instructions so far
@@ -112,7 +112,7 @@ proceed (refuse m) n k = refused m n
 -- the lines from number n on; the last part is what stands behind the last line feed, and 2 if there is anything
 -- (a text has at least that part: the first clause is never used)
 unfoldable pub walk : Progress → ℕ → List (List ℕ) → Reading
-unfolding next lineOf
+unfolding next lineForm
 walk p n [] = refused 3 n
 walk p n (l ∷ []) = choose (eqb (length l) 0) (finish p n) (refused 2 n)
-walk p n (l ∷ m ∷ ms) = proceed (next p (lineOf l)) n (λ q. walk q (suc n) (m ∷ ms))
+walk p n (l ∷ m ∷ ms) = proceed (next p (lineForm l)) n (λ q. walk q (suc n) (m ∷ ms))

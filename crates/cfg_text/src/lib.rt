@@ -2,7 +2,7 @@
 use cfg::Block;
 use cfg::Condition;
 use cfg::Ending;
-use cfg::Graph;
+use cfg::GraphTable;
 use cfg::Instruction;
 use cfg_line::Line;
 use word::Code;
@@ -11,12 +11,12 @@ ghost use mathlib.Core.List.{List, [], _∷_};
 ghost use Prim.Native.Nat.{ℕ, _+_, _*_, _≤_, _<_};
 ghost use lib.ListN.{length, take, set};
 ghost use lib.Seq.{sets};
-ghost use Rattle.word.specs.Word.{codeOf};
+ghost use Rattle.word.specs.Word.{comparisonCode};
 ghost use Rattle.cfg.specs.Layout.{maxBlocks, maxInstructions, headWords, graphWords, blockOffset, codeOffset, endingOffset, instructionWords};
 ghost use Rattle.cfg.specs.Table.{instructionWordsOf};
 ghost use Rattle.cfg_text.specs.Walk.{Progress, start, between, inside, allBelow, instructionRegisters, next, finish};
 ghost use Rattle.cfg_text.specs.Read.{maxText, readText, readAnswer, readWords};
-ghost use Rattle.cfg_text.specs.Place.{filled, Stands, Agrees, Answers, misfitOf, endedAt, afterBlock, Room};
+ghost use Rattle.cfg_text.specs.ReadSteps.{filled, StandsAfter, Advances, AnswersReading, misfitOf, endedAt, afterBlock, Room};
 
 pub enum ReadAnswer {
     // The refusal's number and line; the line is 0 where no line is at fault.
@@ -33,7 +33,7 @@ pub enum Due {
 }
 
 // What is due, B and R, how many blocks are read, how many instructions of the block.
-pub struct Place {
+pub struct ReadState {
     pub due: Due,
     pub blocks: u32,
     pub registers: u32,
@@ -42,7 +42,7 @@ pub struct Place {
 }
 
 pub enum Moved {
-    Go(Place),
+    Go(ReadState),
     // The refusal, with its line.
     Stop(ReadAnswer),
 }
@@ -93,14 +93,14 @@ fn registers_below(i: Instruction, registers: u32) -> bool
 // Line n, where the graph line is due.
 fn at_start(l: Line, words: &mut [u32], n: u32) -> Moved
     requires { ⌜ headWords ≤ length (now words) ⌝ }
-    ensures { λ m. ⌜ (now (words .entry) ≡ filled start → Agrees n m (now (words .exit)) (next start l)) ⌝ }
+    ensures { λ m. ⌜ (now (words .entry) ≡ filled start → Advances n m (now (words .exit)) (next start l)) ⌝ }
 {
     let Line::Graph(b, r) = l else {
         return Moved::Stop(ReadAnswer::Refused(misfit(l), n));
     };
-    words[Graph::BLOCK_COUNT] = b;
-    words[Graph::REGISTER_COUNT] = r;
-    Moved::Go(Place {
+    words[GraphTable::BLOCK_COUNT] = b;
+    words[GraphTable::REGISTER_COUNT] = r;
+    Moved::Go(ReadState {
         due: Due::Block,
         blocks: b,
         registers: r,
@@ -110,8 +110,8 @@ fn at_start(l: Line, words: &mut [u32], n: u32) -> Moved
 }
 
 // Line n, where a block line is due, that of the next block below B.
-fn at_block(p: Place, l: Line, n: u32) -> Moved
-    ensures { λ m. ⌜ ((b r : ℕ) (bs : List Block) (w : List ℕ) → Stands p w (between b r bs) → Agrees n m w (next (between b r bs) l)) ⌝ }
+fn at_block(p: ReadState, l: Line, n: u32) -> Moved
+    ensures { λ m. ⌜ ((b r : ℕ) (bs : List Block) (w : List ℕ) → StandsAfter p w (between b r bs) → Advances n m w (next (between b r bs) l)) ⌝ }
 {
     let Line::Block(k) = l else {
         return Moved::Stop(ReadAnswer::Refused(misfit(l), n));
@@ -122,7 +122,7 @@ fn at_block(p: Place, l: Line, n: u32) -> Moved
     if p.blocks <= k {
         return Moved::Stop(ReadAnswer::Refused(3, n));
     }
-    Moved::Go(Place {
+    Moved::Go(ReadState {
         due: Due::Inside,
         blocks: p.blocks,
         registers: p.registers,
@@ -133,7 +133,7 @@ fn at_block(p: Place, l: Line, n: u32) -> Moved
 
 // The block's count and its ending: kind, comparison, a, b, t, f. The next block line is due.
 fn end_block(
-    p: Place,
+    p: ReadState,
     words: &mut [u32],
     kind: u32,
     c: u32,
@@ -146,13 +146,13 @@ fn end_block(
     ensures { λ m. ⌜ (m ≡ Moved.Go (afterBlock p))
         × (now (words .exit) ≡ endedAt (now (words .entry)) (p .done) (p .count) (kind ∷ c ∷ a ∷ b ∷ t ∷ f ∷ [])) ⌝ }
 {
-    let start = Graph::HEAD + Block::WORDS * (p.done as usize);
+    let start = GraphTable::HEAD + Block::WORDS * (p.done as usize);
     words[start] = p.count;
     let at = start + Block::ENDING;
     put_four(words, at, kind, c, a, b);
     words[at + Ending::TRUE] = t;
     words[at + Ending::FALSE] = f;
-    Moved::Go(Place {
+    Moved::Go(ReadState {
         due: Due::Block,
         blocks: p.blocks,
         registers: p.registers,
@@ -162,20 +162,20 @@ fn end_block(
 }
 
 // An instruction joins the block, which has room for eight.
-fn join(p: Place, i: Instruction, words: &mut [u32], n: u32) -> Moved
+fn join(p: ReadState, i: Instruction, words: &mut [u32], n: u32) -> Moved
     requires { ⌜ (p .done < maxBlocks) × (length (now words) ≡ graphWords) ⌝ }
     ensures { λ m. ⌜ ((b r : ℕ) (bs : List Block) (is : List Instruction)
-        → Stands p (now (words .entry)) (inside b r bs is)
-        → Agrees n m (now (words .exit)) (next (inside b r bs is) (Line.Instruction i))) ⌝ }
+        → StandsAfter p (now (words .entry)) (inside b r bs is)
+        → Advances n m (now (words .exit)) (next (inside b r bs is) (Line.Instruction i))) ⌝ }
 {
     if Block::INSTRUCTIONS <= (p.count as usize) {
         return Moved::Stop(ReadAnswer::Refused(3, n));
     }
     if registers_below(i, p.registers) {
-        let start = Graph::HEAD + Block::WORDS * (p.done as usize);
+        let start = GraphTable::HEAD + Block::WORDS * (p.done as usize);
         let at = start + Block::CODE + Instruction::WORDS * (p.count as usize);
         put_four(words, at, i.code, i.d, i.a, i.b);
-        return Moved::Go(Place {
+        return Moved::Go(ReadState {
             due: Due::Inside,
             blocks: p.blocks,
             registers: p.registers,
@@ -186,11 +186,11 @@ fn join(p: Place, i: Instruction, words: &mut [u32], n: u32) -> Moved
     Moved::Stop(ReadAnswer::Refused(4, n))
 }
 
-fn goto(p: Place, t: u32, words: &mut [u32], n: u32) -> Moved
+fn goto(p: ReadState, t: u32, words: &mut [u32], n: u32) -> Moved
     requires { ⌜ (p .done < maxBlocks) × (length (now words) ≡ graphWords) ⌝ }
     ensures { λ m. ⌜ ((b r : ℕ) (bs : List Block) (is : List Instruction)
-        → Stands p (now (words .entry)) (inside b r bs is)
-        → Agrees n m (now (words .exit)) (next (inside b r bs is) (Line.Goto t))) ⌝ }
+        → StandsAfter p (now (words .entry)) (inside b r bs is)
+        → Advances n m (now (words .exit)) (next (inside b r bs is) (Line.Goto t))) ⌝ }
 {
     if p.blocks <= t {
         return Moved::Stop(ReadAnswer::Refused(5, n));
@@ -199,11 +199,11 @@ fn goto(p: Place, t: u32, words: &mut [u32], n: u32) -> Moved
 }
 
 // Its registers, then its targets.
-fn ite(p: Place, c: Condition, t: u32, f: u32, words: &mut [u32], n: u32) -> Moved
+fn ite(p: ReadState, c: Condition, t: u32, f: u32, words: &mut [u32], n: u32) -> Moved
     requires { ⌜ (p .done < maxBlocks) × (length (now words) ≡ graphWords) ⌝ }
     ensures { λ m. ⌜ ((b r : ℕ) (bs : List Block) (is : List Instruction)
-        → Stands p (now (words .entry)) (inside b r bs is)
-        → Agrees n m (now (words .exit)) (next (inside b r bs is) (Line.Ite c t f))) ⌝ }
+        → StandsAfter p (now (words .entry)) (inside b r bs is)
+        → Advances n m (now (words .exit)) (next (inside b r bs is) (Line.Ite c t f))) ⌝ }
 {
     if p.registers <= c.a {
         return Moved::Stop(ReadAnswer::Refused(4, n));
@@ -222,11 +222,11 @@ fn ite(p: Place, c: Condition, t: u32, f: u32, words: &mut [u32], n: u32) -> Mov
 }
 
 // Line n, where an instruction or an ending is due.
-fn in_block(p: Place, l: Line, words: &mut [u32], n: u32) -> Moved
+fn in_block(p: ReadState, l: Line, words: &mut [u32], n: u32) -> Moved
     requires { ⌜ (p .done < maxBlocks) × (length (now words) ≡ graphWords) ⌝ }
     ensures { λ m. ⌜ ((b r : ℕ) (bs : List Block) (is : List Instruction)
-        → Stands p (now (words .entry)) (inside b r bs is)
-        → Agrees n m (now (words .exit)) (next (inside b r bs is) l)) ⌝ }
+        → StandsAfter p (now (words .entry)) (inside b r bs is)
+        → Advances n m (now (words .exit)) (next (inside b r bs is) l)) ⌝ }
 {
     match l {
         Line::Instruction(i) => join(p, i, words, n),
@@ -240,9 +240,9 @@ fn in_block(p: Place, l: Line, words: &mut [u32], n: u32) -> Moved
 }
 
 // Line n, where it is due.
-fn step(p: Place, l: Line, words: &mut [u32], n: u32) -> Moved
+fn step(p: ReadState, l: Line, words: &mut [u32], n: u32) -> Moved
     requires { ⌜ Room p (now words) ⌝ }
-    ensures { λ m. ⌜ ((q : Progress) → Stands p (now (words .entry)) q → Agrees n m (now (words .exit)) (next q l)) ⌝ }
+    ensures { λ m. ⌜ ((q : Progress) → StandsAfter p (now (words .entry)) q → Advances n m (now (words .exit)) (next q l)) ⌝ }
 {
     let due = p.due;
     match due {
@@ -253,8 +253,8 @@ fn step(p: Place, l: Line, words: &mut [u32], n: u32) -> Moved
 }
 
 // The text has ended before line n.
-fn at_end(p: Place, n: u32) -> ReadAnswer
-    ensures { λ r. ⌜ ((q : Progress) (w : List ℕ) → Stands p w q → Answers r w (finish q n)) ⌝ }
+fn at_end(p: ReadState, n: u32) -> ReadAnswer
+    ensures { λ r. ⌜ ((q : Progress) (w : List ℕ) → StandsAfter p w q → AnswersReading r w (finish q n)) ⌝ }
 {
     let due = p.due;
     let Due::Block = due else {
@@ -269,9 +269,9 @@ fn at_end(p: Place, n: u32) -> ReadAnswer
 // The lines in order, each stored.
 fn read_lines(text: &[u8], words: &mut [u32]) -> ReadAnswer
     requires { ⌜ (length (now text) ≤ maxText) × (now words ≡ filled start) ⌝ }
-    ensures { λ r. ⌜ Answers r (now (words .exit)) (readText (now (text .entry))) ⌝ }
+    ensures { λ r. ⌜ AnswersReading r (now (words .exit)) (readText (now (text .entry))) ⌝ }
 {
-    let mut p = Place {
+    let mut p = ReadState {
         due: Due::Graph,
         blocks: 0,
         registers: 0,
@@ -303,13 +303,13 @@ pub fn read_text(text: &[u8], table: &mut [u32]) -> ReadAnswer
     ensures answer { λ r. ⌜ r ≡ readAnswer (now (text .entry)) (now (table .entry)) ⌝ }
     ensures words { λ r. ⌜ now (table .exit) ≡ readWords (now (text .entry)) (now (table .entry)) ⌝ }
 {
-    if Graph::TEXT < text.len() {
+    if GraphTable::TEXT < text.len() {
         return ReadAnswer::Refused(1, 0);
     }
-    if table.len() < Graph::WORDS {
+    if table.len() < GraphTable::WORDS {
         return ReadAnswer::Refused(7, 0);
     }
-    let mut words = [0u32; Graph::WORDS];
+    let mut words = [0u32; GraphTable::WORDS];
     let answer = read_lines(text, &mut words);
     let ReadAnswer::Read = answer else {
         return answer;

@@ -14,15 +14,15 @@ use Rattle.word.specs.Word.{choose, arity}
 use Rattle.runs.specs.Lists.{every, padded}
 use Rattle.runs.proofs.ListLaws.{and-left, and-right, and-both, length-padded, every-snoc}
 use Rattle.cfg.specs.Layout.{maxBlocks, maxRegisters, maxInstructions}
-use Rattle.cfg.specs.Graph.{CFG, noInstruction, codeOf, targets, instructionCode, validInstruction, validEnding, unused, validBlock, validGraph}
+use Rattle.cfg.specs.Graph.{CFG, noInstruction, instructionsOf, targets, instructionCode, validInstruction, validEnding, unused, validBlock, validGraph}
 use Rattle.cfg.specs.declared.Instruction.{Instruction}
 use Rattle.cfg.specs.declared.Ending.{Ending}
 use Rattle.cfg.specs.declared.Ending.the-variants as ending
 use Rattle.cfg.specs.declared.Block.{Block}
 use Rattle.cfg_line.specs.declared.Line.{Line}
 use Rattle.cfg_line.specs.declared.Line.the-variants as line
-use Rattle.cfg_line.specs.Form.{lineOf}
-use Rattle.cfg_text.proofs.Turns.{chosen}
+use Rattle.cfg_line.specs.Form.{lineForm}
+use Rattle.cfg_text.proofs.LineSteps.{chosen}
 use Rattle.cfg_text.specs.Walk.{Progress, start, between, inside, Next, go, refuse, refused, read, allBelow, instructionRegisters, endingRegisters, opened, joined, blockWith, closed, next, finish, proceed, walk}
 use Rattle.cfg_write.specs.Write.{endingLine, blockLines, linesFrom, linesOf}
 use Rattle.cfg_write.proofs.NameLaws.{KnownCode, Shape, literal, nothing, one, two, shape}
@@ -133,7 +133,7 @@ ending-from b r (ending.Ite c t f) h k =
 ending-from b r ending.Halt h k = refl
 
 module _ (is : List Instruction) (e : Ending) (few : length is ≤ maxInstructions) where
-  code-back : codeOf (blockWith is e) ≡ is
+  code-back : instructionsOf (blockWith is e) ≡ is
   code-back = take-padded noInstruction maxInstructions is few
 
   block-from :
@@ -142,7 +142,7 @@ module _ (is : List Instruction) (e : Ending) (few : length is ≤ maxInstructio
   unfolding validBlock
   block-from b r v h k =
       let k₁ = leb (length is) maxInstructions in
-      let k₂ = every (validInstruction r) (codeOf (blockWith is e)) in
+      let k₂ = every (validInstruction r) (instructionsOf (blockWith is e)) in
       let k₃ = every unused (drop (length is) (padded maxInstructions noInstruction is)) in
       and-both (k₁ && k₂ && k₃) (validEnding b r e)
       (and-both (k₁ && k₂) k₃
@@ -152,7 +152,7 @@ module _ (is : List Instruction) (e : Ending) (few : length is ≤ maxInstructio
 
   proper-from : every word is ≡ true → proper (blockWith is e) ≡ true
   proper-from w =
-      and-both (eqb (length (blockWith is e .instructions)) maxInstructions) (every word (codeOf (blockWith is e)))
+      and-both (eqb (length (blockWith is e .instructions)) maxInstructions) (every word (instructionsOf (blockWith is e)))
       (eq-eqb (length (blockWith is e .instructions)) maxInstructions (length-padded maxInstructions noInstruction is))
       (rw code-back w)
 
@@ -320,7 +320,7 @@ finish-back (between b r bs) n g l h e z = by (eqb (length bs) b) refl e
     by false t x = refused-read 3 n g x
 
 -- a line that led on has a form
-formed-line : (p q : Progress) (s : List ℕ) → next p (lineOf s) ≡ go q → LineWritten s (lineOf s)
+formed-line : (p q : Progress) (s : List ℕ) → next p (lineForm s) ≡ go q → LineWritten s (lineForm s)
 unfolding next
 formed-line p q s e = line-written s (λ n. refuse-go 2 q (sym (ap (next p) n) ∙ e))
 
@@ -332,21 +332,21 @@ walk-back p n (l ∷ []) g h e = by (eqb (length l) 0) refl e
     by : (t : Bool) → eqb (length l) 0 ≡ t → choose t (finish p n) (refused 2 n) ≡ read g → Accepted g (soFar p) (l ∷ [])
     by true t x = finish-back p n g l h x (no-bytes l t)
     by false t x = refused-read 2 n g x
-walk-back p n (l ∷ m ∷ ms) g h e = by (next p (lineOf l)) refl (λ q. walk-back q (suc n) (m ∷ ms) g) e
+walk-back p n (l ∷ m ∷ ms) g h e = by (next p (lineForm l)) refl (λ q. walk-back q (suc n) (m ∷ ms) g) e
   where
     by :
-        (x : Next) → next p (lineOf l) ≡ x
+        (x : Next) → next p (lineForm l) ≡ x
         → ((q : Progress) → Known q → walk q (suc n) (m ∷ ms) ≡ read g → Accepted g (soFar q) (m ∷ ms))
         → proceed x n (λ q. walk q (suc n) (m ∷ ms)) ≡ read g → Accepted g (soFar p) (l ∷ m ∷ ms)
     by (refuse k) t ih x = refused-read k n g x
     by (go q) t ih x =
         let w = formed-line p q l t in
-        let s = step-back p (lineOf l) q (w .formed) h t in
+        let s = step-back p (lineForm l) q (w .formed) h t in
         let a = ih q (s .known) x in
         record {
-          rest = lineOf l ∷ a .rest;
+          rest = lineForm l ∷ a .rest;
           text = ap₂ (λ (k : List ℕ) (ks : List (List ℕ)). k ∷ ks) (w .text) (a .text);
-          lines = a .lines ∙ (ap (λ (ls : List Line). ls ++ a .rest) (s .lines) ∙ append-assoc (soFar p) (lineOf l ∷ []) (a .rest));
+          lines = a .lines ∙ (ap (λ (ls : List Line). ls ++ a .rest) (s .lines) ∙ append-assoc (soFar p) (lineForm l ∷ []) (a .rest));
           valid = a .valid;
           properly = a .properly;
         }

@@ -16,10 +16,10 @@ use Rattle.cfg.proofs.Words.{admitted-is}
 use Rattle.cfg.specs.Layout.{maxInstructions, graphWords, blockOffset}
 use Rattle.cfg.specs.declared.Instruction.{Instruction}
 use Rattle.cfg.specs.Graph.{CFG, validGraph}
-use Rattle.cfg.specs.Table.{tableOf, instructionAt, blockAt, graphOf, admitted}
+use Rattle.cfg.specs.Table.{graphTableOf, instructionAt, blockAt, graphOf, admittedGraph}
 use Rattle.cfg.proofs.Admitted.{valid-graph, admitted-halves}
 use Rattle.cfg_text.specs.Walk.{Reading, refused, read}
-use Rattle.cfg_text.specs.Read.{maxText, readText, reading, answerOf, wordsOf, readAnswer, readWords}
+use Rattle.cfg_text.specs.Read.{maxText, readText, reading, readingAnswer, wordsAfter, readAnswer, readWords}
 use Rattle.cfg_text.specs.declared.ReadAnswer.the-variants.{Refused, Read}
 use Rattle.cfg_write.specs.Write.{textOf, bytesAfter, writeAnswer, writeBytes}
 use Rattle.cfg_write.specs.declared.WriteAnswer.the-variants as write
@@ -54,24 +54,24 @@ table-proper t h = every-of proper (blockAt t) at (upFrom 0 (getD t 0 0))
     at n = every-taken (λ (i : Instruction). ltb (i .a) (2 ^ 32)) (instructionAt t (blockOffset n)) (literal (blockOffset n)) (getD t (blockOffset n) 0) (upFrom 0 maxInstructions)
 
 -- an admitted table's graph
-pub admitted-whole : (t : List ℕ) → allWords t ≡ true → admitted t ≡ true → Whole (graphOf t)
+pub admitted-whole : (t : List ℕ) → allWords t ≡ true → admittedGraph t ≡ true → Whole (graphOf t)
 admitted-whole t h a = record { valid = admitted-halves t a .0; properly = table-proper t h }
 
 -- a table that begins with a graph's words
 module _ (g : CFG) (s : List ℕ) (w : Whole g) where
-  pub begins-graph : graphOf (tableOf g ++ s) ≡ g
+  pub begins-graph : graphOf (graphTableOf g ++ s) ≡ g
   begins-graph = table-read g s (w .properly) (valid-graph g (w .valid) .fewBlocks)
 
-  pub begins-words : take graphWords (tableOf g ++ s) ≡ tableOf g
-  begins-words = take-at (tableOf g) s graphWords (table-length g)
+  pub begins-words : take graphWords (graphTableOf g ++ s) ≡ graphTableOf g
+  begins-words = take-at (graphTableOf g) s graphWords (table-length g)
 
-  pub begins-long : graphWords ≤ length (tableOf g ++ s)
-  begins-long = let n = table-length g in let e = length-append (tableOf g) s in omega arith
+  pub begins-long : graphWords ≤ length (graphTableOf g ++ s)
+  begins-long = let n = table-length g in let e = length-append (graphTableOf g) s in omega arith
 
-  pub begins-admitted : admitted (tableOf g ++ s) ≡ true
+  pub begins-admitted : admittedGraph (graphTableOf g ++ s) ≡ true
   begins-admitted =
-      admitted-is (tableOf g ++ s)
-      ∙ rw (begins-graph, begins-words) (and-both (validGraph g) (same (tableOf g) (tableOf g)) (w .valid) (same-refl (tableOf g)))
+      admitted-is (graphTableOf g ++ s)
+      ∙ rw (begins-graph, begins-words) (and-both (validGraph g) (same (graphTableOf g) (graphTableOf g)) (w .valid) (same-refl (graphTableOf g)))
 
 -- ---- reading's answer
 
@@ -96,7 +96,7 @@ took-of text table h = by (ltb maxText (length text)) refl (ltb (length table) g
   where
     by :
         (p : Bool) → ltb maxText (length text) ≡ p → (q : Bool) → ltb (length table) graphWords ≡ q → (x : Reading) → readText text ≡ x
-        → answerOf (choose p (refused 1 0) (choose q (refused 7 0) x)) ≡ Read → Took text table
+        → readingAnswer (choose p (refused 1 0) (choose q (refused 7 0) x)) ≡ Read → Took text table
     by true e q d x c h = not-refused 1 0 h
     by false e true d x c h = not-refused 7 0 h
     by false e false d (refused k n) c h = not-refused k n h
@@ -106,11 +106,11 @@ took-of text table h = by (ltb maxText (length text)) refl (ltb (length table) g
 module _ (text table : List ℕ) (g : CFG) (short : length text ≤ maxText) (long : graphWords ≤ length table) (e : readText text ≡ read g) where
   pub answer-read : readAnswer text table ≡ Read
   unfolding readAnswer
-  answer-read = ap answerOf (reading-is text table short long ∙ e)
+  answer-read = ap readingAnswer (reading-is text table short long ∙ e)
 
-  pub words-are : readWords text table ≡ tableOf g ++ drop graphWords table
+  pub words-are : readWords text table ≡ graphTableOf g ++ drop graphWords table
   unfolding readWords
-  words-are = ap (λ (r : Reading). wordsOf r table) (reading-is text table short long ∙ e)
+  words-are = ap (λ (r : Reading). wordsAfter r table) (reading-is text table short long ∙ e)
 
 -- ---- writing's answer
 
@@ -118,7 +118,7 @@ pub answer-is :
     (table out : List ℕ)
     → writeAnswer table out
     ≡ choose (ltb (length table) graphWords) (write.Refused 7 0)
-    (choose (not (admitted table)) (write.Refused 6 0)
+    (choose (not (admittedGraph table)) (write.Refused 6 0)
     (choose (ltb (length out) (length (textOf (graphOf table)))) (write.Refused 8 (length (textOf (graphOf table)))) (write.Written (length (textOf (graphOf table))))))
 unfolding writeAnswer
 answer-is table out = refl
@@ -128,17 +128,17 @@ unfolding writeBytes
 bytes-are table out = refl
 
 module _ (g : CFG) (s out : List ℕ) (w : Whole g) (room : length (textOf g) ≤ length out) where
-  pub answer-written : writeAnswer (tableOf g ++ s) out ≡ write.Written (length (textOf g))
+  pub answer-written : writeAnswer (graphTableOf g ++ s) out ≡ write.Written (length (textOf g))
   answer-written =
-      answer-is (tableOf g ++ s) out
-      ∙ rw (le-ltb (length (tableOf g ++ s)) graphWords (begins-long g s w), begins-admitted g s w, begins-graph g s w, le-ltb (length out) (length (textOf g)) room)
+      answer-is (graphTableOf g ++ s) out
+      ∙ rw (le-ltb (length (graphTableOf g ++ s)) graphWords (begins-long g s w), begins-admitted g s w, begins-graph g s w, le-ltb (length out) (length (textOf g)) room)
 
-  pub bytes-written : writeBytes (tableOf g ++ s) out ≡ textOf g ++ drop (length (textOf g)) out
-  bytes-written = bytes-are (tableOf g ++ s) out ∙ rw (answer-written, begins-graph g s w)
+  pub bytes-written : writeBytes (graphTableOf g ++ s) out ≡ textOf g ++ drop (length (textOf g)) out
+  bytes-written = bytes-are (graphTableOf g ++ s) out ∙ rw (answer-written, begins-graph g s w)
 
 -- what a table that was written holds
 pub record Wrote (table out : List ℕ) (n : ℕ) : Type 0 where
-  pub isAdmitted : admitted table ≡ true
+  pub isAdmitted : admittedGraph table ≡ true
   pub fits : length (textOf (graphOf table)) ≤ length out
   pub size : n ≡ length (textOf (graphOf table))
 
@@ -146,10 +146,10 @@ not-written : {Y : Type 0} (k m n : ℕ) → write.Refused k m ≡ write.Written
 not-written k m n e = absurd (let z : _≡_ {A = ℕ} 0 1 = cc in omega arith)
 
 pub wrote-of : (table out : List ℕ) (n : ℕ) → writeAnswer table out ≡ write.Written n → Wrote table out n
-wrote-of table out n h = by (ltb (length table) graphWords) (admitted table) refl (ltb (length out) (length (textOf (graphOf table)))) refl (sym (answer-is table out) ∙ h)
+wrote-of table out n h = by (ltb (length table) graphWords) (admittedGraph table) refl (ltb (length out) (length (textOf (graphOf table)))) refl (sym (answer-is table out) ∙ h)
   where
     by :
-        (p : Bool) (q : Bool) → admitted table ≡ q → (x : Bool) → ltb (length out) (length (textOf (graphOf table))) ≡ x
+        (p : Bool) (q : Bool) → admittedGraph table ≡ q → (x : Bool) → ltb (length out) (length (textOf (graphOf table))) ≡ x
         → choose p (write.Refused 7 0) (choose (not q) (write.Refused 6 0) (choose x (write.Refused 8 (length (textOf (graphOf table)))) (write.Written (length (textOf (graphOf table)))))) ≡ write.Written n
         → Wrote table out n
     by true q e x d h = not-written 7 0 n h

@@ -8,7 +8,7 @@ use Rattle.runs.specs.Lists.{upFrom, concatMap}
 use Rattle.runs.proofs.ListLaws.{upFrom-cons, upFrom-done, take-map-upFrom, concat-append}
 use Rattle.cfg.proofs.Words.{blocks-are}
 use Rattle.cfg.specs.Layout.{maxInstructions, endingOffset, blockOffset}
-use Rattle.cfg.specs.Graph.{codeOf}
+use Rattle.cfg.specs.Graph.{instructionsOf}
 use Rattle.cfg.specs.Table.{instructionAt, endingAt, blockAt, graphOf}
 use Rattle.cfg.proofs.Blocks.{ending-of}
 use Rattle.cfg.proofs.Admitted.{blocks-length, registers-are}
@@ -33,7 +33,7 @@ module _ (t : List ℕ) (o i n : ℕ) where
 -- ---- one block
 
 code-at : (t : List ℕ) (n : ℕ) → getD t (blockOffset n) 0 ≤ maxInstructions
-    → codeOf (blockAt t n) ≡ map (instructionAt t (blockOffset n)) (upFrom 0 (getD t (blockOffset n) 0))
+    → instructionsOf (blockAt t n) ≡ map (instructionAt t (blockOffset n)) (upFrom 0 (getD t (blockOffset n) 0))
 unfolding blockAt
 code-at t n h = take-map-upFrom (instructionAt t (blockOffset n)) 0 maxInstructions (getD t (blockOffset n) 0) h
 

@@ -23,7 +23,7 @@ use Rattle.cfg_line.specs.declared.Line.the-variants as line
 use Rattle.delimited.specs.Parts.{bytes, Fields}
 use Rattle.delimited.proofs.Written.{number-read, number-written}
 use Rattle.cfg_line.specs.Name.{comparisonOf, keywordOf}
-use Rattle.cfg_line.specs.Number.{numberOf, literalOf}
+use Rattle.cfg_line.specs.Number.{smallNumber, literalOf}
 use Rattle.cfg_line.specs.Form.{field, withValue, number, end, graphLine, instruction, iteLine, formOf, byName}
 use Rattle.cfg_write.specs.Write.{instructionName, comparisonName, literalText, operandsOf, fieldsOf}
 use Rattle.cfg_write.proofs.LiteralLaws.{literal-read, literal-written}
@@ -64,7 +64,7 @@ module _ (read : List ℕ → Option ℕ) (k : ℕ → Fields → Line) where
   field-is f v fs e = rw e
 
 number-is : (k : ℕ → Fields → Line) (n : ℕ) (fs : Fields) → n ≤ 255 → number k (decimalOf n ∷ fs) ≡ k n fs
-number-is k n fs h = field-is numberOf k (decimalOf n) n fs (number-read 255 n h)
+number-is k n fs h = field-is smallNumber k (decimalOf n) n fs (number-read 255 n h)
 
 module _ (i : Instruction) where
   pub operands-set : eqb (i .code) 1 ≡ true → operandsOf i ≡ literalText (i .a) ∷ []
@@ -84,7 +84,7 @@ module _ (i : Instruction) where
   operands-two e w = rw e (take-all (arity (i .code)) (decimalOf (i .a) ∷ decimalOf (i .b) ∷ []) w)
 
 module _ (i : Instruction) (h : FormedInstruction i) where
-  d-read : numberOf (decimalOf (i .d)) ≡ some (i .d)
+  d-read : smallNumber (decimalOf (i .d)) ≡ some (i .d)
   d-read = let w = h .fits .written in number-read 255 (i .d) (omega arith)
 
   pub first-small : eqb (i .code) 1 ≡ false → 0 < arity (i .code) → i .a ≤ 255
@@ -170,7 +170,7 @@ module _ (front : Fields → Fields) where
       → ((v : ℕ) → v ≤ 255 → (fs : Fields) → Back (front (decimalOf v ∷ fs)) (k v fs))
       → (fs : Fields) → Back (front fs) (number k fs)
   number-back k b =
-      field-back numberOf k (λ f v e fs. let w = number-written 255 v f e in rw (w .field) (b v (w .small) fs))
+      field-back smallNumber k (λ f v e fs. let w = number-written 255 v f e in rw (w .field) (b v (w .small) fs))
 
 graph-back : (b r : ℕ) → Back (bytes "graph" ∷ decimalOf b ∷ decimalOf r ∷ []) (graphLine b r)
 unfolding fieldsOf

@@ -12,7 +12,7 @@ use borrow.Author.Tests.{eqb-true, eqb-false, ne-eqb}
 use Rattle.word.proofs.Keys.{NoKey, past}
 use Rattle.word.specs.declared.Comparison.{Comparison}
 use Rattle.word.specs.declared.Comparison.the-variants.{Eq, Ne, Lt, Ge, Ltu, Geu}
-use Rattle.word.specs.Word.{choose, arity, comparisonAt, codeOf as comparisonCode}
+use Rattle.word.specs.Word.{choose, arity, comparisonAt, comparisonCode}
 use Rattle.runs.specs.Lists.{same, every, orElse}
 use Rattle.runs.proofs.ListLaws.{same-eq, every-at}
 use Rattle.cfg_line.specs.declared.Keyword.{Keyword}

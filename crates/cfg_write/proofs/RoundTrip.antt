@@ -7,7 +7,7 @@ use mathlib.Core.List.{List, [], _++_, append-nil}
 use lib.ListN.{length, take, drop, take-append-drop}
 use Rattle.cfg.specs.Layout.{graphWords}
 use Rattle.cfg.specs.Graph.{CFG}
-use Rattle.cfg.specs.Table.{tableOf, graphOf, admitted}
+use Rattle.cfg.specs.Table.{graphTableOf, graphOf, admittedGraph}
 use Rattle.cfg.proofs.Admitted.{admitted-halves, admitted-facts}
 use Rattle.cfg_text.specs.Walk.{read}
 use Rattle.cfg_text.specs.Read.{maxText, readText, readAnswer, readWords, Readable}
@@ -41,12 +41,12 @@ read-text = accepted-text
 -- ---- graphs and tables
 
 -- a graph's words are those of that graph
-pub words-read : (g : CFG) → Whole g → graphOf (tableOf g) ≡ g
-words-read g w = ap graphOf (sym (append-nil (tableOf g))) ∙ begins-graph g [] w
+pub words-read : (g : CFG) → Whole g → graphOf (graphTableOf g) ≡ g
+words-read g w = ap graphOf (sym (append-nil (graphTableOf g))) ∙ begins-graph g [] w
 
 -- ---- the tables that reading makes are the admitted ones
 
-admitted-readable : (t : List ℕ) → allWords t ≡ true → admitted t ≡ true → Readable t
+admitted-readable : (t : List ℕ) → allWords t ≡ true → admittedGraph t ≡ true → Readable t
 admitted-readable t h a =
     let g = graphOf t in
     let w = admitted-whole t h a in
@@ -61,7 +61,7 @@ admitted-readable t h a =
           ∙ (ap (λ (l : List ℕ). l ++ drop graphWords t) (admitted-halves t a .1) ∙ take-append-drop graphWords t);
     }
 
-readable-admitted : (t : List ℕ) → Readable t → admitted t ≡ true
+readable-admitted : (t : List ℕ) → Readable t → admittedGraph t ≡ true
 readable-admitted t r =
     let k = took-of (r .text) t (r .accepted) in
     let g = k .graph in
@@ -70,7 +70,7 @@ readable-admitted t r =
     let b = begins-admitted g (drop graphWords t) w in
     rw (sym e ∙ r .made) at b
 
-pub admitted-iff : (t : List ℕ) → allWords t ≡ true → (admitted t ≡ true) ↔ Readable t
+pub admitted-iff : (t : List ℕ) → allWords t ≡ true → (admittedGraph t ≡ true) ↔ Readable t
 admitted-iff t h = (admitted-readable t h, readable-admitted t)
 
 -- ---- the operations undo each other

@@ -12,7 +12,7 @@ use Rattle.cfg.proofs.Words.{table-is}
 use Rattle.cfg.proofs.Lengths.{code-length, block-length}
 use Rattle.cfg.specs.Layout.{maxBlocks, maxInstructions, instructionWords, codeOffset, endingOffset, blockWords, allBlockWords, blockOffset}
 use Rattle.cfg.specs.Graph.{CFG}
-use Rattle.cfg.specs.Table.{instructionWordsOf, endingWordsOf, blockWordsOf, tableOf, instructionAt, endingAt, blockAt, graphOf}
+use Rattle.cfg.specs.Table.{instructionWordsOf, endingWordsOf, blockWordsOf, graphTableOf, instructionAt, endingAt, blockAt, graphOf}
 use Rattle.cfg.specs.declared.Instruction.{Instruction}
 use Rattle.cfg.specs.declared.Ending.{Ending}
 use Rattle.cfg.specs.declared.Ending.the-variants.{Goto, Ite, Halt}
@@ -136,7 +136,7 @@ graph-padded m t g s e l p =
     (rw (e, padded-append m 0 w l, append-assoc w (replicate (m - length w) 0) s))
     p
 
-pub table-read : (g : CFG) (s : List ℕ) → every proper (g .blocks) ≡ true → length (g .blocks) ≤ maxBlocks → graphOf (tableOf g ++ s) ≡ g
+pub table-read : (g : CFG) (s : List ℕ) → every proper (g .blocks) ≡ true → length (g .blocks) ≤ maxBlocks → graphOf (graphTableOf g ++ s) ≡ g
 table-read g s p l =
     let n = blocks-length (g .blocks) p in
-    graph-padded allBlockWords (tableOf g) g s (table-is g) (omega arith) p
+    graph-padded allBlockWords (graphTableOf g) g s (table-is g) (omega arith) p

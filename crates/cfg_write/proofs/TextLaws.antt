@@ -20,7 +20,7 @@ use Rattle.delimited.proofs.Written.{decimal-digits}
 use Rattle.cfg_line.specs.declared.Line.{Line}
 use Rattle.cfg_line.specs.declared.Line.the-variants as line
 use Rattle.cfg_line.specs.Name.{instructionNames, comparisonNames}
-use Rattle.cfg_line.specs.Form.{byName, lineOf}
+use Rattle.cfg_line.specs.Form.{byName, lineForm}
 use Rattle.cfg_write.specs.Write.{instructionName, comparisonName, literalText, operandsOf, fieldsOf, lineText}
 use Rattle.cfg_write.proofs.LiteralLaws.{number-length, literal-length}
 use Rattle.cfg_write.proofs.NameLaws.{Shape, literal, nothing, one, two, shape, not-one, name-test, comparison-test}
@@ -114,8 +114,8 @@ split-fields : (c : ℕ) (fs : Fields) → 0 < length fs → every (apart c) fs 
 split-fields c [] s h = absurd (omega arith)
 split-fields c (f ∷ fs) s h = split-parted c f fs h
 
-pub line-read : (l : Line) → Formed l → lineOf (lineBytes l) ≡ l
-unfolding lineOf
+pub line-read : (l : Line) → Formed l → lineForm (lineBytes l) ≡ l
+unfolding lineForm
 line-read l h =
     ap byName (split-fields 44 (fieldsOf l) (some-field l h) (all-apart 44 (omega arith) (fieldsOf l) (fields-above l h)))
     ∙ fields-read l h
@@ -124,8 +124,8 @@ pub record LineWritten (s : List ℕ) (l : Line) : Type 0 where
   pub text : s ≡ lineBytes l
   pub formed : Formed l
 
-pub line-written : (s : List ℕ) → (lineOf s ≡ line.NoForm → ⊥) → LineWritten s (lineOf s)
-unfolding lineOf
+pub line-written : (s : List ℕ) → (lineForm s ≡ line.NoForm → ⊥) → LineWritten s (lineForm s)
+unfolding lineForm
 line-written s n =
     let b = fields-back (splitAt 44 s) n in
     record { text = sym (parted-split 44 s) ∙ ap (parted 44) (b .fields); formed = b .formed }

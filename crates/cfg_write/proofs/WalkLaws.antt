@@ -13,7 +13,7 @@ use Rattle.word.specs.Word.{arity}
 use Rattle.runs.specs.Lists.{every, padded}
 use Rattle.runs.proofs.ListLaws.{and-left, and-right, and-both, length-padded, getD-padded}
 use Rattle.cfg.specs.Layout.{maxBlocks, maxRegisters, maxInstructions}
-use Rattle.cfg.specs.Graph.{CFG, noInstruction, codeOf, validInstruction, validEnding, unused, validBlock}
+use Rattle.cfg.specs.Graph.{CFG, noInstruction, instructionsOf, validInstruction, validEnding, unused, validBlock}
 use Rattle.cfg.proofs.Admitted.{ValidInstruction, ValidEnding, ValidBlock, valid-instruction, valid-block, targets-below}
 use Rattle.cfg.specs.declared.Instruction.{Instruction}
 use Rattle.cfg.specs.declared.Ending.{Ending}
@@ -21,7 +21,7 @@ use Rattle.cfg.specs.declared.Ending.the-variants as ending
 use Rattle.cfg.specs.declared.Block.{Block}
 use Rattle.cfg_line.specs.declared.Line.{Line}
 use Rattle.cfg_line.specs.declared.Line.the-variants as line
-use Rattle.cfg_line.specs.Form.{lineOf}
+use Rattle.cfg_line.specs.Form.{lineForm}
 use Rattle.cfg_text.specs.Walk.{Progress, between, inside, go, read, allBelow, instructionRegisters, endingRegisters, blockWith, closed, next, finish, proceed, walk}
 use Rattle.cfg_write.specs.Write.{endingLine, blockLines, linesFrom}
 use Rattle.cfg_write.proofs.Whole.{proper}
@@ -42,7 +42,7 @@ goes-on (step e g) h = step e (goes-on g h)
 -- a line with more behind it
 walk-more :
     (p : Progress) (n : ℕ) (l : List ℕ) (ms : List (List ℕ)) (m : List ℕ)
-    → walk p n (l ∷ (ms ++ (m ∷ []))) ≡ proceed (next p (lineOf l)) n (λ q. walk q (suc n) (ms ++ (m ∷ [])))
+    → walk p n (l ∷ (ms ++ (m ∷ []))) ≡ proceed (next p (lineForm l)) n (λ q. walk q (suc n) (ms ++ (m ∷ [])))
 unfolding walk
 walk-more p n l [] m = refl
 walk-more p n l (k ∷ ms) m = refl
@@ -130,42 +130,42 @@ module _ (b r : ℕ) (bs : List Block) where
 
 -- a block of eight instructions is what its lines make
 module _ (b r : ℕ) (k : Block) (v : ValidBlock b r k) (eight : length (k .instructions) ≡ maxInstructions) where
-  code-length : length (codeOf k) ≡ k .count
+  code-length : length (instructionsOf k) ≡ k .count
   code-length = let h = v .few in length-take-le (k .count) (k .instructions) (omega arith)
 
-  pub made-of-lines : blockWith (codeOf k) (k .ending) ≡ k
+  pub made-of-lines : blockWith (instructionsOf k) (k .ending) ≡ k
   made-of-lines = ap₂ (λ (n : ℕ) (is : List Instruction). block n is) code-length instructions
     where
       block : ℕ → List Instruction → Block
       block n is = record { count = n; instructions = is; ending = k .ending }
 
-      at : (i : ℕ) → i < maxInstructions → Dec (i < k .count) → getD (codeOf k) i noInstruction ≡ getD (k .instructions) i noInstruction
+      at : (i : ℕ) → i < maxInstructions → Dec (i < k .count) → getD (instructionsOf k) i noInstruction ≡ getD (k .instructions) i noInstruction
       at i h (yes l) = getD-take (k .count) (k .instructions) i noInstruction l
       at i h (no l) =
-          List·getD-eq-default (codeOf k) noInstruction {n = i} (rw code-length (omega arith))
+          List·getD-eq-default (instructionsOf k) noInstruction {n = i} (rw code-length (omega arith))
           ∙ sym (v .unusedAt i (omega arith) (omega arith))
 
-      instructions : padded maxInstructions noInstruction (codeOf k) ≡ k .instructions
+      instructions : padded maxInstructions noInstruction (instructionsOf k) ≡ k .instructions
       instructions =
-          ext-getD noInstruction (padded maxInstructions noInstruction (codeOf k)) (k .instructions)
-          (length-padded maxInstructions noInstruction (codeOf k) ∙ sym eight)
-          (λ i h. let n : i < maxInstructions = rw length-padded at h in getD-padded maxInstructions noInstruction (codeOf k) i n ∙ at i n (decLt i (k .count)))
+          ext-getD noInstruction (padded maxInstructions noInstruction (instructionsOf k)) (k .instructions)
+          (length-padded maxInstructions noInstruction (instructionsOf k) ∙ sym eight)
+          (λ i h. let n : i < maxInstructions = rw length-padded at h in getD-padded maxInstructions noInstruction (instructionsOf k) i n ∙ at i n (decLt i (k .count)))
 
-valid-code : (b r : ℕ) (k : Block) → validBlock b r k ≡ true → every (validInstruction r) (codeOf k) ≡ true
+valid-code : (b r : ℕ) (k : Block) → validBlock b r k ≡ true → every (validInstruction r) (instructionsOf k) ≡ true
 unfolding validBlock
 valid-code b r k h =
     let few = leb (k .count) maxInstructions in
-    let code = every (validInstruction r) (codeOf k) in
+    let code = every (validInstruction r) (instructionsOf k) in
     let rest = every unused (drop (k .count) (k .instructions)) in
     and-right few code (and-left (few && code) rest (and-left (few && code && rest) (validEnding b r (k .ending)) h))
 
 pub proper-eight : (k : Block) → proper k ≡ true → length (k .instructions) ≡ maxInstructions
 proper-eight k h =
     eqb-true (length (k .instructions)) maxInstructions
-    (and-left (eqb (length (k .instructions)) maxInstructions) (every (λ (i : Instruction). ltb (i .a) (2 ^ 32)) (codeOf k)) h)
+    (and-left (eqb (length (k .instructions)) maxInstructions) (every (λ (i : Instruction). ltb (i .a) (2 ^ 32)) (instructionsOf k)) h)
 
-proper-words : (k : Block) → proper k ≡ true → every (λ (i : Instruction). ltb (i .a) (2 ^ 32)) (codeOf k) ≡ true
-proper-words k h = and-right (eqb (length (k .instructions)) maxInstructions) (every (λ (i : Instruction). ltb (i .a) (2 ^ 32)) (codeOf k)) h
+proper-words : (k : Block) → proper k ≡ true → every (λ (i : Instruction). ltb (i .a) (2 ^ 32)) (instructionsOf k) ≡ true
+proper-words k h = and-right (eqb (length (k .instructions)) maxInstructions) (every (λ (i : Instruction). ltb (i .a) (2 ^ 32)) (instructionsOf k)) h
 
 block-goes :
     (b r : ℕ) (bs : List Block) (k : Block) → validBlock b r k ≡ true → proper k ≡ true → length bs < b
@@ -175,9 +175,9 @@ block-goes b r bs k h p l =
     let eight = proper-eight k p in
     let n = code-length b r k v eight in
     let few = v .few in
-    let e = ending-goes b r bs (codeOf k) (k .ending) (v .ended) in
+    let e = ending-goes b r bs (instructionsOf k) (k .ending) (v .ended) in
     step (opened-goes b r bs (length bs) refl l)
-    (goes-on (code-goes b r bs [] (codeOf k) (valid-code b r k h) (omega arith))
+    (goes-on (code-goes b r bs [] (instructionsOf k) (valid-code b r k h) (omega arith))
     (step (rw (made-of-lines b r k v eight) at e) stay))
 
 -- ---- all blocks' lines
@@ -226,10 +226,10 @@ formed-lines b r n [] l m h p q = tt
 formed-lines b r n (k ∷ bs) l m h p q =
     let hk = and-left (validBlock b r k) (every (validBlock b r) bs) h in
     let pk = and-left (proper k) (every proper bs) p in
-    let code = formed-code r (codeOf k) m (valid-code b r k hk) (proper-words k pk) in
+    let code = formed-code r (instructionsOf k) m (valid-code b r k hk) (proper-words k pk) in
     let end = formed-ending b r (k .ending) l m (valid-block b r k hk .ended) in
     formed-append (blockLines n k) (linesFrom (suc n) bs)
-    (omega arith, formed-append (map line.Instruction (codeOf k)) (endingLine (k .ending) ∷ []) code (end, tt))
+    (omega arith, formed-append (map line.Instruction (instructionsOf k)) (endingLine (k .ending) ∷ []) code (end, tt))
     (formed-lines b r (suc n) bs l m (and-right (validBlock b r k) (every (validBlock b r) bs) h) (and-right (proper k) (every proper bs) p) (omega arith))
 
 -- ten lines a block are enough
@@ -244,6 +244,6 @@ lines-count b r n (k ∷ bs) h p =
     let code = code-length b r k v (proper-eight k (and-left (proper k) (every proper bs) p)) in
     let i = lines-count b r (suc n) bs (and-right (validBlock b r k) (every (validBlock b r) bs) h) (and-right (proper k) (every proper bs) p) in
     let e = length-append (blockLines n k) (linesFrom (suc n) bs) in
-    let f = length-append (map line.Instruction (codeOf k)) (endingLine (k .ending) ∷ []) in
-    let m = length-map (codeOf k) line.Instruction in
+    let f = length-append (map line.Instruction (instructionsOf k)) (endingLine (k .ending) ∷ []) in
+    let m = length-map (instructionsOf k) line.Instruction in
     omega arith

@@ -11,7 +11,7 @@ use Rattle.runs.proofs.ListLaws.{every-all}
 use Rattle.cfg.specs.Layout.{maxInstructions}
 use Rattle.cfg.specs.declared.Instruction.{Instruction}
 use Rattle.cfg.specs.declared.Block.{Block}
-use Rattle.cfg.specs.Graph.{CFG, codeOf, validGraph}
+use Rattle.cfg.specs.Graph.{CFG, instructionsOf, validGraph}
 
 -- each number is below 2 ^ 32
 abbrev pub allWords : List ℕ → Bool
@@ -23,7 +23,7 @@ all-words t w = every-all (λ (x : ℕ). ltb x (2 ^ 32)) t 0 (λ i l. lt-ltb (ge
 
 -- what a table's block has beside being valid: eight instructions, and words for literals
 abbrev pub proper : Block → Bool
-proper b = eqb (length (b .instructions)) maxInstructions && every (λ (i : Instruction). ltb (i .a) (2 ^ 32)) (codeOf b)
+proper b = eqb (length (b .instructions)) maxInstructions && every (λ (i : Instruction). ltb (i .a) (2 ^ 32)) (instructionsOf b)
 
 pub record Whole (g : CFG) : Type 0 where
   pub valid : validGraph g ≡ true

@@ -8,7 +8,7 @@ use lib.ListN.{length, getD, take, drop}
 use lib.Seq.{sets, sets-eq, take-at}
 use borrow.Author.Tests.{lt-ltb, le-ltb}
 use Rattle.cfg.specs.Layout.{graphWords}
-use Rattle.cfg.specs.Table.{graphOf, admitted}
+use Rattle.cfg.specs.Table.{graphOf, admittedGraph}
 use Rattle.cfg.proofs.Admitted.{admitted-facts}
 use Rattle.cfg_text.specs.Read.{maxText}
 use Rattle.cfg_write.specs.declared.WriteAnswer.{WriteAnswer}
@@ -29,10 +29,10 @@ module _ (table out : List ℕ) where
   pub table-short : length table < graphWords → Wrote table out (Refused 7 0) out
   table-short h = by-answer table out (Refused 7 0) (answer-is table out ∙ rw (lt-ltb (length table) graphWords h))
 
-  pub not-admitted : graphWords ≤ length table → admitted table ≡ false → Wrote table out (Refused 6 0) out
+  pub not-admitted : graphWords ≤ length table → admittedGraph table ≡ false → Wrote table out (Refused 6 0) out
   not-admitted l h = by-answer table out (Refused 6 0) (answer-is table out ∙ rw (le-ltb (length table) graphWords l, h))
 
-  module _ (n : ℕ) (h : admitted table ≡ true) (e : n ≡ 0 + length (textOf (graphOf table))) where
+  module _ (n : ℕ) (h : admittedGraph table ≡ true) (e : n ≡ 0 + length (textOf (graphOf table))) where
     size : length (textOf (graphOf table)) ≡ n
     size = omega arith
 
@@ -61,5 +61,5 @@ module _ (table out : List ℕ) where
 
 -- ---- the text of an admitted table of words fits
 
-pub text-fits : (t : List ℕ) → ((i : ℕ) → getD t i 0 < 2 ^ 32) → admitted t ≡ true → length (textOf (graphOf t)) ≤ maxText
+pub text-fits : (t : List ℕ) → ((i : ℕ) → getD t i 0 < 2 ^ 32) → admittedGraph t ≡ true → length (textOf (graphOf t)) ≤ maxText
 text-fits t w h = graph-short (graphOf t) (admitted-whole t (all-words t w) h)

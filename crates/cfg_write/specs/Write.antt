@@ -5,12 +5,12 @@ use mathlib.Core.List.{List, [], _∷_, _++_, map}
 use lib.ListN.{length, getD, take, drop}
 use lib.Dec.{eqb, ltb}
 use Rattle.word.specs.declared.Comparison.{Comparison}
-use Rattle.word.specs.Word.{choose, arity, codeOf as comparisonCode, setCode, inCode, firstComparison}
+use Rattle.word.specs.Word.{choose, arity, comparisonCode, setCode, inCode, firstComparison}
 use Rattle.runs.specs.Lists.{concatMap}
 use Rattle.decimal.specs.Decimal.{decimalOf}
 use Rattle.cfg.specs.Layout.{graphWords}
-use Rattle.cfg.specs.Graph.{CFG, codeOf}
-use Rattle.cfg.specs.Table.{graphOf, admitted}
+use Rattle.cfg.specs.Graph.{CFG, instructionsOf}
+use Rattle.cfg.specs.Table.{graphOf, admittedGraph}
 use Rattle.cfg.specs.declared.Instruction.{Instruction}
 use Rattle.cfg.specs.declared.Ending.{Ending}
 use Rattle.cfg.specs.declared.Ending.the-variants as ending
@@ -31,7 +31,7 @@ endingLine ending.Halt = line.Halt
 
 -- of block n
 abbrev pub blockLines : ℕ → Block → List Line
-blockLines n b = line.Block n ∷ (map line.Instruction (codeOf b) ++ (endingLine (b .ending) ∷ []))
+blockLines n b = line.Block n ∷ (map line.Instruction (instructionsOf b) ++ (endingLine (b .ending) ∷ []))
 
 -- of the blocks from number n on
 unfoldable pub linesFrom : ℕ → List Block → List Line
@@ -87,11 +87,11 @@ textOf g = concatMap lineText (linesOf g)
 
 -- 7 table short; 6 table not one that reading makes; 8 output short, with the length needed
 unfoldable pub writeAnswer : List ℕ → List ℕ → WriteAnswer
-unfolding admitted textOf graphOf
+unfolding admittedGraph textOf graphOf
 writeAnswer table out =
     let needed = length (textOf (graphOf table)) in
     choose (ltb (length table) graphWords) (Refused 7 0)
-    (choose (not (admitted table)) (Refused 6 0)
+    (choose (not (admittedGraph table)) (Refused 6 0)
     (choose (ltb (length out) needed) (Refused 8 needed) (Written needed)))
 
 -- bytes past the text stay; on a refusal all do
@@ -104,10 +104,10 @@ unfolding writeAnswer textOf graphOf
 writeBytes table out = bytesAfter (writeAnswer table out) (textOf (graphOf table)) out
 
 -- paper 01's fields of an answer: number and length
-abbrev pub numberOf : WriteAnswer → ℕ
-numberOf (Refused k n) = k
-numberOf (Written n) = 0
+abbrev pub writeNumber : WriteAnswer → ℕ
+writeNumber (Refused k n) = k
+writeNumber (Written n) = 0
 
-abbrev pub lengthOf : WriteAnswer → ℕ
-lengthOf (Refused k n) = n
-lengthOf (Written n) = n
+abbrev pub writeLength : WriteAnswer → ℕ
+writeLength (Refused k n) = n
+writeLength (Written n) = n

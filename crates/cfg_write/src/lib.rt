@@ -1,6 +1,6 @@
 // Writing a graph table as text.
 use cfg::Block;
-use cfg::Graph;
+use cfg::GraphTable;
 use cfg::admission;
 use cfg::decode;
 ghost use mathlib.Core.Path.{_≡_};
@@ -10,7 +10,7 @@ ghost use Prim.Native.Nat.{ℕ, _+_, _≤_, _<_, _^_};
 ghost use lib.ListN.{length, getD};
 ghost use Rattle.runs.specs.Lists.{upFrom};
 ghost use Rattle.cfg.specs.Layout.{maxBlocks, maxInstructions, blockWords, graphWords, blockOffset};
-ghost use Rattle.cfg.specs.Table.{blockAt, graphOf, admitted};
+ghost use Rattle.cfg.specs.Table.{blockAt, graphOf, admittedGraph};
 ghost use Rattle.cfg_text.specs.Read.{maxText};
 ghost use Rattle.cfg_write.specs.Put.{Put, codeText, linesText};
 ghost use Rattle.cfg_write.specs.Write.{blockLines, linesFrom, textOf, writeAnswer, writeBytes};
@@ -44,7 +44,7 @@ fn put_block(out: &mut [u8], at: usize, table: &[u32], n: usize) -> usize
     requires { ⌜ (at < 2 ^ 16) × (n < maxBlocks) × (graphWords ≤ length (now table)) × (getD (now table) (blockOffset n) 0 ≤ maxInstructions) ⌝ }
     ensures { λ r. ⌜ Put 640 (now (out .entry)) (now (out .exit)) at (linesText (blockLines n (blockAt (now (table .entry)) n))) r ⌝ }
 {
-    let start = Graph::HEAD + Block::WORDS * n;
+    let start = GraphTable::HEAD + Block::WORDS * n;
     let count = table[start] as usize;
     let opened = line::put_numbered(out, at, b"block", n as u32);
     let coded = put_code(out, opened, table, start, count);
@@ -68,7 +68,7 @@ fn put_blocks(out: &mut [u8], at: usize, table: &[u32], blocks: usize) -> usize
 
 // The whole text of an admitted table.
 fn put_text(out: &mut [u8], table: &[u32]) -> usize
-    requires { ⌜ admitted (now table) ≡ true ⌝ }
+    requires { ⌜ admittedGraph (now table) ≡ true ⌝ }
     ensures { λ r. ⌜ Put 41024 (now (out .entry)) (now (out .exit)) 0 (textOf (graphOf (now (table .entry)))) r ⌝ }
 {
     let head = decode::head_of(table);
@@ -78,7 +78,7 @@ fn put_text(out: &mut [u8], table: &[u32]) -> usize
 
 // An admitted table, by way of a buffer that any text fits in: where the output is short, it stays as it was.
 fn write_by_way_of(text: &mut [u8], table: &[u32], out: &mut [u8]) -> WriteAnswer
-    requires { ⌜ (maxText ≤ length (now text)) × (admitted (now table) ≡ true) ⌝ }
+    requires { ⌜ (maxText ≤ length (now text)) × (admittedGraph (now table) ≡ true) ⌝ }
     ensures { λ r. ⌜ (r ≡ writeAnswer (now (table .entry)) (now (out .entry))) × (now (out .exit) ≡ writeBytes (now (table .entry)) (now (out .entry))) ⌝ }
 {
     let n = put_text(text, table);
@@ -94,12 +94,12 @@ pub fn write_text(table: &[u32], out: &mut [u8]) -> WriteAnswer
     ensures { λ r. ⌜ r ≡ writeAnswer (now (table .entry)) (now (out .entry)) ⌝ }
     ensures { λ _. ⌜ now (out .exit) ≡ writeBytes (now (table .entry)) (now (out .entry)) ⌝ }
 {
-    if table.len() < Graph::WORDS {
+    if table.len() < GraphTable::WORDS {
         return WriteAnswer::Refused(7, 0);
     }
     if !admission::is_admitted(table) {
         return WriteAnswer::Refused(6, 0);
     }
-    let mut text = [0u8; Graph::TEXT];
+    let mut text = [0u8; GraphTable::TEXT];
     write_by_way_of(&mut text, table, out)
 }

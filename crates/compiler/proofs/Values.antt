@@ -9,21 +9,21 @@ use lib.Dec.{ltb}
 use borrow.Author.Tests.{lt-ltb, le-ltb}
 use Rattle.capture.specs.Capture.{compareLines, compareCaptures, comparison}
 use Rattle.cfg.specs.Layout.{graphWords}
-use Rattle.cfg.specs.Table.{graphOf, admitted}
+use Rattle.cfg.specs.Table.{graphOf, admittedGraph}
 use Rattle.cfg_text.specs.Walk.{Reading, refused, read}
-use Rattle.cfg_text.specs.Read.{reading, answerOf, readAnswer, numberOf as readNumber, lineOf as readLine}
-use Rattle.cfg_write.specs.Write.{textOf, writeAnswer, numberOf as writeNumber, lengthOf as writeLength}
+use Rattle.cfg_text.specs.Read.{reading, readingAnswer, readAnswer, readNumber, readLine}
+use Rattle.cfg_write.specs.Write.{textOf, writeAnswer, writeNumber, writeLength}
 use Rattle.cfg_write.specs.declared.WriteAnswer.the-variants.{Refused, Written}
 use Rattle.fsmd.specs.Layout.{machineWords}
 use Rattle.synthesis.specs.Synthesis.{synthesisAnswer}
 use Rattle.word.specs.Word.{choose}
 use Rattle.compiler.specs.Answers.{numberIn, lineIn, ReadValues, WriteValues, synthesisNumber, SynthesisValues, CaptureValues}
 
-number-in : (x : Reading) → readNumber (answerOf x) ≡ numberIn x
+number-in : (x : Reading) → readNumber (readingAnswer x) ≡ numberIn x
 number-in (refused k n) = refl
 number-in (read g) = refl
 
-line-in : (x : Reading) → readLine (answerOf x) ≡ lineIn x
+line-in : (x : Reading) → readLine (readingAnswer x) ≡ lineIn x
 line-in (refused k n) = refl
 line-in (read g) = refl
 

@@ -12,11 +12,11 @@ use Rattle.capture.specs.Capture.{recording, faultOf, entriesOf, shared, compar
 use Rattle.capture.specs.declared.CaptureAnswer.{CaptureAnswer}
 use Rattle.capture.specs.declared.recording.Fault.the-variants as fault
 use Rattle.cfg.specs.Layout.{graphWords}
-use Rattle.cfg.specs.Table.{graphOf, admitted}
+use Rattle.cfg.specs.Table.{graphOf, admittedGraph}
 use Rattle.cfg_text.specs.Walk.{Reading, refused, read}
-use Rattle.cfg_text.specs.Read.{reading, numberOf as readNumber, lineOf as readLine}
+use Rattle.cfg_text.specs.Read.{reading, readNumber, readLine}
 use Rattle.cfg_text.specs.declared.ReadAnswer.{ReadAnswer}
-use Rattle.cfg_write.specs.Write.{textOf, numberOf as writeNumber, lengthOf as writeLength}
+use Rattle.cfg_write.specs.Write.{textOf, writeNumber, writeLength}
 use Rattle.cfg_write.specs.declared.WriteAnswer.{WriteAnswer}
 use Rattle.fsmd.specs.Layout.{machineWords}
 use Rattle.synthesis.specs.declared.SynthesisAnswer.{SynthesisAnswer}
@@ -39,9 +39,9 @@ pub record ReadValues (text table : List ℕ) (a : ReadAnswer) : Type 0 where
 -- with 8, and 0 where there is no text.
 pub record WriteValues (table out : List ℕ) (a : WriteAnswer) : Type 0 where
   pub short : length table < graphWords → (writeNumber a ≡ 7) × (writeLength a ≡ 0)
-  pub other : graphWords ≤ length table → admitted table ≡ false → (writeNumber a ≡ 6) × (writeLength a ≡ 0)
-  pub number : graphWords ≤ length table → admitted table ≡ true → writeNumber a ≡ choose (ltb (length out) (length (textOf (graphOf table)))) 8 0
-  pub needed : graphWords ≤ length table → admitted table ≡ true → writeLength a ≡ length (textOf (graphOf table))
+  pub other : graphWords ≤ length table → admittedGraph table ≡ false → (writeNumber a ≡ 6) × (writeLength a ≡ 0)
+  pub number : graphWords ≤ length table → admittedGraph table ≡ true → writeNumber a ≡ choose (ltb (length out) (length (textOf (graphOf table)))) 8 0
+  pub needed : graphWords ≤ length table → admittedGraph table ≡ true → writeLength a ≡ length (textOf (graphOf table))
 
 -- "Synthesise": 7 a table short; 6 graph table not one that reading makes
 abbrev pub synthesisNumber : SynthesisAnswer → ℕ
@@ -50,8 +50,8 @@ synthesisNumber Made = 0
 
 pub record SynthesisValues (graph machine : List ℕ) (a : SynthesisAnswer) : Type 0 where
   pub short : (length graph < graphWords) ⊎ (length machine < machineWords) → synthesisNumber a ≡ 7
-  pub other : graphWords ≤ length graph → machineWords ≤ length machine → admitted graph ≡ false → synthesisNumber a ≡ 6
-  pub number : graphWords ≤ length graph → machineWords ≤ length machine → admitted graph ≡ true → synthesisNumber a ≡ 0
+  pub other : graphWords ≤ length graph → machineWords ≤ length machine → admittedGraph graph ≡ false → synthesisNumber a ≡ 6
+  pub number : graphWords ≤ length graph → machineWords ≤ length machine → admittedGraph graph ≡ true → synthesisNumber a ≡ 0
 
 -- "The array's capture against the model's": the number, recording and line of a fault, and all else 0
 abbrev pub FaultIs : CaptureAnswer → ℕ → ℕ → ℕ → Type 0

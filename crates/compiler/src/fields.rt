@@ -1,6 +1,6 @@
 // The numbers that an answer stands for: the refusal's number, 0 for success, and its other values.
 ghost use mathlib.Core.Path.{_≡_};
-ghost use Rattle.runs.specs.Runs.{numberOf as runNumber, outcomeOf, countOf, nextOf};
+ghost use Rattle.runs.specs.Runs.{runNumber, runOutcome, runCount, runNext};
 use capture::CaptureAnswer;
 use capture::Difference;
 use cfg_text::ReadAnswer;
@@ -8,8 +8,8 @@ use cfg_write::WriteAnswer;
 use runs::RunAnswer;
 use synthesis::SynthesisAnswer;
 ghost use Rattle.capture.specs.Capture.{refusalNumber, faultyRecording, faultyLine, sharedCount, differsFlag, differingCycle};
-ghost use Rattle.cfg_text.specs.Read.{numberOf as readNumber, lineOf};
-ghost use Rattle.cfg_write.specs.Write.{numberOf as writeNumber, lengthOf};
+ghost use Rattle.cfg_text.specs.Read.{readNumber, readLine};
+ghost use Rattle.cfg_write.specs.Write.{writeNumber, writeLength};
 ghost use Rattle.compiler.specs.Answers.{synthesisNumber};
 
 pub fn read_number(answer: ReadAnswer) -> u32
@@ -22,7 +22,7 @@ pub fn read_number(answer: ReadAnswer) -> u32
 }
 
 pub fn read_line(answer: ReadAnswer) -> u32
-    ensures { λ r. ⌜ r ≡ lineOf answer ⌝ }
+    ensures { λ r. ⌜ r ≡ readLine answer ⌝ }
 {
     match answer {
         ReadAnswer::Refused(_, line) => line,
@@ -40,7 +40,7 @@ pub fn write_number(answer: WriteAnswer) -> u32
 }
 
 pub fn write_length(answer: WriteAnswer) -> u32
-    ensures { λ r. ⌜ r ≡ lengthOf answer ⌝ }
+    ensures { λ r. ⌜ r ≡ writeLength answer ⌝ }
 {
     match answer {
         WriteAnswer::Refused(_, length) => length,
@@ -70,7 +70,7 @@ pub fn run_number(answer: RunAnswer) -> u32
 
 // 0 spent, 1 halted, 2 dry. A run without words is never dry.
 pub fn run_outcome(answer: RunAnswer) -> u32
-    ensures { λ r. ⌜ r ≡ outcomeOf answer ⌝ }
+    ensures { λ r. ⌜ r ≡ runOutcome answer ⌝ }
 {
     match answer {
         RunAnswer::Refused(_) => 0,
@@ -81,7 +81,7 @@ pub fn run_outcome(answer: RunAnswer) -> u32
 }
 
 pub fn run_count(answer: RunAnswer) -> u32
-    ensures { λ r. ⌜ r ≡ countOf answer ⌝ }
+    ensures { λ r. ⌜ r ≡ runCount answer ⌝ }
 {
     match answer {
         RunAnswer::Refused(_) => 0,
@@ -93,7 +93,7 @@ pub fn run_count(answer: RunAnswer) -> u32
 
 // The next block or state; 255 where the run halted.
 pub fn run_next(answer: RunAnswer) -> u32
-    ensures { λ r. ⌜ r ≡ nextOf answer ⌝ }
+    ensures { λ r. ⌜ r ≡ runNext answer ⌝ }
 {
     match answer {
         RunAnswer::Refused(_) => 0,

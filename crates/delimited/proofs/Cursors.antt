@@ -13,7 +13,7 @@ use Rattle.word.specs.Word.{choose}
 use Rattle.runs.proofs.Tests.{and-true as both}
 use Rattle.runs.specs.Lists.{every}
 use Rattle.delimited.specs.declared.Field.the-variants.{Value, Bad}
-use Rattle.delimited.specs.Cursor.{stops, upTo, stopOf, valued, fieldAt}
+use Rattle.delimited.specs.Cursor.{stops, frontField, stopOf, valued, fieldAt}
 use Rattle.delimited.proofs.Split.{apart}
 
 -- no byte of the list ends a field
@@ -56,10 +56,10 @@ front (x ∷ s) = go (eqb x 44) refl (eqb x 10) refl (front s)
     go false a false b (feed f t w e) = feed (x ∷ f) t (rw (a, b) w) (ap (λ (l : List ℕ). x ∷ l) e)
     go false a false b (unended w) = unended (rw (a, b) w)
 
--- ---- the field that `upTo` and `stopOf` give
+-- ---- the field that `frontField` and `stopOf` give
 
-pub up-to : (f : List ℕ) (b : ℕ) (t : List ℕ) → whole f ≡ true → stops b ≡ true → upTo (f ++ (b ∷ t)) ≡ f
-unfolding upTo
+pub up-to : (f : List ℕ) (b : ℕ) (t : List ℕ) → whole f ≡ true → stops b ≡ true → frontField (f ++ (b ∷ t)) ≡ f
+unfolding frontField
 up-to [] b t h e = rw e
 up-to (x ∷ f) b t h e =
     let p = both (not (stops x)) (whole f) h in

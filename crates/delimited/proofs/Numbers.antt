@@ -14,7 +14,7 @@ use Rattle.word.specs.Word.{choose}
 use Rattle.runs.specs.Lists.{every}
 use Rattle.delimited.specs.declared.Field.the-variants.{Value, Bad}
 use Rattle.delimited.specs.Number.{digit, decimal, valueFrom, atMost}
-use Rattle.delimited.specs.Cursor.{stops, upTo, stopOf, valued, fieldAt, digitsAtMost}
+use Rattle.delimited.specs.Cursor.{stops, frontField, stopOf, valued, fieldAt, digitsAtMost}
 use Rattle.delimited.proofs.Cursors.{field-none}
 
 pub drop-more : (f : List ℕ) (i : ℕ) → i < length f → drop i f ≡ getD f i 0 ∷ drop (i + 1) f
@@ -32,27 +32,27 @@ value-grows v (b ∷ bs) =
 module _ (read : List ℕ → Option ℕ) (end at : ℕ) (s : List ℕ) where
   -- that ends it
   pub first-end : stops end ≡ true → fieldAt read end at (end ∷ s) ≡ valued (read []) (at + 1)
-  unfolding fieldAt upTo stopOf
+  unfolding fieldAt frontField stopOf
   first-end h =
       let z : at + 0 + 1 ≡ at + 1 = omega arith in
       rw (h, eq-eqb end end refl) (ap (valued (read [])) z)
 
   -- that ends it in another way
   pub first-other : (b : ℕ) → stops b ≡ true → (b ≡ end → ⊥) → fieldAt read end at (b ∷ s) ≡ Bad
-  unfolding fieldAt upTo stopOf
+  unfolding fieldAt frontField stopOf
   first-other b h n = rw (h, ne-eqb b end n)
 
   -- that does not end it
   pub first-in : (b : ℕ) → stops b ≡ false → fieldAt read end at (b ∷ s) ≡ fieldAt (λ f. read (b ∷ f)) end (at + 1) s
-  unfolding fieldAt upTo stopOf
+  unfolding fieldAt frontField stopOf
   first-in b h =
-      let e : at + suc (length (upTo s)) + 1 ≡ at + 1 + length (upTo s) + 1 = omega arith in
+      let e : at + suc (length (frontField s)) + 1 ≡ at + 1 + length (frontField s) + 1 = omega arith in
       rw (h, e)
 
   -- a field of which nothing is read
   pub first-bad : (b : ℕ) → stops b ≡ false → ((f : List ℕ) → read (b ∷ f) ≡ none) → fieldAt read end at (b ∷ s) ≡ Bad
-  unfolding fieldAt upTo stopOf
-  first-bad b h n = rw (h, n (upTo s)) (go (eqb (stopOf s) end))
+  unfolding fieldAt frontField stopOf
+  first-bad b h n = rw (h, n (frontField s)) (go (eqb (stopOf s) end))
     where
       go : (t : Bool) → choose t Bad Bad ≡ Bad
       go true = refl
@@ -64,8 +64,8 @@ module _ (read : List ℕ → Option ℕ) (end at : ℕ) (s : List ℕ) where
       → stops b ≡ false
       → ((f : List ℕ) → read (b ∷ f) ≡ other (b ∷ f))
       → fieldAt read end at (b ∷ s) ≡ fieldAt other end at (b ∷ s)
-  unfolding fieldAt upTo stopOf
-  first-as other b h e = rw (h, e (upTo s))
+  unfolding fieldAt frontField stopOf
+  first-as other b h e = rw (h, e (frontField s))
 
 pub no-byte : (read : List ℕ → Option ℕ) (end at : ℕ) → stops end ≡ true → fieldAt read end at [] ≡ Bad
 no-byte read end at h = field-none read [] refl end at h

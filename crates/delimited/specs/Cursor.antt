@@ -17,9 +17,9 @@ abbrev pub stops : ℕ → Bool
 stops b = eqb b 44 || eqb b 10
 
 -- the field at the front, and the byte that ends it: 0 where the text ends first
-unfoldable pub upTo : List ℕ → List ℕ
-upTo [] = []
-upTo (x ∷ xs) = choose (stops x) [] (x ∷ upTo xs)
+unfoldable pub frontField : List ℕ → List ℕ
+frontField [] = []
+frontField (x ∷ xs) = choose (stops x) [] (x ∷ frontField xs)
 
 unfoldable pub stopOf : List ℕ → ℕ
 stopOf [] = 0
@@ -33,8 +33,8 @@ valued (some v) next = field.Value v next
 
 -- the field's value, where the byte `end` ends it
 unfoldable pub fieldAt : (List ℕ → Option ℕ) → ℕ → ℕ → List ℕ → Field
-unfolding upTo stopOf
-fieldAt read end at s = choose (eqb (stopOf s) end) (valued (read (upTo s)) (at + length (upTo s) + 1)) field.Bad
+unfolding frontField stopOf
+fieldAt read end at s = choose (eqb (stopOf s) end) (valued (read (frontField s)) (at + length (frontField s) + 1)) field.Bad
 
 -- digits behind the value v, or none
 unfoldable pub digitsAtMost : ℕ → ℕ → List ℕ → Option ℕ

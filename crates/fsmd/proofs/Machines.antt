@@ -10,8 +10,8 @@ use Rattle.runs.proofs.Every.{below-at, below-of}
 use Rattle.runs.proofs.ListLaws.{and-left, and-right, every-map, length-upFrom, getD-map-upFrom}
 use Rattle.runs.specs.Lists.{upFrom, every}
 use Rattle.fsmd.specs.Layout.{maxStates, maxRegisters, maxWires, recordOffset, nextStateOffset, nextRegistersOffset}
-use Rattle.fsmd.specs.Machine.{stateOf, emptyState, wordless}
-use Rattle.fsmd.specs.Table.{firstWireAt, wireCountAt, stateAt, machineOf, validReference, validWires, validState, within, apart, admitted}
+use Rattle.fsmd.specs.Machine.{stateOf, emptyState, wordlessMachine}
+use Rattle.fsmd.specs.Table.{firstWireAt, wireCountAt, stateAt, machineOf, validReference, validWires, validState, within, apart, admittedMachine}
 use Rattle.fsmd.proofs.Windows.{wiresFrom, wires-length}
 
 -- ---- the machine of a table
@@ -36,8 +36,8 @@ wordlessWires t first count = every (λ w. not (eqb (w .code) 20)) (wiresFrom t 
 abbrev pub wordlessState : List ℕ → ℕ → Bool
 wordlessState t k = wordlessWires t (firstWireAt t k) (wireCountAt t k)
 
-pub wordless-is : (t : List ℕ) (n : ℕ) → n ≡ getD t 0 0 → wordless (machineOf t) ≡ every (wordlessState t) (upFrom 0 n)
-unfolding wordless machineOf
+pub wordless-is : (t : List ℕ) (n : ℕ) → n ≡ getD t 0 0 → wordlessMachine (machineOf t) ≡ every (wordlessState t) (upFrom 0 n)
+unfolding wordlessMachine machineOf
 wordless-is t n e =
     every-map (stateAt t) (λ q. every (λ w. not (eqb (w .code) 20)) (q .wires)) (upFrom 0 (getD t 0 0))
     ∙ sym (ap (λ (n : ℕ). every (wordlessState t) (upFrom 0 n)) e)
@@ -58,11 +58,11 @@ valid-state-is t r k first count at ef ec ea er =
 -- ---- what it is that a table is admitted
 
 pub admitted-is : (t : List ℕ) (n r : ℕ) → n ≡ getD t 0 0 → r ≡ getD t 1 0
-    → admitted t
+    → admittedMachine t
     ≡ (leb 1 n && leb n maxStates && leb 1 r && leb r maxRegisters && every (within t) (upFrom 0 n)
     && every (λ k. every (λ j. apart t j k) (upFrom 0 k)) (upFrom 0 n)
     && every (λ k. validState r (stateAt t k)) (upFrom 0 n))
-unfolding admitted
+unfolding admittedMachine
 admitted-is t n r en er =
     sym (ap₂ (λ (n r : ℕ). leb 1 n && leb n maxStates && leb 1 r && leb r maxRegisters && every (within t) (upFrom 0 n)
     && every (λ k. every (λ j. apart t j k) (upFrom 0 k)) (upFrom 0 n)
@@ -77,8 +77,8 @@ pub record Admitted (t : List ℕ) : Type 0 where
   pub separate : (j k : ℕ) → j < k → k < getD t 0 0 → apart t j k ≡ true
   pub valid : (k : ℕ) → k < getD t 0 0 → validState (getD t 1 0) (stateAt t k) ≡ true
 
-pub admitted-facts : (t : List ℕ) → admitted t ≡ true → Admitted t
-unfolding admitted
+pub admitted-facts : (t : List ℕ) → admittedMachine t ≡ true → Admitted t
+unfolding admittedMachine
 admitted-facts t e =
     let n = getD t 0 0 in
     let r = getD t 1 0 in
@@ -104,8 +104,8 @@ admitted-facts t e =
       valid = λ k q. below-at (λ i. validState r (stateAt t i)) n k (and-right (a && b && c && d && f && g) h e) q;
     }
 
-pub facts-admitted : (t : List ℕ) → Admitted t → admitted t ≡ true
-unfolding admitted
+pub facts-admitted : (t : List ℕ) → Admitted t → admittedMachine t ≡ true
+unfolding admittedMachine
 facts-admitted t m =
     let n = getD t 0 0 in
     let r = getD t 1 0 in

@@ -14,7 +14,7 @@ use Rattle.runs.specs.Lists.{upFrom}
 use Rattle.runs.specs.Runs.{Runner}
 use Rattle.fsmd.specs.Layout.{maxStates, maxRegisters, maxWires}
 use Rattle.fsmd.specs.Machine.{State, wireCount, FSMD, emptyState, stateOf, clock, machineRunner}
-use Rattle.fsmd.specs.Table.{tableOf, firstWireAt, wireCountAt, stateAt, machineOf, validState, admitted}
+use Rattle.fsmd.specs.Table.{machineTableOf, firstWireAt, wireCountAt, stateAt, machineOf, validState, admittedMachine}
 use Rattle.fsmd.proofs.Machines.{facts-admitted}
 use Rattle.fsmd.proofs.WrittenTable.{before-room, before-less, count-is, registers-are, back-first, back-count, back-state}
 
@@ -41,32 +41,32 @@ same-runner m n e s =
     ap₂ {C = Runner} (λ (r : ℕ) (qs : List State). machineRunner (record { registers = r; starters = []; blockStates = []; states = qs })) e s
 
 module _ (m : FSMD) (rest : List ℕ) (f : Fits m) where
-  pub read-state : (k : ℕ) → k < length (m .states) → stateAt (tableOf m ++ rest) k ≡ stateOf m k
+  pub read-state : (k : ℕ) → k < length (m .states) → stateAt (machineTableOf m ++ rest) k ≡ stateOf m k
   read-state k h = back-state m rest (f .few-states) (f .room) k h (f .few-registers) (f .next-registers k h)
 
-  pub read-registers : machineOf (tableOf m ++ rest) .registers ≡ m .registers
+  pub read-registers : machineOf (machineTableOf m ++ rest) .registers ≡ m .registers
   unfolding machineOf
   read-registers = registers-are m rest
 
-  pub read-states : machineOf (tableOf m ++ rest) .states ≡ m .states
+  pub read-states : machineOf (machineTableOf m ++ rest) .states ≡ m .states
   unfolding machineOf
   read-states =
-      let t = tableOf m ++ rest in
+      let t = machineTableOf m ++ rest in
       let n : length (map (stateAt t) (upFrom 0 (getD t 0 0))) ≡ length (m .states) = length-map (upFrom 0 (getD t 0 0)) (stateAt t) ∙ length-upFrom 0 (getD t 0 0) ∙ count-is m rest in
       ext-getD emptyState (map (stateAt t) (upFrom 0 (getD t 0 0))) (m .states) n (λ k h.
       let b : k < length (m .states) = omega arith in
       getD-map-upFrom (stateAt t) (getD t 0 0) k emptyState (omega (arith, count-is m rest)) ∙ read-state k b)
 
   -- so the two have the same cycles
-  pub read-runner : machineRunner (machineOf (tableOf m ++ rest)) ≡ machineRunner m
-  read-runner = same-runner (machineOf (tableOf m ++ rest)) m read-registers read-states
+  pub read-runner : machineRunner (machineOf (machineTableOf m ++ rest)) ≡ machineRunner m
+  read-runner = same-runner (machineOf (machineTableOf m ++ rest)) m read-registers read-states
 
 -- ---- its table is admitted, and run
 
 module _ (m : FSMD) (rest : List ℕ) (s : Sound m) where
-  pub read-admitted : admitted (tableOf m ++ rest) ≡ true
+  pub read-admitted : admittedMachine (machineTableOf m ++ rest) ≡ true
   read-admitted =
-      let t = tableOf m ++ rest in
+      let t = machineTableOf m ++ rest in
       let f = s .fits in
       let n = count-is m rest in
       let r = registers-are m rest in

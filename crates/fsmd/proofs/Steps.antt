@@ -8,11 +8,11 @@ use lib.ListN.{length, getD}
 use borrow.Author.Tests.{lt-ltb, le-ltb}
 use Rattle.runs.proofs.RunLaws.{goes-standing, step-going, Reached, reached-step}
 use Rattle.runs.specs.Runs.{halted, Configuration, standsAt, Supply, Moved, moved}
-use Rattle.fsmd.specs.Clock.{after}
+use Rattle.fsmd.specs.Clock.{afterCycle}
 use Rattle.fsmd.specs.Layout.{maxRegisters, machineWords}
-use Rattle.fsmd.specs.Machine.{clock, machineRunner, wordless}
-use Rattle.fsmd.specs.Run.{refusal, wordsRefusal}
-use Rattle.fsmd.specs.Table.{stateAt, machineOf, admitted}
+use Rattle.fsmd.specs.Machine.{clock, machineRunner, wordlessMachine}
+use Rattle.fsmd.specs.Run.{machineRefusal, machineWordsRefusal}
+use Rattle.fsmd.specs.Table.{stateAt, machineOf, admittedMachine}
 use Rattle.fsmd.specs.declared.clock.Next.{Next}
 use Rattle.fsmd.proofs.Machines.{state-is}
 
@@ -33,64 +33,64 @@ cycle-step t ws budget c₀ count k rs m h b l w e =
     (reached-step r ws budget c₀ count c h (goes-standing ws c k refl w) l)
 
 module _ (t : List ℕ) (r : Next) (count : ℕ) where
-  pub after-standing : r .state < getD t 0 0 → moved (λ k. true) count (after t r) ≡ standsAt (count + 1) (r .state) (r .registers .words)
+  pub after-standing : r .state < getD t 0 0 → moved (λ k. true) count (afterCycle t r) ≡ standsAt (count + 1) (r .state) (r .registers .words)
   after-standing h = rw (lt-ltb (r .state) (getD t 0 0) h, add-one)
 
-  pub after-halted : getD t 0 0 ≤ r .state → after t r .place ≡ halted
+  pub after-halted : getD t 0 0 ≤ r .state → afterCycle t r .place ≡ halted
   after-halted h = rw (le-ltb (r .state) (getD t 0 0) h)
 
 -- ---- refusals
 
 module _ (t rs : List ℕ) (start : ℕ) where
-  pub refuse-table : length t < machineWords → refusal t rs start ≡ 7
-  unfolding refusal
+  pub refuse-table : length t < machineWords → machineRefusal t rs start ≡ 7
+  unfolding machineRefusal
   refuse-table h = rw (lt-ltb (length t) machineWords h)
 
   module _ (whole : machineWords ≤ length t) where
-    pub refuse-registers : length rs < maxRegisters → refusal t rs start ≡ 7
-    unfolding refusal
+    pub refuse-registers : length rs < maxRegisters → machineRefusal t rs start ≡ 7
+    unfolding machineRefusal
     refuse-registers h = rw (le-ltb (length t) machineWords whole, lt-ltb (length rs) maxRegisters h)
 
     module _ (room : maxRegisters ≤ length rs) where
-      pub refuse-machine : admitted t ≡ false → refusal t rs start ≡ 10
-      unfolding refusal
+      pub refuse-machine : admittedMachine t ≡ false → machineRefusal t rs start ≡ 10
+      unfolding machineRefusal
       refuse-machine h = rw (le-ltb (length t) machineWords whole, le-ltb (length rs) maxRegisters room, h)
 
-      module _ (good : admitted t ≡ true) where
-        pub refuse-wordless : wordless (machineOf t) ≡ false → refusal t rs start ≡ 12
-        unfolding refusal
+      module _ (good : admittedMachine t ≡ true) where
+        pub refuse-wordless : wordlessMachine (machineOf t) ≡ false → machineRefusal t rs start ≡ 12
+        unfolding machineRefusal
         refuse-wordless h = rw (le-ltb (length t) machineWords whole, le-ltb (length rs) maxRegisters room, good, h)
 
-        module _ (silent : wordless (machineOf t) ≡ true) where
-          pub refuse-start : getD t 0 0 ≤ start → refusal t rs start ≡ 9
-          unfolding refusal
+        module _ (silent : wordlessMachine (machineOf t) ≡ true) where
+          pub refuse-start : getD t 0 0 ≤ start → machineRefusal t rs start ≡ 9
+          unfolding machineRefusal
           refuse-start h = rw (le-ltb (length t) machineWords whole, le-ltb (length rs) maxRegisters room, good, silent, le-ltb start (getD t 0 0) h)
 
-          pub refuse-none : start < getD t 0 0 → refusal t rs start ≡ 0
-          unfolding refusal
+          pub refuse-none : start < getD t 0 0 → machineRefusal t rs start ≡ 0
+          unfolding machineRefusal
           refuse-none h = rw (le-ltb (length t) machineWords whole, le-ltb (length rs) maxRegisters room, good, silent, lt-ltb start (getD t 0 0) h)
 
 -- with words
 module _ (t rs : List ℕ) (start : ℕ) where
-  pub words-refuse-table : length t < machineWords → wordsRefusal t rs start ≡ 7
-  unfolding wordsRefusal
+  pub words-refuse-table : length t < machineWords → machineWordsRefusal t rs start ≡ 7
+  unfolding machineWordsRefusal
   words-refuse-table h = rw (lt-ltb (length t) machineWords h)
 
   module _ (whole : machineWords ≤ length t) where
-    pub words-refuse-registers : length rs < maxRegisters → wordsRefusal t rs start ≡ 7
-    unfolding wordsRefusal
+    pub words-refuse-registers : length rs < maxRegisters → machineWordsRefusal t rs start ≡ 7
+    unfolding machineWordsRefusal
     words-refuse-registers h = rw (le-ltb (length t) machineWords whole, lt-ltb (length rs) maxRegisters h)
 
     module _ (room : maxRegisters ≤ length rs) where
-      pub words-refuse-machine : admitted t ≡ false → wordsRefusal t rs start ≡ 10
-      unfolding wordsRefusal
+      pub words-refuse-machine : admittedMachine t ≡ false → machineWordsRefusal t rs start ≡ 10
+      unfolding machineWordsRefusal
       words-refuse-machine h = rw (le-ltb (length t) machineWords whole, le-ltb (length rs) maxRegisters room, h)
 
-      module _ (good : admitted t ≡ true) where
-        pub words-refuse-start : getD t 0 0 ≤ start → wordsRefusal t rs start ≡ 9
-        unfolding wordsRefusal
+      module _ (good : admittedMachine t ≡ true) where
+        pub words-refuse-start : getD t 0 0 ≤ start → machineWordsRefusal t rs start ≡ 9
+        unfolding machineWordsRefusal
         words-refuse-start h = rw (le-ltb (length t) machineWords whole, le-ltb (length rs) maxRegisters room, good, le-ltb start (getD t 0 0) h)
 
-        pub words-refuse-none : start < getD t 0 0 → wordsRefusal t rs start ≡ 0
-        unfolding wordsRefusal
+        pub words-refuse-none : start < getD t 0 0 → machineWordsRefusal t rs start ≡ 0
+        unfolding machineWordsRefusal
         words-refuse-none h = rw (le-ltb (length t) machineWords whole, le-ltb (length rs) maxRegisters room, good, lt-ltb start (getD t 0 0) h)

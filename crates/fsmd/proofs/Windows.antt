@@ -39,7 +39,7 @@ module _ (t : List ℕ) (first count : ℕ) where
   pub wires-end : (n : ℕ) → count ≤ n → drop n wiresFrom ≡ []
   wires-end n h = drop-of-length-le wiresFrom {i = n} (rw wires-length h)
 
-  -- a loop's turn over the wires: wire n decides, or the rest does
+  -- a loop's pass over the wires: wire n decides, or the rest does
   module _ (r n : ℕ) where
     pub wires-fail : n < count → validWire r n (wireAt t (first + n)) ≡ false → validWires r n (drop n wiresFrom) ≡ false
     unfolding validWires

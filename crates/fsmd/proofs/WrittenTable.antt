@@ -1,4 +1,4 @@
--- The words of a machine's table, state by state: what `tableOf` writes is read there, whatever follows the table. Assumes nothing.
+-- The words of a machine's table, state by state: what `machineTableOf` writes is read there, whatever follows the table. Assumes nothing.
 use Prim.Native.Nat.{ℕ, zero, suc, _+_, _-_, _*_, _<_, _≤_}
 use native.Mathlib.Nat.{add-zero}
 use native.Mathlib.Omega.{arith}
@@ -8,9 +8,9 @@ use lib.ListN.{length, getD, take, drop, replicate, length-append}
 use lib.Seq.{drop-append-add, drop-drop, take-at, getD-drop}
 use Rattle.runs.proofs.ListLaws.{padded-append, length-padded}
 use Rattle.runs.specs.Lists.{upFrom, padded, concatMap}
-use Rattle.fsmd.specs.Layout.{maxStates, maxBlocks, maxRegisters, maxWires, wireWords, recordWords, allRecordWords, allWireWords, startersOffset, blockStatesOffset, recordsOffset, wiresOffset, machineWords, recordOffset, nextStateOffset, nextRegistersOffset, wireOffset, none}
+use Rattle.fsmd.specs.Layout.{maxStates, maxBlocks, maxRegisters, maxWires, wireWords, recordWords, allRecordWords, allWireWords, startersOffset, blockStatesOffset, recordsOffset, wiresOffset, machineWords, recordOffset, nextStateOffset, nextRegistersOffset, wireOffset, absent}
 use Rattle.fsmd.specs.Machine.{State, wireCount, FSMD, emptyState, stateOf}
-use Rattle.fsmd.specs.Table.{wireWordsOf, recordOf, recordsOf, wiresOf, tableOf, wireAt, firstWireAt, wireCountAt, stateAt}
+use Rattle.fsmd.specs.Table.{wireWordsOf, recordOf, recordsOf, wiresOf, machineTableOf, wireAt, firstWireAt, wireCountAt, stateAt}
 use Rattle.fsmd.specs.declared.Wire.{Wire}
 
 -- ---- counting wires
@@ -133,13 +133,13 @@ records-drop (q ∷ qs) n (suc k) l h =
 
 module _ (m : FSMD) (rest : List ℕ) where
   abbrev table : List ℕ
-  table = tableOf m ++ rest
+  table = machineTableOf m ++ rest
 
   abbrev starterWords : List ℕ
   starterWords = padded maxStates 0 (m .starters)
 
   abbrev blockWords : List ℕ
-  blockWords = padded maxBlocks none (m .blockStates)
+  blockWords = padded maxBlocks absent (m .blockStates)
 
   abbrev recordSpace : List ℕ
   recordSpace = padded allRecordWords 0 (recordsOf 0 (m .states))
@@ -148,15 +148,15 @@ module _ (m : FSMD) (rest : List ℕ) where
   wireSpace = padded allWireWords 0 (wiresOf (m .states))
 
   pub count-is : getD table 0 0 ≡ length (m .states)
-  unfolding tableOf
+  unfolding machineTableOf
   count-is = refl
 
   pub registers-are : getD table 1 0 ≡ m .registers
-  unfolding tableOf
+  unfolding machineTableOf
   registers-are = refl
 
   from-starters : (i : ℕ) → drop (startersOffset + i) table ≡ drop i (starterWords ++ (blockWords ++ (recordSpace ++ (wireSpace ++ rest))))
-  unfolding tableOf wiresOf
+  unfolding machineTableOf wiresOf
   from-starters i =
       let e : startersOffset + i ≡ suc (suc i) = omega arith in
       ap (λ (j : ℕ). drop j table) e ∙ ap (drop i) (simp append-assoc)
@@ -171,7 +171,7 @@ module _ (m : FSMD) (rest : List ℕ) where
   from-records i =
       let e : recordsOffset + i ≡ blockStatesOffset + (maxBlocks + i) = omega arith in
       ap (λ (j : ℕ). drop j table) e ∙ from-blocks (maxBlocks + i)
-      ∙ drop-past blockWords (recordSpace ++ (wireSpace ++ rest)) maxBlocks i (length-padded maxBlocks none (m .blockStates))
+      ∙ drop-past blockWords (recordSpace ++ (wireSpace ++ rest)) maxBlocks i (length-padded maxBlocks absent (m .blockStates))
 
   from-wires : (i : ℕ) → drop (wiresOffset + i) table ≡ drop i (wireSpace ++ rest)
   from-wires i =
@@ -190,8 +190,8 @@ module _ (m : FSMD) (rest : List ℕ) where
       ∙ ap (take (length (m .states))) (append-assoc l pad after)
       ∙ take-at l (pad ++ after) (length (m .states)) e
 
-  pub back-blocks : take maxBlocks (drop blockStatesOffset table) ≡ padded maxBlocks none (m .blockStates)
-  back-blocks = ap (take maxBlocks) (from-blocks 0) ∙ take-at blockWords (recordSpace ++ (wireSpace ++ rest)) maxBlocks (length-padded maxBlocks none (m .blockStates))
+  pub back-blocks : take maxBlocks (drop blockStatesOffset table) ≡ padded maxBlocks absent (m .blockStates)
+  back-blocks = ap (take maxBlocks) (from-blocks 0) ∙ take-at blockWords (recordSpace ++ (wireSpace ++ rest)) maxBlocks (length-padded maxBlocks absent (m .blockStates))
 
   module _ (few : length (m .states) ≤ maxStates) (room : wireCount (m .states) ≤ maxWires) (k : ℕ) (h : k < length (m .states)) where
     -- the words from state k's record on
@@ -255,12 +255,12 @@ module _ (m : FSMD) (rest : List ℕ) where
 
 -- ---- the length of a machine's table
 
-pub table-length : (m : FSMD) → length (tableOf m) ≡ machineWords
-unfolding tableOf
+pub table-length : (m : FSMD) → length (machineTableOf m) ≡ machineWords
+unfolding machineTableOf
 table-length m =
     let s = padded maxStates 0 (m .starters) in
-    let b = padded maxBlocks none (m .blockStates) in
+    let b = padded maxBlocks absent (m .blockStates) in
     let r = padded allRecordWords 0 (recordsOf 0 (m .states)) in
     let ws = wiresOf (m .states) in
     let w = padded allWireWords 0 ws in
-    omega (arith, length-append s (b ++ (r ++ w)), length-append b (r ++ w), length-append r w, length-padded maxStates 0 (m .starters), length-padded maxBlocks none (m .blockStates), length-padded allRecordWords 0 (recordsOf 0 (m .states)), length-padded allWireWords 0 ws)
+    omega (arith, length-append s (b ++ (r ++ w)), length-append b (r ++ w), length-append r w, length-padded maxStates 0 (m .starters), length-padded maxBlocks absent (m .blockStates), length-padded allRecordWords 0 (recordsOf 0 (m .states)), length-padded allWireWords 0 ws)

@@ -19,5 +19,5 @@ pub record Ready (t : List ℕ) (k : ℕ) : Type 0 where
   pub valid : validState (registerCount t) (stateAt t k) ≡ true
 
 -- what a cycle hands back
-abbrev pub after : List ℕ → Next → Moved
-after t r = record { place = toState (stateCount t) (r .state); registers = r .registers .words }
+abbrev pub afterCycle : List ℕ → Next → Moved
+afterCycle t r = record { place = toState (stateCount t) (r .state); registers = r .registers .words }

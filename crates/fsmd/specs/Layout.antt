@@ -88,5 +88,5 @@ abbrev pub roomWords : ℕ
 roomWords = 4096
 
 -- no block or no state
-abbrev pub none : ℕ
-none = noPlace
+abbrev pub absent : ℕ
+absent = noPlace

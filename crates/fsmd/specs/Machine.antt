@@ -63,5 +63,5 @@ abbrev pub machineRunner : FSMD → Runner
 machineRunner m = record { unit = λ sampled k rs. clock m sampled (stateOf m k) rs; arrives = λ k. true }
 
 -- no wire reads the sampled word
-unfoldable pub wordless : FSMD → Bool
-wordless m = every (λ q. every (λ w. not (eqb (w .code) inCode)) (q .wires)) (m .states)
+unfoldable pub wordlessMachine : FSMD → Bool
+wordlessMachine m = every (λ q. every (λ w. not (eqb (w .code) inCode)) (q .wires)) (m .states)

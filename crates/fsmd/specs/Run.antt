@@ -9,43 +9,43 @@ use Rattle.runs.specs.Runs.{listed, unread}
 use Rattle.runs.specs.Operations.{answered, registersLeft}
 use Rattle.runs.specs.declared.RunAnswer.{RunAnswer}
 use Rattle.fsmd.specs.Layout.{maxRegisters, machineWords}
-use Rattle.fsmd.specs.Machine.{machineRunner, wordless}
-use Rattle.fsmd.specs.Table.{stateCount, machineOf, admitted}
+use Rattle.fsmd.specs.Machine.{machineRunner, wordlessMachine}
+use Rattle.fsmd.specs.Table.{stateCount, machineOf, admittedMachine}
 
-abbrev pub short : List ℕ → List ℕ → Bool
-short t rs = ltb (length t) machineWords || ltb (length rs) maxRegisters
+abbrev pub machineShort : List ℕ → List ℕ → Bool
+machineShort t rs = ltb (length t) machineWords || ltb (length rs) maxRegisters
 
 -- ---- without words
 
 -- the refusal's number, or 0: 7 a short table or register buffer, 10 a table that is not admitted, 12 one with code 20, 9 a start that is no state
-unfoldable pub refusal : List ℕ → List ℕ → ℕ → ℕ
-unfolding admitted wordless machineOf
-refusal t rs start =
-    choose (short t rs) 7
-    (choose (not (admitted t)) 10
-    (choose (not (wordless (machineOf t))) 12
+unfoldable pub machineRefusal : List ℕ → List ℕ → ℕ → ℕ
+unfolding admittedMachine wordlessMachine machineOf
+machineRefusal t rs start =
+    choose (machineShort t rs) 7
+    (choose (not (admittedMachine t)) 10
+    (choose (not (wordlessMachine (machineOf t))) 12
     (choose (not (ltb start (stateCount t))) 9 0)))
 
-abbrev pub runAnswer : List ℕ → List ℕ → ℕ → ℕ → RunAnswer
-runAnswer t rs start budget = answered (refusal t rs start) (machineRunner (machineOf t)) unread rs start budget
+abbrev pub machineAnswer : List ℕ → List ℕ → ℕ → ℕ → RunAnswer
+machineAnswer t rs start budget = answered (machineRefusal t rs start) (machineRunner (machineOf t)) unread rs start budget
 
-abbrev pub runRegisters : List ℕ → List ℕ → ℕ → ℕ → List ℕ
-runRegisters t rs start budget = registersLeft (refusal t rs start) (machineRunner (machineOf t)) unread rs start budget
+abbrev pub machineRegisters : List ℕ → List ℕ → ℕ → ℕ → List ℕ
+machineRegisters t rs start budget = registersLeft (machineRefusal t rs start) (machineRunner (machineOf t)) unread rs start budget
 
 -- ---- with words
 
 -- 7, 10 and 9 as above
-unfoldable pub wordsRefusal : List ℕ → List ℕ → ℕ → ℕ
-unfolding admitted
-wordsRefusal t rs start =
-    choose (short t rs) 7
-    (choose (not (admitted t)) 10
+unfoldable pub machineWordsRefusal : List ℕ → List ℕ → ℕ → ℕ
+unfolding admittedMachine
+machineWordsRefusal t rs start =
+    choose (machineShort t rs) 7
+    (choose (not (admittedMachine t)) 10
     (choose (not (ltb start (stateCount t))) 9 0))
 
-abbrev pub wordsAnswer : List ℕ → List ℕ → ℕ → ℕ → List ℕ → RunAnswer
-wordsAnswer t rs start budget words =
-    answered (wordsRefusal t rs start) (machineRunner (machineOf t)) (listed words) rs start budget
+abbrev pub machineWordsAnswer : List ℕ → List ℕ → ℕ → ℕ → List ℕ → RunAnswer
+machineWordsAnswer t rs start budget words =
+    answered (machineWordsRefusal t rs start) (machineRunner (machineOf t)) (listed words) rs start budget
 
-abbrev pub wordsRegisters : List ℕ → List ℕ → ℕ → ℕ → List ℕ → List ℕ
-wordsRegisters t rs start budget words =
-    registersLeft (wordsRefusal t rs start) (machineRunner (machineOf t)) (listed words) rs start budget
+abbrev pub machineWordsRegisters : List ℕ → List ℕ → ℕ → ℕ → List ℕ → List ℕ
+machineWordsRegisters t rs start budget words =
+    registersLeft (machineWordsRefusal t rs start) (machineRunner (machineOf t)) (listed words) rs start budget

@@ -7,7 +7,7 @@ use lib.Dec.{eqb, leb, ltb}
 use Rattle.word.specs.Word.{arity, setCode, firstCode, lastCode}
 use Rattle.runs.specs.Lists.{upFrom, every, padded, concatMap}
 use Rattle.fsmd.specs.declared.Wire.{Wire}
-use Rattle.fsmd.specs.Layout.{maxStates, maxBlocks, maxRegisters, maxWires, wireAOffset, wireBOffset, wireCOffset, wireCountOffset, stateCountOffset, registerCountOffset, allRecordWords, allWireWords, startersOffset, blockStatesOffset, recordOffset, nextStateOffset, nextRegistersOffset, wireOffset, none}
+use Rattle.fsmd.specs.Layout.{maxStates, maxBlocks, maxRegisters, maxWires, wireAOffset, wireBOffset, wireCOffset, wireCountOffset, stateCountOffset, registerCountOffset, allRecordWords, allWireWords, startersOffset, blockStatesOffset, recordOffset, nextStateOffset, nextRegistersOffset, wireOffset, absent}
 use Rattle.fsmd.specs.Machine.{State, FSMD}
 
 -- ---- words of a machine
@@ -30,12 +30,12 @@ unfolding concatMap
 wiresOf qs = concatMap (λ q. concatMap wireWordsOf (q .wires)) qs
 
 -- counts, starters, block states, records, wires in state order; unused words are 0, but an absent block's state is 255
-unfoldable pub tableOf : FSMD → List ℕ
+unfoldable pub machineTableOf : FSMD → List ℕ
 unfolding recordsOf wiresOf
-tableOf m =
+machineTableOf m =
     length (m .states) ∷ m .registers
     ∷ (padded maxStates 0 (m .starters)
-    ++ (padded maxBlocks none (m .blockStates)
+    ++ (padded maxBlocks absent (m .blockStates)
     ++ (padded allRecordWords 0 (recordsOf 0 (m .states))
     ++ padded allWireWords 0 (wiresOf (m .states)))))
 
@@ -115,9 +115,9 @@ apart t j k =
 abbrev pub within : List ℕ → ℕ → Bool
 within t k = leb (firstWireAt t k + wireCountAt t k) maxWires
 
-unfoldable pub admitted : List ℕ → Bool
+unfoldable pub admittedMachine : List ℕ → Bool
 unfolding stateAt validState
-admitted t =
+admittedMachine t =
     let n = stateCount t in
     let r = registerCount t in
     leb 1 n && leb n maxStates && leb 1 r && leb r maxRegisters

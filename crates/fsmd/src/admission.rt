@@ -8,8 +8,8 @@ ghost use lib.ListN.{length, take, drop};
 ghost use Rattle.word.specs.Word.{setCode};
 ghost use Rattle.runs.specs.Lists.{upFrom, every};
 ghost use Rattle.fsmd.specs.Layout.{machineWords, maxStates, maxRegisters, maxWires};
-ghost use Rattle.fsmd.specs.Table.{registerCount, wireAt, stateAt, firstWireAt, wireCountAt, validReference, validWire, validWires, validState, within as withinOf, apart as apartOf, admitted as admittedOf};
-use super::Machine;
+ghost use Rattle.fsmd.specs.Table.{registerCount, wireAt, stateAt, firstWireAt, wireCountAt, validReference, validWire, validWires, validState, within as withinOf, apart as apartOf, admittedMachine};
+use super::MachineTable;
 use super::Wire;
 use super::table::first_wire;
 use super::table::head_of;
@@ -27,10 +27,10 @@ fn valid_reference(registers: usize, n: usize, x: u32) -> bool
     if i < registers {
         return true;
     }
-    if i < Machine::REGISTERS {
+    if i < MachineTable::REGISTERS {
         return false;
     }
-    i - Machine::REGISTERS < n
+    i - MachineTable::REGISTERS < n
 }
 
 // Operand number `place` of wire n, where the code reads that many.
@@ -121,10 +121,10 @@ fn valid_state(table: &[u32], registers: usize, k: usize) -> bool
     if !valid_wires(table, registers, first, count) {
         return false;
     }
-    if !valid_reference(registers, count, table[at + Machine::NEXT_STATE]) {
+    if !valid_reference(registers, count, table[at + MachineTable::NEXT_STATE]) {
         return false;
     }
-    valid_next(table, registers, count, at + Machine::NEXT_REGISTERS)
+    valid_next(table, registers, count, at + MachineTable::NEXT_REGISTERS)
 }
 
 // The wires of state k end within those of the machine.
@@ -133,7 +133,7 @@ fn within(table: &[u32], k: usize) -> bool
     requires { ⌜ k < maxStates ⌝ }
     ensures { λ v. ⌜ v ≡ withinOf (now (table .entry)) k ⌝ }
 {
-    first_wire(table, k) + wire_count(table, k) <= Machine::WIRES
+    first_wire(table, k) + wire_count(table, k) <= MachineTable::WIRES
 }
 
 // States j and k share no wire.
@@ -226,7 +226,7 @@ fn all_valid(table: &[u32], registers: usize, states: usize) -> bool
 // The conditions in the order of refusal 10; each is tested only where those before it hold.
 pub fn admitted(table: &[u32]) -> bool
     requires { ⌜ machineWords ≤ length (now table) ⌝ }
-    ensures { λ v. ⌜ v ≡ admittedOf (now (table .entry)) ⌝ }
+    ensures { λ v. ⌜ v ≡ admittedMachine (now (table .entry)) ⌝ }
 {
     let head = head_of(table);
     let states = word_index(head.states);
@@ -234,13 +234,13 @@ pub fn admitted(table: &[u32]) -> bool
     if states < 1 {
         return false;
     }
-    if Machine::STATES < states {
+    if MachineTable::STATES < states {
         return false;
     }
     if registers < 1 {
         return false;
     }
-    if Machine::REGISTERS < registers {
+    if MachineTable::REGISTERS < registers {
         return false;
     }
     if !all_within(table, states) {

@@ -8,8 +8,8 @@ ghost use Rattle.runs.specs.Lists.{upFrom};
 ghost use Rattle.fsmd.specs.Layout.{machineWords, maxRegisters, maxWires, roomWords};
 ghost use Rattle.fsmd.specs.Machine.{wireValue, worked, clock};
 ghost use Rattle.fsmd.specs.Table.{registerCount, wireAt, stateAt, machineOf, validWires};
-ghost use Rattle.fsmd.specs.Clock.{Ready, after};
-use super::Machine;
+ghost use Rattle.fsmd.specs.Clock.{Ready, afterCycle};
+use super::MachineTable;
 use super::Wire;
 use super::table::first_wire;
 use super::table::record;
@@ -43,9 +43,9 @@ fn value(words: &[u32], w: Wire, sampled: u32) -> u32
     if w.code == Code::SET {
         return w.a;
     }
-    let a = word_index(w.a) % Machine::REFERENCES;
-    let b = word_index(w.b) % Machine::REFERENCES;
-    let c = word_index(w.c) % Machine::REFERENCES;
+    let a = word_index(w.a) % MachineTable::REFERENCES;
+    let b = word_index(w.b) % MachineTable::REFERENCES;
+    let c = word_index(w.c) % MachineTable::REFERENCES;
     word::eval(sampled, w.code, words[a], words[b], words[c])
 }
 
@@ -60,7 +60,7 @@ fn work(words: &mut [u32], table: &[u32], first: usize, count: usize, sampled: u
 {
     let mut n = 0;
     while n < count {
-        let at = Machine::REGISTERS + n;
+        let at = MachineTable::REGISTERS + n;
         let v = value(words, wire(table, first + n), sampled);
         words[at] = v;
         n += 1;
@@ -83,9 +83,9 @@ fn taken(
 {
     let mut next = registers;
     let mut i = 0;
-    // A loop of sixteen turns is unrolled, and each word of the file is then a variable. Stored at an index that varies, the words would
+    // A loop of sixteen passes is unrolled, and each word of the file is then a variable. Stored at an index that varies, the words would
     // make the copy of the whole file wait.
-    while i < Machine::REGISTERS {
+    while i < MachineTable::REGISTERS {
         if count <= i {
             return next;
         }
@@ -99,20 +99,20 @@ fn taken(
 pub fn cycle(table: &[u32], k: usize, registers: Registers, sampled: u32, words: &mut [u32]) -> Next
     requires { ⌜ Ready (now table) k ⌝ }
     requires { ⌜ length (now words) ≡ roomWords ⌝ }
-    ensures { λ r. ⌜ after (now (table .entry)) r ≡ clock (machineOf (now (table .entry))) sampled (stateAt (now (table .entry)) k) (registers .words) ⌝ }
+    ensures { λ r. ⌜ afterCycle (now (table .entry)) r ≡ clock (machineOf (now (table .entry))) sampled (stateAt (now (table .entry)) k) (registers .words) ⌝ }
 {
     let at = record(k);
     let count = wire_count(table, k);
-    let n = Machine::REGISTERS + count;
+    let n = MachineTable::REGISTERS + count;
     runs::store(words, registers);
     work(words, table, first_wire(table, k), count, sampled);
-    let state = read(words, n, table[at + Machine::NEXT_STATE]);
+    let state = read(words, n, table[at + MachineTable::NEXT_STATE]);
     let next = taken(
         words,
         n,
         table,
-        at + Machine::NEXT_REGISTERS,
-        word_index(table[Machine::REGISTER_COUNT]),
+        at + MachineTable::NEXT_REGISTERS,
+        word_index(table[MachineTable::REGISTER_COUNT]),
         registers,
     );
     Next {

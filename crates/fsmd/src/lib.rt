@@ -9,12 +9,12 @@ pub mod clock; // clock.rt: one cycle
 pub mod run; // run.rt: a run with a budget
 
 // The head of a machine table: how many states and registers the machine has.
-pub struct Machine {
+pub struct MachineTable {
     pub states: u32,
     pub registers: u32,
 }
 
-impl Machine {
+impl MachineTable {
     // Limits.
     pub const STATES: usize = RunAnswer::PLACES;
 
@@ -32,7 +32,7 @@ impl Machine {
 
     pub const NEXT_REGISTERS: usize = 3;
 
-    pub const RECORD: usize = Machine::NEXT_REGISTERS + Machine::REGISTERS;
+    pub const RECORD: usize = MachineTable::NEXT_REGISTERS + MachineTable::REGISTERS;
     // Where N and R stand.
     pub const STATE_COUNT: usize = 0;
 
@@ -40,13 +40,14 @@ impl Machine {
     // Where the starters, the block states, the records and the wires begin, and the words of the whole table.
     pub const STARTERS: usize = 2;
 
-    pub const BLOCK_STATES: usize = Machine::STARTERS + Machine::STATES;
+    pub const BLOCK_STATES: usize = MachineTable::STARTERS + MachineTable::STATES;
 
-    pub const RECORDS: usize = Machine::BLOCK_STATES + Machine::BLOCKS;
+    pub const RECORDS: usize = MachineTable::BLOCK_STATES + MachineTable::BLOCKS;
 
-    pub const WIRE_WORDS: usize = Machine::RECORDS + Machine::STATES * Machine::RECORD;
+    pub const WIRE_WORDS: usize = MachineTable::RECORDS
+        + MachineTable::STATES * MachineTable::RECORD;
 
-    pub const WORDS: usize = Machine::WIRE_WORDS + Machine::WIRES * Wire::WORDS;
+    pub const WORDS: usize = MachineTable::WIRE_WORDS + MachineTable::WIRES * Wire::WORDS;
     // Room for what references of a cycle read, the registers, then the wires: a power of two.
     pub const REFERENCES: usize = 4096;
 }

@@ -7,9 +7,9 @@ ghost use lib.ListN.{length, take, drop};
 ghost use Rattle.runs.specs.Runs.{startAt, upTo, answer, registersAfter};
 ghost use Rattle.fsmd.specs.Layout.{machineWords, maxRegisters};
 ghost use Rattle.fsmd.specs.Machine.{machineRunner};
-ghost use Rattle.fsmd.specs.Table.{stateCount, machineOf, admitted as admittedOf};
-ghost use Rattle.fsmd.specs.Run.{runAnswer, runRegisters, wordsAnswer, wordsRegisters};
-use super::Machine;
+ghost use Rattle.fsmd.specs.Table.{stateCount, machineOf, admittedMachine};
+ghost use Rattle.fsmd.specs.Run.{machineAnswer, machineRegisters, machineWordsAnswer, machineWordsRegisters};
+use super::MachineTable;
 use super::admission::admitted;
 use super::clock::cycle;
 use super::sampling::is_wordless;
@@ -34,14 +34,14 @@ pub fn run(
     words: &[u32],
 ) -> Ran
     requires { ⌜ machineWords ≤ length (now table) ⌝ }
-    requires { ⌜ admittedOf (now table) ≡ true ⌝ }
+    requires { ⌜ admittedMachine (now table) ≡ true ⌝ }
     requires { ⌜ start < stateCount (now table) ⌝ }
     requires { ⌜ limit ≤ budget ⌝ }
     ensures { λ r. ⌜ r .answer ≡ answer (machineRunner (machineOf (now (table .entry)))) (upTo limit (now (words .entry))) budget (startAt start (registers .words)) ⌝ }
     ensures { λ r. ⌜ r .registers .words ≡ registersAfter (machineRunner (machineOf (now (table .entry)))) (upTo limit (now (words .entry))) budget (startAt start (registers .words)) ⌝ }
 {
-    let states = table[Machine::STATE_COUNT];
-    let mut room = [0u32; Machine::REFERENCES];
+    let states = table[MachineTable::STATE_COUNT];
+    let mut room = [0u32; MachineTable::REFERENCES];
     let mut file = registers;
     let mut state = start;
     let mut count: u32 = 0;
@@ -81,7 +81,7 @@ fn run_from(
     words: &[u32],
 ) -> RunAnswer
     requires { ⌜ machineWords ≤ length (now table) ⌝ }
-    requires { ⌜ admittedOf (now table) ≡ true ⌝ }
+    requires { ⌜ admittedMachine (now table) ≡ true ⌝ }
     requires { ⌜ start < stateCount (now table) ⌝ }
     requires { ⌜ limit ≤ budget ⌝ }
     requires { ⌜ maxRegisters ≤ length (now registers) ⌝ }
@@ -96,14 +96,14 @@ fn run_from(
 
 // "Run machine": the answer, and the registers left in the first sixteen words of the buffer. Every arrival has a word, which nothing reads.
 pub fn run_machine(table: &[u32], registers: &mut [u32], start: u32, budget: u32) -> RunAnswer
-    ensures { λ r. ⌜ r ≡ runAnswer (now (table .entry)) (now (registers .entry)) start budget ⌝ }
-    ensures { λ _. ⌜ now (registers .exit) ≡ runRegisters (now (table .entry)) (now (registers .entry)) start budget ⌝ }
+    ensures { λ r. ⌜ r ≡ machineAnswer (now (table .entry)) (now (registers .entry)) start budget ⌝ }
+    ensures { λ _. ⌜ now (registers .exit) ≡ machineRegisters (now (table .entry)) (now (registers .entry)) start budget ⌝ }
 {
     // The refusals in the order of the papers: 7 short tables, 10 not admitted, 12 words needed, 9 no such start.
-    if table.len() < Machine::WORDS {
+    if table.len() < MachineTable::WORDS {
         return RunAnswer::Refused(7);
     }
-    if registers.len() < Machine::REGISTERS {
+    if registers.len() < MachineTable::REGISTERS {
         return RunAnswer::Refused(7);
     }
     if !admitted(table) {
@@ -112,7 +112,7 @@ pub fn run_machine(table: &[u32], registers: &mut [u32], start: u32, budget: u32
     if !is_wordless(table) {
         return RunAnswer::Refused(12);
     }
-    if table[Machine::STATE_COUNT] <= start {
+    if table[MachineTable::STATE_COUNT] <= start {
         return RunAnswer::Refused(9);
     }
     run_from(table, registers, start, budget, budget, &[])
@@ -126,20 +126,20 @@ pub fn run_machine_with_words(
     budget: u32,
     words: &[u32],
 ) -> RunAnswer
-    ensures { λ r. ⌜ r ≡ wordsAnswer (now (table .entry)) (now (registers .entry)) start budget (now (words .entry)) ⌝ }
-    ensures { λ _. ⌜ now (registers .exit) ≡ wordsRegisters (now (table .entry)) (now (registers .entry)) start budget (now (words .entry)) ⌝ }
+    ensures { λ r. ⌜ r ≡ machineWordsAnswer (now (table .entry)) (now (registers .entry)) start budget (now (words .entry)) ⌝ }
+    ensures { λ _. ⌜ now (registers .exit) ≡ machineWordsRegisters (now (table .entry)) (now (registers .entry)) start budget (now (words .entry)) ⌝ }
 {
     // As above, but for 12.
-    if table.len() < Machine::WORDS {
+    if table.len() < MachineTable::WORDS {
         return RunAnswer::Refused(7);
     }
-    if registers.len() < Machine::REGISTERS {
+    if registers.len() < MachineTable::REGISTERS {
         return RunAnswer::Refused(7);
     }
     if !admitted(table) {
         return RunAnswer::Refused(10);
     }
-    if table[Machine::STATE_COUNT] <= start {
+    if table[MachineTable::STATE_COUNT] <= start {
         return RunAnswer::Refused(9);
     }
     let limit = runs::lasting(words, budget);

@@ -8,9 +8,9 @@ ghost use lib.ListN.{length};
 ghost use Rattle.word.specs.Word.{inCode};
 ghost use Rattle.runs.specs.Lists.{every, upFrom};
 ghost use Rattle.fsmd.specs.Layout.{machineWords, maxWires};
-ghost use Rattle.fsmd.specs.Machine.{wordless};
-ghost use Rattle.fsmd.specs.Table.{wireAt, machineOf, admitted};
-use super::Machine;
+ghost use Rattle.fsmd.specs.Machine.{wordlessMachine};
+ghost use Rattle.fsmd.specs.Table.{wireAt, machineOf, admittedMachine};
+use super::MachineTable;
 use super::table::first_wire;
 use super::table::wire;
 use super::table::wire_count;
@@ -37,10 +37,10 @@ fn wires_wordless(table: &[u32], first: usize, count: usize) -> bool
 // No wire of any state does.
 pub fn is_wordless(table: &[u32]) -> bool
     requires { ⌜ machineWords ≤ length (now table) ⌝ }
-    requires { ⌜ admitted (now table) ≡ true ⌝ }
-    ensures { λ r. ⌜ r ≡ wordless (machineOf (now (table .entry))) ⌝ }
+    requires { ⌜ admittedMachine (now table) ≡ true ⌝ }
+    ensures { λ r. ⌜ r ≡ wordlessMachine (machineOf (now (table .entry))) ⌝ }
 {
-    let states = word_index(table[Machine::STATE_COUNT]);
+    let states = word_index(table[MachineTable::STATE_COUNT]);
     let mut k = 0;
     while k < states {
         if !wires_wordless(table, first_wire(table, k), wire_count(table, k)) {

@@ -4,18 +4,18 @@ ghost use Prim.Native.Nat.{_+_, _<_, _≤_, _^_};
 ghost use lib.ListN.{length};
 ghost use Rattle.fsmd.specs.Layout.{machineWords, maxStates, maxWires, recordOffset};
 ghost use Rattle.fsmd.specs.Table.{stateCount, registerCount, wireAt, firstWireAt, wireCountAt};
-use super::Machine;
+use super::MachineTable;
 use super::Wire;
 use buffers::word_index;
 
 // N and R.
-pub fn head_of(table: &[u32]) -> Machine
+pub fn head_of(table: &[u32]) -> MachineTable
     requires { ⌜ machineWords ≤ length (now table) ⌝ }
     ensures { λ r. ⌜ (r .states ≡ stateCount (now (table .entry))) × (r .registers ≡ registerCount (now (table .entry))) ⌝ }
 {
-    Machine {
-        states: table[Machine::STATE_COUNT],
-        registers: table[Machine::REGISTER_COUNT],
+    MachineTable {
+        states: table[MachineTable::STATE_COUNT],
+        registers: table[MachineTable::REGISTER_COUNT],
     }
 }
 
@@ -25,7 +25,7 @@ pub fn wire(table: &[u32], i: usize) -> Wire
     requires { ⌜ i < maxWires ⌝ }
     ensures { λ w. ⌜ w ≡ wireAt (now (table .entry)) i ⌝ }
 {
-    let at = Machine::WIRE_WORDS + Wire::WORDS * i;
+    let at = MachineTable::WIRE_WORDS + Wire::WORDS * i;
     Wire {
         code: table[at],
         a: table[at + Wire::A],
@@ -39,7 +39,7 @@ pub fn record(k: usize) -> usize
     requires { ⌜ k < maxStates ⌝ }
     ensures { λ r. ⌜ r ≡ recordOffset k ⌝ }
 {
-    Machine::RECORDS + Machine::RECORD * k
+    MachineTable::RECORDS + MachineTable::RECORD * k
 }
 
 // The first wire of state k, counted from the start of the machine's wires.
@@ -57,5 +57,5 @@ pub fn wire_count(table: &[u32], k: usize) -> usize
     requires { ⌜ k < maxStates ⌝ }
     ensures { λ r. ⌜ (r ≡ wireCountAt (now (table .entry)) k) × (r < 2 ^ 32) ⌝ }
 {
-    word_index(table[record(k) + Machine::WIRE_COUNT])
+    word_index(table[record(k) + MachineTable::WIRE_COUNT])
 }

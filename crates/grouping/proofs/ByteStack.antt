@@ -1,5 +1,5 @@
 -- A visit whose frames stand in two lists of bytes, `stack` and `passed`, `depth` of them, and whose edges stand in a third. Two records
--- say what holds at the heads of the two loops, and each way through a turn is a law from one to the next, for every visitor. Assumes nothing.
+-- say what holds at the heads of the two loops, and each way through a pass is a law from one to the next, for every visitor. Assumes nothing.
 use Prim.Native.Nat.{ℕ, zero, suc, _+_, _-_, _*_, _≤_, _<_}
 use native.Mathlib.Nat.{add-zero}
 use mathlib.Core.Path.{_≡_, refl, sym, ap, _∙_}
@@ -13,11 +13,11 @@ use borrow.Author.Tests.{lt-ltb, le-ltb}
 use Rattle.runs.specs.Lists.{only}
 use Rattle.runs.proofs.Tests.{Compared, same, other, compared}
 use Rattle.cfg.specs.Layout.{maxBlocks}
-use Rattle.fsmd.specs.Layout.{none}
+use Rattle.fsmd.specs.Layout.{absent}
 use Rattle.grouping.specs.Visit.{Visitor}
 use Rattle.grouping.specs.Bytes.{edgesFrom, edgesIn, used, visitBytes}
 use Rattle.grouping.proofs.Marks.{used-le, used-lt, used-set}
-use Rattle.grouping.proofs.VisitStack.{Frame, blocks, resume, resume-none, resume-start, resume-pop, resume-turn, resume-push}
+use Rattle.grouping.proofs.VisitStack.{Frame, blocks, resume, resume-none, resume-start, resume-pop, resume-skip, resume-push}
 
 -- a block whose successors from the kth on are left
 abbrev pub top : List ℕ → ℕ → ℕ → Frame
@@ -40,15 +40,15 @@ module _ (bytes : List ℕ) where
   two n (suc (suc k)) h = ap (only (λ (t : ℕ). ltb t maxBlocks)) (drop-nil k)
 
   -- the next byte is a block, or none
-  edge-some : (n k t : ℕ) → k < 2 → t ≡ getD bytes (2 * n + k) none → t < maxBlocks → edgesFrom bytes n k ≡ t ∷ edgesFrom bytes n (k + 1)
+  edge-some : (n k t : ℕ) → k < 2 → t ≡ getD bytes (2 * n + k) absent → t < maxBlocks → edgesFrom bytes n k ≡ t ∷ edgesFrom bytes n (k + 1)
   unfolding edgesFrom
-  edge-some n zero t h e l = let f : t ≡ getD bytes (2 * n) none = rw add-zero at e in rw (← f, lt-ltb t maxBlocks l)
+  edge-some n zero t h e l = let f : t ≡ getD bytes (2 * n) absent = rw add-zero at e in rw (← f, lt-ltb t maxBlocks l)
   edge-some n (suc zero) t h e l = rw (← e, lt-ltb t maxBlocks l)
   edge-some n (suc (suc k)) t h e l = absurd (omega arith)
 
-  edge-none : (n k t : ℕ) → k < 2 → t ≡ getD bytes (2 * n + k) none → maxBlocks ≤ t → edgesFrom bytes n k ≡ edgesFrom bytes n (k + 1)
+  edge-none : (n k t : ℕ) → k < 2 → t ≡ getD bytes (2 * n + k) absent → maxBlocks ≤ t → edgesFrom bytes n k ≡ edgesFrom bytes n (k + 1)
   unfolding edgesFrom
-  edge-none n zero t h e l = let f : t ≡ getD bytes (2 * n) none = rw add-zero at e in rw (← f, le-ltb t maxBlocks l)
+  edge-none n zero t h e l = let f : t ≡ getD bytes (2 * n) absent = rw add-zero at e in rw (← f, le-ltb t maxBlocks l)
   edge-none n (suc zero) t h e l = rw (← e, le-ltb t maxBlocks l)
   edge-none n (suc (suc k)) t h e l = absurd (omega arith)
 
@@ -162,7 +162,7 @@ module _ {S : Type 0} {bytes : List ℕ} {v : Visitor S} {whole : S} {blank : �
         }
 
     -- its next byte is t
-    module _ (t : ℕ) (is : t ≡ getD bytes (2 * block + k) none) (more : k < 2) where
+    module _ (t : ℕ) (is : t ≡ getD bytes (2 * block + k) absent) (more : k < 2) where
       pub passes-none : maxBlocks ≤ t → AtEdges bytes v whole blank s seen stack passed depth block (k + 1)
       passes-none h =
           record { sized = i .sized; some = i .some; is-top = i .is-top; is-block = i .is-block; left = rw (edge-none bytes block k t more is h) at (i .left) }
@@ -174,16 +174,16 @@ module _ {S : Type 0} {bytes : List ℕ} {v : Visitor S} {whole : S} {blank : �
         left′ : resume v (edgesIn bytes) (maxBlocks - depth) (record { block = block; left = t ∷ edgesFrom bytes block (k + 1) } ∷ fs) s ≡ whole
         left′ = rw (edge-some bytes block k t more is l) at (i .left)
 
-        -- it is turned away from
-        pub turns : v .stop (block ∷ pathOf bytes stack passed (depth - 1)) t s ≡ true
-            → AtEdges bytes v whole blank (v .turn (block ∷ pathOf bytes stack passed (depth - 1)) t s) seen stack passed depth block (k + 1)
-        turns h =
+        -- it is skipped
+        pub skips : v .stop (block ∷ pathOf bytes stack passed (depth - 1)) t s ≡ true
+            → AtEdges bytes v whole blank (v .skip (block ∷ pathOf bytes stack passed (depth - 1)) t s) seen stack passed depth block (k + 1)
+        skips h =
             record {
               sized = i .sized;
               some = i .some;
               is-top = i .is-top;
               is-block = i .is-block;
-              left = sym (resume-turn v (edgesIn bytes) block t (edgesFrom bytes block (k + 1)) fs s (maxBlocks - depth) h) ∙ left′;
+              left = sym (resume-skip v (edgesIn bytes) block t (edgesFrom bytes block (k + 1)) fs s (maxBlocks - depth) h) ∙ left′;
             }
 
         -- a block that is not seen finds room, and the outer loop's measure falls

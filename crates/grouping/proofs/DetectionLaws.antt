@@ -13,7 +13,7 @@ use Rattle.runs.proofs.Tests.{true-or-false, or-false, and-true, and-false, Com
 use Rattle.runs.proofs.Sets.{In, Distinct, Subset, mem→In, mem→Out}
 use Rattle.cfg.specs.Graph.{CFG, successors}
 use Rattle.grouping.specs.Visit.{visit}
-use Rattle.grouping.specs.Grouping.{illegal, Detection, visited, illegalTo, detectTurn, detecting, detect}
+use Rattle.grouping.specs.Grouping.{illegal, Detection, visited, illegalTo, detectSkip, detecting, detect}
 use Rattle.grouping.proofs.Reach.{Closed, Reached, entry, along}
 use Rattle.grouping.proofs.VisitLaws.{Came, came-reached, Outcome, Law, whole-visit, whole-fuel}
 use Rattle.grouping.proofs.PopulationLaws.{stateIn}
@@ -102,15 +102,15 @@ module _ (g : CFG) (a : Closed g) (starters states : List ℕ) where
         fresh = mem→Out x starters (not-true (mem x starters) (b .1));
       }
 
-  turned : (path : List ℕ) (x : ℕ) (h : Detection) → Inv g starters states path h → Came (successors g) 0 path x → detecting starters states .stop path x h ≡ true
-      → Outcome (Inv g starters states path) (Dealt starters states path x) Le h (detecting starters states .turn path x h)
-  turned path x (illegalTo z) i c e = record { holds = i; dealt = tt; grows = tt }
-  turned path x (visited seen) i c e = go (true-or-false (illegal starters states path x))
+  skipped : (path : List ℕ) (x : ℕ) (h : Detection) → Inv g starters states path h → Came (successors g) 0 path x → detecting starters states .stop path x h ≡ true
+      → Outcome (Inv g starters states path) (Dealt starters states path x) Le h (detecting starters states .skip path x h)
+  skipped path x (illegalTo z) i c e = record { holds = i; dealt = tt; grows = tt }
+  skipped path x (visited seen) i c e = go (true-or-false (illegal starters states path x))
     where
       go : (illegal starters states path x ≡ true) ⊎ (illegal starters states path x ≡ false)
-          → Outcome (Inv g starters states path) (Dealt starters states path x) Le (visited seen) (detectTurn starters states path x (visited seen))
-      go (inl f) = rw (f, detectTurn) (record { holds = fails path x seen i c f; dealt = tt; grows = tt })
-      go (inr f) = rw (f, detectTurn) (record { holds = i; dealt = (mem→In x seen (rw f at e), passes path x f); grows = λ y j. j })
+          → Outcome (Inv g starters states path) (Dealt starters states path x) Le (visited seen) (detectSkip starters states path x (visited seen))
+      go (inl f) = rw (f, detectSkip) (record { holds = fails path x seen i c f; dealt = tt; grows = tt })
+      go (inr f) = rw (f, detectSkip) (record { holds = i; dealt = (mem→In x seen (rw f at e), passes path x f); grows = λ y j. j })
 
   new : (path : List ℕ) (x : ℕ) (h : Detection) → Inv g starters states path h → detecting starters states .stop path x h ≡ false → In x path → ⊥
   new path x (illegalTo z) i e j = true≢false e
@@ -160,7 +160,7 @@ module _ (g : CFG) (a : Closed g) (starters states : List ℕ) where
     le-trans = le-trans;
     stays = stays;
     small = λ path x s i c. small path x c;
-    turned = turned;
+    skipped = skipped;
     new = new;
     entered = entered;
     finished = finishes;

@@ -11,17 +11,17 @@ use borrow.Author.Tests.{ne-eqb}
 use Rattle.cfg.specs.Layout.{maxBlocks}
 use Rattle.runs.specs.Lists.{mem}
 use Rattle.runs.proofs.Tests.{Compared, same, other, compared}
-use Rattle.fsmd.specs.Layout.{none}
+use Rattle.fsmd.specs.Layout.{absent}
 use Rattle.grouping.specs.declared.Starters.{Starters}
 use Rattle.grouping.specs.declared.Detected.the-variants.{IllegalTo, Legal}
-use Rattle.grouping.specs.Grouping.{illegal, Detection, visited, illegalTo, detectTurn, detecting}
+use Rattle.grouping.specs.Grouping.{illegal, Detection, visited, illegalTo, detectSkip, detecting}
 use Rattle.grouping.specs.Bytes.{edgesIn, Listed, startersOf, illegalBy, used, visitBytes, detectedOf, detection}
 use Rattle.grouping.proofs.VisitStack.{resume-over}
-use Rattle.grouping.proofs.ByteStack.{top, pathOf, frames, AtVisit, AtEdges, begins, ends, enters, pops, passes-none, turns, room, falls, pushes}
+use Rattle.grouping.proofs.ByteStack.{top, pathOf, frames, AtVisit, AtEdges, begins, ends, enters, pops, passes-none, skips, room, falls, pushes}
 
 -- an edge from the path's head is tested by the marks of the starters
 illegal-by : (s : Starters) (states path : List ℕ) (x y : ℕ) → Listed s → y < maxBlocks → illegal (startersOf s) states (x ∷ path) y ≡ illegalBy states (s .marks) x y
-illegal-by s states path x y l h = rw (l .marked y h) (twice (not (eqb (getD states x none) (getD states y none))) (eqb (getD (s .marks) y 0) 0))
+illegal-by s states path x y l h = rw (l .marked y h) (twice (not (eqb (getD states x absent) (getD states y absent))) (eqb (getD (s .marks) y 0) 0))
   where
     twice : (a b : Bool) → a && not (not b) ≡ a && b
     twice a true = refl
@@ -84,8 +84,8 @@ module _ {bytes : List ℕ} {s : Starters} {states seen stack passed : List ℕ}
     detect-pops end = record { list = i .list; listed = i .listed; marked = i .marked; on = pops (i .on) end seen (i .on .sized .seen-64) (omega arith) }
 
     -- the next byte, and the same as an index
-    module _ (to t : ℕ) (index : t ≡ to) (is : to ≡ getD bytes (2 * block + k) none) (more : k < 2) where
-      byte : t ≡ getD bytes (2 * block + k) none
+    module _ (to t : ℕ) (index : t ≡ to) (is : to ≡ getD bytes (2 * block + k) absent) (more : k < 2) where
+      byte : t ≡ getD bytes (2 * block + k) absent
       byte = index ∙ is
 
       pub detect-none : maxBlocks ≤ t → DetectEdges bytes s states seen stack passed depth block (k + 1)
@@ -104,7 +104,7 @@ module _ {bytes : List ℕ} {s : Starters} {states seen stack passed : List ℕ}
         detect-stops h =
             let e = tested true h in
             let a : AtEdges bytes (detecting (startersOf s) states) (detectWhole bytes (startersOf s) states) 0 (illegalTo t) seen stack passed depth block (k + 1) =
-            rw (e, detectTurn) at (turns (i .on) t byte more l (rw e refl)) in
+            rw (e, detectSkip) at (skips (i .on) t byte more l (rw e refl)) in
             rw (← index) (ap detectedOf
             (sym (resume-over (detecting (startersOf s) states) (edgesIn bytes) (illegalTo t) (λ path x. refl) (λ path x. refl) (λ x. refl) (maxBlocks - depth) (top bytes block (k + 1) ∷ frames bytes stack passed (depth - 1)))
             ∙ a .left))
@@ -134,4 +134,4 @@ module _ {bytes : List ℕ} {s : Starters} {states seen stack passed : List ℕ}
         detect-known h old =
             let e = tested false h in
             let z : mem t (i .list) ≡ true = i .marked t l ∙ ap not (ne-eqb (getD seen t 0) 0 old) in
-            record { list = i .list; listed = i .listed; marked = i .marked; on = rw (e, detectTurn) at (turns (i .on) t byte more l (rw (e, z) refl)) }
+            record { list = i .list; listed = i .listed; marked = i .marked; on = rw (e, detectSkip) at (skips (i .on) t byte more l (rw (e, z) refl)) }

@@ -18,24 +18,24 @@ use Rattle.cfg.specs.Graph.{successors, targets}
 use Rattle.cfg.specs.Table.{endingAt, blockAt, graphOf}
 use Rattle.cfg.proofs.Blocks.{ending-of}
 use Rattle.cfg.proofs.Admitted.{block-below, no-successors, ValidEnding, Admitted}
-use Rattle.fsmd.specs.Layout.{none}
+use Rattle.fsmd.specs.Layout.{absent}
 use Rattle.grouping.specs.Bytes.{edgesFrom, edgesIn}
 
 -- by the two bytes of a block
 module _ (bytes : List ℕ) (n : ℕ) where
-  edges-none : getD bytes (2 * n) none ≡ none → getD bytes (2 * n + 1) none ≡ none → edgesIn bytes n ≡ []
+  edges-none : getD bytes (2 * n) absent ≡ absent → getD bytes (2 * n + 1) absent ≡ absent → edgesIn bytes n ≡ []
   unfolding edgesFrom
   edges-none a b = rw (a, b)
 
-  edges-goto : (t : ℕ) → t < maxBlocks → getD bytes (2 * n) none ≡ t → getD bytes (2 * n + 1) none ≡ none → edgesIn bytes n ≡ t ∷ []
+  edges-goto : (t : ℕ) → t < maxBlocks → getD bytes (2 * n) absent ≡ t → getD bytes (2 * n + 1) absent ≡ absent → edgesIn bytes n ≡ t ∷ []
   unfolding edgesFrom
   edges-goto t l a b = rw (a, b, lt-ltb t maxBlocks l)
 
-  edges-ite : (t f : ℕ) → t < maxBlocks → f < maxBlocks → getD bytes (2 * n) none ≡ t → getD bytes (2 * n + 1) none ≡ f → edgesIn bytes n ≡ t ∷ f ∷ []
+  edges-ite : (t f : ℕ) → t < maxBlocks → f < maxBlocks → getD bytes (2 * n) absent ≡ t → getD bytes (2 * n + 1) absent ≡ f → edgesIn bytes n ≡ t ∷ f ∷ []
   unfolding edgesFrom
   edges-ite t f l m a b = rw (a, b, lt-ltb t maxBlocks l, lt-ltb f maxBlocks m)
 
-edges-same : (a b : List ℕ) (n : ℕ) → getD a (2 * n) none ≡ getD b (2 * n) none → getD a (2 * n + 1) none ≡ getD b (2 * n + 1) none → edgesIn a n ≡ edgesIn b n
+edges-same : (a b : List ℕ) (n : ℕ) → getD a (2 * n) absent ≡ getD b (2 * n) absent → getD a (2 * n + 1) absent ≡ getD b (2 * n + 1) absent → edgesIn a n ≡ edgesIn b n
 unfolding edgesFrom
 edges-same a b n e f = rw (e, f)
 
@@ -43,15 +43,15 @@ edges-same a b n e f = rw (e, f)
 pub record Copied (t bytes : List ℕ) (n : ℕ) : Type 0 where
   pub size : length bytes ≡ 128
   pub done : (m : ℕ) → m < n → edgesIn bytes m ≡ successors (graphOf t) m
-  pub free : (m : ℕ) → n ≤ m → (getD bytes (2 * m) none ≡ none) × (getD bytes (2 * m + 1) none ≡ none)
+  pub free : (m : ℕ) → n ≤ m → (getD bytes (2 * m) absent ≡ absent) × (getD bytes (2 * m + 1) absent ≡ absent)
 
-blank : (n i : ℕ) → getD (replicate n none) i none ≡ none
+blank : (n i : ℕ) → getD (replicate n absent) i absent ≡ absent
 blank zero i = refl
 blank (suc n) zero = refl
 blank (suc n) (suc i) = blank n i
 
-pub copied-none : (t : List ℕ) → Copied t (replicate 128 none) 0
-copied-none t = record { size = length-replicate 128 none; done = λ m h. absurd (omega arith); free = λ m h. (blank 128 (2 * m), blank 128 (2 * m + 1)) }
+pub copied-none : (t : List ℕ) → Copied t (replicate 128 absent) 0
+copied-none t = record { size = length-replicate 128 absent; done = λ m h. absurd (omega arith); free = λ m h. (blank 128 (2 * m), blank 128 (2 * m + 1)) }
 
 module _ {t bytes : List ℕ} {n : ℕ} (c : Copied t bytes n) where
   pub copied-all : Admitted t → getD t 0 0 ≤ n → (m : ℕ) → edgesIn bytes m ≡ successors (graphOf t) m
@@ -65,7 +65,7 @@ module _ {t bytes : List ℕ} {n : ℕ} (c : Copied t bytes n) where
 
   -- the bytes of block n, and no others, are stored
   more : (after : List ℕ) → length after ≡ 128 → edgesIn after n ≡ successors (graphOf t) n
-      → ((m : ℕ) → (m ≡ n → ⊥) → (getD after (2 * m) none ≡ getD bytes (2 * m) none) × (getD after (2 * m + 1) none ≡ getD bytes (2 * m + 1) none))
+      → ((m : ℕ) → (m ≡ n → ⊥) → (getD after (2 * m) absent ≡ getD bytes (2 * m) absent) × (getD after (2 * m + 1) absent ≡ getD bytes (2 * m + 1) absent))
       → Copied t after (n + 1)
   more after size here others =
       record {
@@ -108,8 +108,8 @@ module _ {t bytes : List ℕ} {n : ℕ} (c : Copied t bytes n) where
     copied-goto x is =
         let after = set bytes (2 * n) x in
         more after (length-set bytes (2 * n) x ∙ c .size)
-        (edges-goto after n x (goto-low x is) (getD-set-same bytes (2 * n) x none (omega (arith, low, c .size))) (getD-set-other bytes (2 * n) (2 * n + 1) x none (λ d. omega arith) ∙ c .free n (omega arith) .1) ∙ sym (next (Goto x) is))
-        (λ m d. (getD-set-other bytes (2 * n) (2 * m) x none (λ q. d (omega arith)), getD-set-other bytes (2 * n) (2 * m + 1) x none (λ q. omega arith)))
+        (edges-goto after n x (goto-low x is) (getD-set-same bytes (2 * n) x absent (omega (arith, low, c .size))) (getD-set-other bytes (2 * n) (2 * n + 1) x absent (λ d. omega arith) ∙ c .free n (omega arith) .1) ∙ sym (next (Goto x) is))
+        (λ m d. (getD-set-other bytes (2 * n) (2 * m) x absent (λ q. d (omega arith)), getD-set-other bytes (2 * n) (2 * m + 1) x absent (λ q. omega arith)))
 
     pub copied-ite : (o : Condition) (x y : ℕ) → Ite o x y ≡ endingAt t (blockOffset n + endingOffset) → Copied t (set (set bytes (2 * n) x) (2 * n + 1) y) (n + 1)
     copied-ite o x y is =
@@ -118,10 +118,10 @@ module _ {t bytes : List ℕ} {n : ℕ} (c : Copied t bytes n) where
         let size : length one ≡ 128 = length-set bytes (2 * n) x ∙ c .size in
         more after (length-set one (2 * n + 1) y ∙ size)
         (edges-ite after n x y (ite-low o x y is .0) (ite-low o x y is .1)
-        (getD-set-other one (2 * n + 1) (2 * n) y none (λ d. omega arith) ∙ getD-set-same bytes (2 * n) x none (omega (arith, low, c .size)))
-        (getD-set-same one (2 * n + 1) y none (omega (arith, low, size)))
+        (getD-set-other one (2 * n + 1) (2 * n) y absent (λ d. omega arith) ∙ getD-set-same bytes (2 * n) x absent (omega (arith, low, c .size)))
+        (getD-set-same one (2 * n + 1) y absent (omega (arith, low, size)))
         ∙ sym (next (Ite o x y) is))
         (λ m d. (
-          getD-set-other one (2 * n + 1) (2 * m) y none (λ q. omega arith) ∙ getD-set-other bytes (2 * n) (2 * m) x none (λ q. d (omega arith)),
-          getD-set-other one (2 * n + 1) (2 * m + 1) y none (λ q. d (omega arith)) ∙ getD-set-other bytes (2 * n) (2 * m + 1) x none (λ q. omega arith),
+          getD-set-other one (2 * n + 1) (2 * m) y absent (λ q. omega arith) ∙ getD-set-other bytes (2 * n) (2 * m) x absent (λ q. d (omega arith)),
+          getD-set-other one (2 * n + 1) (2 * m + 1) y absent (λ q. d (omega arith)) ∙ getD-set-other bytes (2 * n) (2 * m + 1) x absent (λ q. omega arith),
         ))

@@ -11,9 +11,9 @@ use Rattle.runs.specs.Lists.{mem, padded}
 use Rattle.runs.proofs.Sets.{In, Distinct}
 use Rattle.cfg.specs.Layout.{maxBlocks}
 use Rattle.cfg.specs.Graph.{CFG, successors}
-use Rattle.fsmd.specs.Layout.{none}
+use Rattle.fsmd.specs.Layout.{absent}
 use Rattle.grouping.specs.Visit.{Visitor, visit}
-use Rattle.grouping.specs.Grouping.{Loops, looping, loops, populating, populate, illegal, Detection, visited, illegalTo, detectStop, detectTurn, detectEnter, detecting, detect}
+use Rattle.grouping.specs.Grouping.{Loops, looping, loops, populating, populate, illegal, Detection, visited, illegalTo, detectStop, detectSkip, detectEnter, detecting, detect}
 use Rattle.grouping.specs.Bytes.{edgesIn, loopStarters, taken, takenFrom, population, detectedOf, detection}
 use Rattle.grouping.proofs.Reach.{Closed, Reached, reached-below}
 use Rattle.grouping.proofs.LoopLaws.{loops-fuel}
@@ -50,20 +50,20 @@ padded-blank (suc n) (suc m) d = ap (λ (l : List ℕ). d ∷ l) (padded-blank n
 module _ (g : CFG) (a : Closed g) where
   -- population on longer lists
   populating-maps : (starters : List ℕ) (r k : ℕ)
-      → Maps (populating starters r k) (populating starters r k) (padded maxBlocks none) (λ (s : List ℕ). length s ≡ length (g .blocks)) (length (g .blocks))
+      → Maps (populating starters r k) (populating starters r k) (padded maxBlocks absent) (λ (s : List ℕ). length s ≡ length (g .blocks)) (length (g .blocks))
   populating-maps starters r k =
       record {
-        stops = λ path x s l i. ap (λ (y : ℕ). not (eqb y none) || (mem x starters && not (eqb x r))) (padded-at maxBlocks none s (omega (arith, a .few-blocks)) x);
-        turns = λ path x s l i. (refl, i);
-        enters = λ x s l i. (padded-set maxBlocks none s x k (omega arith) (omega (arith, a .few-blocks)), length-set s x k ∙ i);
+        stops = λ path x s l i. ap (λ (y : ℕ). not (eqb y absent) || (mem x starters && not (eqb x r))) (padded-at maxBlocks absent s (omega (arith, a .few-blocks)) x);
+        skips = λ path x s l i. (refl, i);
+        enters = λ x s l i. (padded-set maxBlocks absent s x k (omega arith) (omega (arith, a .few-blocks)), length-set s x k ∙ i);
         finishes = λ x s l i. (refl, i);
       }
 
 -- detection by states that agree
 visitorOf : (List ℕ → ℕ → Detection → Bool) → (List ℕ → ℕ → Detection → Detection) → Visitor Detection
-visitorOf stop turn = record { stop = stop; turn = turn; enter = detectEnter; finish = λ x d. d }
+visitorOf stop skip = record { stop = stop; skip = skip; enter = detectEnter; finish = λ x d. d }
 
-module _ (starters s t : List ℕ) (e : (x : ℕ) → getD s x none ≡ getD t x none) where
+module _ (starters s t : List ℕ) (e : (x : ℕ) → getD s x absent ≡ getD t x absent) where
   illegal-alike : (path : List ℕ) (y : ℕ) → illegal starters s path y ≡ illegal starters t path y
   illegal-alike [] y = refl
   illegal-alike (x ∷ path) y = rw (e x, e y)
@@ -72,14 +72,14 @@ module _ (starters s t : List ℕ) (e : (x : ℕ) → getD s x none ≡ getD t x
   stop-alike path y (illegalTo z) = refl
   stop-alike path y (visited seen) = ap (λ (b : Bool). b || mem y seen) (illegal-alike path y)
 
-  turn-alike : (path : List ℕ) (y : ℕ) (d : Detection) → detectTurn starters s path y d ≡ detectTurn starters t path y d
-  turn-alike path y (illegalTo z) = refl
-  turn-alike path y (visited seen) = rw (illegal-alike path y, detectTurn)
+  skip-alike : (path : List ℕ) (y : ℕ) (d : Detection) → detectSkip starters s path y d ≡ detectSkip starters t path y d
+  skip-alike path y (illegalTo z) = refl
+  skip-alike path y (visited seen) = rw (illegal-alike path y, detectSkip)
 
   detecting-alike : detecting starters s ≡ detecting starters t
   unfolding visitorOf
   detecting-alike =
-      ap₂ visitorOf (fun-ext (λ path. fun-ext (λ y. fun-ext (λ d. stop-alike path y d)))) (fun-ext (λ path. fun-ext (λ y. fun-ext (λ d. turn-alike path y d))))
+      ap₂ visitorOf (fun-ext (λ path. fun-ext (λ y. fun-ext (λ d. stop-alike path y d)))) (fun-ext (λ path. fun-ext (λ y. fun-ext (λ d. skip-alike path y d))))
 
 module _ (g : CFG) (a : Closed g) (bytes : List ℕ) (edges : (n : ℕ) → edgesIn bytes n ≡ successors g n) where
   next : edgesIn bytes ≡ successors g
@@ -93,25 +93,25 @@ module _ (g : CFG) (a : Closed g) (bytes : List ℕ) (edges : (n : ℕ) → edge
 
   module _ (starters : List ℕ) where
     from-bytes : (k : ℕ) (rs s : List ℕ) → ((r : ℕ) → In r rs → r < length (g .blocks)) → length s ≡ length (g .blocks)
-        → takenFrom bytes starters k rs (padded maxBlocks none s) ≡ padded maxBlocks none (populateWith (maxBlocks + 1) g starters k rs s)
+        → takenFrom bytes starters k rs (padded maxBlocks absent s) ≡ padded maxBlocks absent (populateWith (maxBlocks + 1) g starters k rs s)
     unfolding takenFrom taken
     from-bytes k [] s low i = refl
     from-bytes k (r ∷ rs) s low i =
         let m = visit-maps (populating-maps g a starters r k) (successors g) (λ u x j. a .inside u x j) (maxBlocks + 1) [] r s (low r (inl refl)) i in
-        ap (λ (n : ℕ → List ℕ). takenFrom bytes starters (suc k) rs (visit (populating starters r k) n (maxBlocks + 1) [] r (padded maxBlocks none s))) next
+        ap (λ (n : ℕ → List ℕ). takenFrom bytes starters (suc k) rs (visit (populating starters r k) n (maxBlocks + 1) [] r (padded maxBlocks absent s))) next
         ∙ ap (takenFrom bytes starters (suc k) rs) (m .0)
         ∙ from-bytes (suc k) rs (visit (populating starters r k) (successors g) (maxBlocks + 1) [] r s) (λ x j. low x (inr j)) (m .1)
 
-    pub population-bytes : Distinct starters → ((x : ℕ) → In x starters → Reached g x) → population bytes starters ≡ padded maxBlocks none (populate g starters)
+    pub population-bytes : Distinct starters → ((x : ℕ) → In x starters → Reached g x) → population bytes starters ≡ padded maxBlocks absent (populate g starters)
     unfolding population
     population-bytes distinct known =
-        ap (takenFrom bytes starters 0 starters) (sym (padded-blank maxBlocks (length (g .blocks)) none))
-        ∙ from-bytes 0 starters (replicate (length (g .blocks)) none) (λ r i. reached-below a (known r i)) (length-replicate (length (g .blocks)) none)
-        ∙ ap (padded maxBlocks none) (populate-fuel g a starters distinct known (maxBlocks + 1) (omega (arith, a .few-blocks)))
+        ap (takenFrom bytes starters 0 starters) (sym (padded-blank maxBlocks (length (g .blocks)) absent))
+        ∙ from-bytes 0 starters (replicate (length (g .blocks)) absent) (λ r i. reached-below a (known r i)) (length-replicate (length (g .blocks)) absent)
+        ∙ ap (padded maxBlocks absent) (populate-fuel g a starters distinct known (maxBlocks + 1) (omega (arith, a .few-blocks)))
 
-    pub detection-bytes : (states : List ℕ) → length states ≤ maxBlocks → detection bytes starters (padded maxBlocks none states) ≡ detectedOf (detect g starters states)
+    pub detection-bytes : (states : List ℕ) → length states ≤ maxBlocks → detection bytes starters (padded maxBlocks absent states) ≡ detectedOf (detect g starters states)
     unfolding detection
     detection-bytes states h =
         ap₂ (λ (n : ℕ → List ℕ) (v : Visitor Detection). detectedOf (visit v n (maxBlocks + 1) [] 0 (visited []))) next
-        (detecting-alike starters (padded maxBlocks none states) states (padded-at maxBlocks none states h))
+        (detecting-alike starters (padded maxBlocks absent states) states (padded-at maxBlocks absent states h))
         ∙ ap detectedOf (detect-fuel g a starters states (maxBlocks + 1) (omega (arith, a .few-blocks)))

@@ -8,7 +8,7 @@ use lib.ListN.{length, getD, replicate, length-append}
 use Rattle.runs.proofs.Tests.{Compared, same, other, compared}
 use Rattle.runs.proofs.Sets.{In, Distinct, in-left, in-append, distinct-snoc, distinct-below, getD-in, getD-any}
 use Rattle.cfg.specs.Graph.{CFG, successors}
-use Rattle.fsmd.specs.Layout.{none}
+use Rattle.fsmd.specs.Layout.{absent}
 use Rattle.grouping.specs.Visit.{visit}
 use Rattle.grouping.specs.Grouping.{Loops, looping, loops, populate, Detection, visited, illegalTo, detecting, detect, Groups, regroup, groups}
 use Rattle.grouping.proofs.Reach.{Closed, Reached, along, reached-below}
@@ -30,8 +30,8 @@ pub record Grouped (g : CFG) (s : Groups) : Type 0 where
   pub starter-home : (k d : ℕ) → k < length (s .starters) → stateIn (s .states) (getD (s .starters) k d) ≡ k
   -- the reached blocks have a state, and no others
   pub reached-state : (x : ℕ) → Reached g x → stateIn (s .states) x < length (s .starters)
-  pub state-reached : (x : ℕ) → stateIn (s .states) x ≢ none → Reached g x
-  pub unreached-none : (x : ℕ) → (Reached g x → ⊥) → stateIn (s .states) x ≡ none
+  pub state-reached : (x : ℕ) → stateIn (s .states) x ≢ absent → Reached g x
+  pub unreached-none : (x : ℕ) → (Reached g x → ⊥) → stateIn (s .states) x ≡ absent
   -- a block that is no starter is come to from its own state
   pub predecessor : (x : ℕ) → Reached g x → (In x (s .starters) → ⊥) → (p : ℕ) × (stateIn (s .states) p ≡ stateIn (s .states) x) × In x (successors g p)
   -- an edge leads to a starter or stays in its state
@@ -70,7 +70,7 @@ afterDetection (illegalTo y) s f = f y
 
 module _ (fuel : ℕ) (g : CFG) where
   abbrev pub populationWith : List ℕ → List ℕ
-  populationWith starters = populateWith fuel g starters 0 starters (replicate (length (g .blocks)) none)
+  populationWith starters = populateWith fuel g starters 0 starters (replicate (length (g .blocks)) absent)
 
   abbrev pub detectionWith : List ℕ → List ℕ → Detection
   detectionWith starters states = visit (detecting starters states) (successors g) fuel [] 0 (visited [])
@@ -118,9 +118,9 @@ module _ (g : CFG) (a : Closed g) (finished : List ℕ) where
     starter-home = home;
     reached-state = λ x r. p .taken .low x (p .all x r);
     state-reached = p .taken .reach;
-    unreached-none = λ x f. absent x f (compared (stateIn (populate g starters) x) none);
+    unreached-none = λ x f. unstated x f (compared (stateIn (populate g starters) x) absent);
     predecessor = λ x r f. before x r f (p .taken .rooted x (p .all x r));
-    edge = λ u v r i. turn u v (detect-visited g a starters (populate g starters) seen e u v r i);
+    edge = λ u v r i. swapped u v (detect-visited g a starters (populate g starters) seen e u v r i);
     rank-of = rank finished;
     rank-bound = λ x. let m = rank-most finished x in let b = bound in omega arith;
     rank-down = λ u v r i f. rank-falls g starters finished (l .ranked) u v (l .all u r) i f;
@@ -136,21 +136,21 @@ module _ (g : CFG) (a : Closed g) (finished : List ℕ) where
       bound = distinct-below (length (g .blocks)) finished (ranked-distinct g starters finished (l .ranked)) (λ x i. reached-below a (l .only x i))
 
       home : (k d : ℕ) → k < length starters → stateIn (populate g starters) (getD starters k d) ≡ k
-      home k d h = ap (stateIn (populate g starters)) (getD-any starters k d none h) ∙ p .starter k h
+      home k d h = ap (stateIn (populate g starters)) (getD-any starters k d absent h) ∙ p .starter k h
 
-      absent : (x : ℕ) → (Reached g x → ⊥) → Compared (stateIn (populate g starters) x) none → stateIn (populate g starters) x ≡ none
-      absent x f (same h q) = q
-      absent x f (other h q) = absurd (f (p .taken .reach x q))
+      unstated : (x : ℕ) → (Reached g x → ⊥) → Compared (stateIn (populate g starters) x) absent → stateIn (populate g starters) x ≡ absent
+      unstated x f (same h q) = q
+      unstated x f (other h q) = absurd (f (p .taken .reach x q))
 
       before : (x : ℕ) → Reached g x → (In x starters → ⊥)
-          → (getD starters (stateIn (populate g starters) x) none ≡ x) ⊎ ((q : ℕ) × (stateIn (populate g starters) q ≡ stateIn (populate g starters) x) × In x (successors g q))
+          → (getD starters (stateIn (populate g starters) x) absent ≡ x) ⊎ ((q : ℕ) × (stateIn (populate g starters) q ≡ stateIn (populate g starters) x) × In x (successors g q))
           → (q : ℕ) × (stateIn (populate g starters) q ≡ stateIn (populate g starters) x) × In x (successors g q)
-      before x r f (inl q) = absurd (f (subst (λ z. In z starters) q (getD-in starters (stateIn (populate g starters) x) none (p .taken .low x (p .all x r)))))
+      before x r f (inl q) = absurd (f (subst (λ z. In z starters) q (getD-in starters (stateIn (populate g starters) x) absent (p .taken .low x (p .all x r)))))
       before x r f (inr q) = q
 
-      turn : (u v : ℕ) → Legal starters (populate g starters) u v → In v starters ⊎ (stateIn (populate g starters) v ≡ stateIn (populate g starters) u)
-      turn u v (inl q) = inr (sym q)
-      turn u v (inr i) = inl i
+      swapped : (u v : ℕ) → Legal starters (populate g starters) u v → In v starters ⊎ (stateIn (populate g starters) v ≡ stateIn (populate g starters) u)
+      swapped u v (inl q) = inr (sym q)
+      swapped u v (inr i) = inl i
 
   -- As many rounds as there are blocks that are no starters suffice, and what each new starter keeps holds in the end.
   pub regroup-ends : (P : List ℕ → Type 0) → Keeps g finished P → (n : ℕ) (starters : List ℕ) → Looped g starters finished → P starters

@@ -10,7 +10,7 @@ use Rattle.runs.proofs.ListLaws.{length-padded, padded-append}
 use Rattle.runs.proofs.Sets.{In, Distinct, Out→mem, in-left, in-append, distinct-snoc, distinct-below}
 use Rattle.cfg.specs.Layout.{maxBlocks}
 use Rattle.cfg.specs.Graph.{CFG, successors}
-use Rattle.fsmd.specs.Layout.{none}
+use Rattle.fsmd.specs.Layout.{absent}
 use Rattle.grouping.specs.declared.Starters.{Starters}
 use Rattle.grouping.specs.declared.Detected.the-variants.{IllegalTo, Legal}
 use Rattle.grouping.specs.Grouping.{loops, populate, Detection, visited, illegalTo, detect, Groups, regroup, groups}
@@ -67,11 +67,11 @@ module _ (g : CFG) (a : Closed g) (bytes : List ℕ) (edges : (n : ℕ) → edge
       }
 
   module _ (z : Groups) (s : Starters) (i : Round g z s) (states : List ℕ) (fresh : states ≡ population bytes (startersOf s)) where
-    padded-states : states ≡ padded maxBlocks none (populate g (startersOf s))
+    padded-states : states ≡ padded maxBlocks absent (populate g (startersOf s))
     padded-states = fresh ∙ population-bytes g a bytes edges (startersOf s) (i .distinct) (i .known)
 
     pub states-64 : length states ≡ maxBlocks
-    states-64 = ap length padded-states ∙ length-padded maxBlocks none (populate g (startersOf s))
+    states-64 = ap length padded-states ∙ length-padded maxBlocks absent (populate g (startersOf s))
 
     size : length (populate g (startersOf s)) ≡ length (g .blocks)
     size = populated g a (startersOf s) (i .distinct) (i .known) (i .entry) .taken .size

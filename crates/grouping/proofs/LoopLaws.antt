@@ -81,11 +81,11 @@ module _ (g : CFG) (a : Closed g) where
         grows = (λ y i. i, more);
       })
 
-  turned : (path : List ℕ) (x : ℕ) (s : Loops) → Inv g path s → Came (successors g) 0 path x → looping .stop path x s ≡ true
-      → Outcome (Inv g path) (Dealt path x) Le s (looping .turn path x s)
-  turned path x s i c h = go (found x (s .finished)) (found x path)
+  skipped : (path : List ℕ) (x : ℕ) (s : Loops) → Inv g path s → Came (successors g) 0 path x → looping .stop path x s ≡ true
+      → Outcome (Inv g path) (Dealt path x) Le s (looping .skip path x s)
+  skipped path x s i c h = go (found x (s .finished)) (found x path)
     where
-      go : Found x (s .finished) → Found x path → Outcome (Inv g path) (Dealt path x) Le s (looping .turn path x s)
+      go : Found x (s .finished) → Found x path → Outcome (Inv g path) (Dealt path x) Le s (looping .skip path x s)
       go (there e j) k = rw (e, looping) (record { holds = i; dealt = inl j; grows = (λ y i. i, λ y i. i) })
       go (missing e j) (there e′ k) = rw (e, looping) (again path x s i k)
       go (missing e j) (missing e′ k) = absurd (false≢true (rw (e, e′) at h))
@@ -161,7 +161,7 @@ module _ (g : CFG) (a : Closed g) where
     le-trans = λ s t u p q. (λ x i. q .0 x (p .0 x i), λ x i. q .1 x (p .1 x i));
     stays = stays;
     small = λ path x s i c. reached-below a (came-reached g entry path x (i .reach-path) c);
-    turned = turned;
+    skipped = skipped;
     new = new;
     entered = entered;
     finished = λ path x s₀ s h. finishes path x s;

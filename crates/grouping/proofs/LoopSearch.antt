@@ -10,12 +10,12 @@ use lib.Seq.{getD-set-same, getD-set-other}
 use Rattle.cfg.specs.Layout.{maxBlocks}
 use Rattle.runs.specs.Lists.{mem}
 use Rattle.runs.proofs.Tests.{Compared, same, other, compared}
-use Rattle.fsmd.specs.Layout.{none}
+use Rattle.fsmd.specs.Layout.{absent}
 use Rattle.grouping.specs.declared.Starters.{Starters}
 use Rattle.grouping.specs.Grouping.{Loops, looping}
 use Rattle.grouping.specs.Bytes.{Listed, startersOf, withStarter, used, visitBytes, loopStarters}
 use Rattle.grouping.proofs.Marks.{used-more}
-use Rattle.grouping.proofs.ByteStack.{pathOf, frames, AtVisit, AtEdges, begins, ends, enters, pops, passes-none, turns, room, falls, pushes, path-top, path-push}
+use Rattle.grouping.proofs.ByteStack.{pathOf, frames, AtVisit, AtEdges, begins, ends, enters, pops, passes-none, skips, room, falls, pushes, path-top, path-push}
 
 -- the mark of a block that is finished or not, on the path or not
 abbrev markOf : Bool → Bool → ℕ
@@ -121,8 +121,8 @@ module _ {bytes : List ℕ} {s : Starters} {marks stack passed : List ℕ} {dept
         }
 
     -- the next byte, and the same as an index
-    module _ (to t : ℕ) (index : t ≡ to) (is : to ≡ getD bytes (2 * block + k) none) (more : k < 2) where
-      byte : t ≡ getD bytes (2 * block + k) none
+    module _ (to t : ℕ) (index : t ≡ to) (is : to ≡ getD bytes (2 * block + k) absent) (more : k < 2) where
+      byte : t ≡ getD bytes (2 * block + k) absent
       byte = index ∙ is
 
       pub loop-none : maxBlocks ≤ t → LoopEdges bytes s marks stack passed depth block (k + 1)
@@ -159,7 +159,7 @@ module _ {bytes : List ℕ} {s : Starters} {marks stack passed : List ℕ} {dept
               listed = g;
               marked = i .marked;
               on =
-                  rw (e, ← index) (rw (z .0, looping) at (turns (i .on) t byte more l (rw (z .0) (z .1))));
+                  rw (e, ← index) (rw (z .0, looping) at (skips (i .on) t byte more l (rw (z .0) (z .1))));
             }
 
         -- met after it was finished
@@ -170,5 +170,5 @@ module _ {bytes : List ℕ} {s : Starters} {marks stack passed : List ℕ} {dept
               finished = i .finished;
               listed = i .listed;
               marked = i .marked;
-              on = rw (z, looping) at (turns (i .on) t byte more l (rw z refl));
+              on = rw (z, looping) at (skips (i .on) t byte more l (rw z refl));
             }

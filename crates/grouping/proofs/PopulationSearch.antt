@@ -12,7 +12,7 @@ use borrow.Author.Tests.{eq-eqb, ne-eqb}
 use Rattle.cfg.specs.Layout.{maxBlocks}
 use Rattle.runs.specs.Lists.{mem}
 use Rattle.runs.proofs.Sets.{getD-any}
-use Rattle.fsmd.specs.Layout.{none}
+use Rattle.fsmd.specs.Layout.{absent}
 use Rattle.grouping.specs.declared.Starters.{Starters}
 use Rattle.grouping.specs.Grouping.{populating}
 use Rattle.grouping.specs.Bytes.{edgesIn, Listed, Marking, startersOf, used, visitBytes, taken, takenFrom, population}
@@ -20,7 +20,7 @@ use Rattle.grouping.proofs.VisitLaws.{visit-stops}
 use Rattle.grouping.proofs.Marks.{used-set}
 use Rattle.grouping.proofs.StarterLaws.{starters-length}
 use Rattle.grouping.proofs.VisitStack.{resume}
-use Rattle.grouping.proofs.ByteStack.{pathOf, frames, AtVisit, AtEdges, begins, ends, enters, pops, passes-none, turns, room, falls, pushes}
+use Rattle.grouping.proofs.ByteStack.{pathOf, frames, AtVisit, AtEdges, begins, ends, enters, pops, passes-none, skips, room, falls, pushes}
 
 -- what is left of taking at a head of the outer loop
 abbrev pub takeRest : List ℕ → List ℕ → ℕ → ℕ → List ℕ → List ℕ → List ℕ → ℕ → List ℕ
@@ -29,39 +29,39 @@ takeRest bytes starters r k states stack passed depth = resume (populating start
 -- the starter's block is taken from the first
 pub record TakeVisit (bytes starters marks : List ℕ) (r k : ℕ) (whole states stack passed : List ℕ) (depth : ℕ) : Type 0 where
   pub marking : Marking starters marks
-  pub number : k < none
-  pub own : getD states r 0 ≡ none → ⊥
-  pub on : AtVisit bytes (populating starters r k) whole none states states stack passed depth
+  pub number : k < absent
+  pub own : getD states r 0 ≡ absent → ⊥
+  pub on : AtVisit bytes (populating starters r k) whole absent states states stack passed depth
 
 pub record TakeEdges (bytes starters marks : List ℕ) (r k : ℕ) (whole states stack passed : List ℕ) (depth block j : ℕ) : Type 0 where
   pub marking : Marking starters marks
-  pub number : k < none
-  pub own : getD states r 0 ≡ none → ⊥
-  pub on : AtEdges bytes (populating starters r k) whole none states states stack passed depth block j
+  pub number : k < absent
+  pub own : getD states r 0 ≡ absent → ⊥
+  pub on : AtEdges bytes (populating starters r k) whole absent states states stack passed depth block j
 
 -- a block that a state has, and one that none has
 module _ (starters : List ℕ) (r k : ℕ) (path : List ℕ) (x : ℕ) (states : List ℕ) (n : length states ≡ maxBlocks) (l : x < maxBlocks) where
-  stops-taken : (getD states x 0 ≡ none → ⊥) → populating starters r k .stop path x states ≡ true
-  stops-taken f = rw (getD-any states x none 0 (omega arith), ne-eqb (getD states x 0) none f)
+  stops-taken : (getD states x 0 ≡ absent → ⊥) → populating starters r k .stop path x states ≡ true
+  stops-taken f = rw (getD-any states x absent 0 (omega arith), ne-eqb (getD states x 0) absent f)
 
-  free : getD states x 0 ≡ none → populating starters r k .stop path x states ≡ mem x starters && not (eqb x r)
-  free e = rw (getD-any states x none 0 (omega arith), eq-eqb (getD states x 0) none e)
+  free : getD states x 0 ≡ absent → populating starters r k .stop path x states ≡ mem x starters && not (eqb x r)
+  free e = rw (getD-any states x absent 0 (omega arith), eq-eqb (getD states x 0) absent e)
 
 module _ (bytes starters marks : List ℕ) (first r k : ℕ) (index : r ≡ first) (states : List ℕ) (n : length states ≡ maxBlocks) (l : r < maxBlocks) where
   -- the starter's block is another state's already
-  pub take-nothing : (getD states r 0 ≡ none → ⊥) → states ≡ taken bytes starters first k states
+  pub take-nothing : (getD states r 0 ≡ absent → ⊥) → states ≡ taken bytes starters first k states
   unfolding taken
   take-nothing f =
       rw (← index) (sym (visit-stops (populating starters r k) (edgesIn bytes) maxBlocks [] r states (stops-taken starters r k [] r states n l f)))
 
-  module _ (h : k < none) (e : getD states r 0 ≡ none) where
-    begun : AtVisit bytes (populating starters r k) (visitBytes (populating starters r k) bytes r states) none (set states r k) (set states r k) (set (replicate maxBlocks 0) 0 r) (replicate maxBlocks 0) 1
+  module _ (h : k < absent) (e : getD states r 0 ≡ absent) where
+    begun : AtVisit bytes (populating starters r k) (visitBytes (populating starters r k) bytes r states) absent (set states r k) (set states r k) (set (replicate maxBlocks 0) 0 r) (replicate maxBlocks 0) 1
     begun =
-        begins bytes (populating starters r k) none states r (set states r k)
+        begins bytes (populating starters r k) absent states r (set states r k)
         (free starters r k [] r states n l e ∙ rw (eq-eqb r r refl) (and-false (mem r starters)))
         l
         (length-set states r k ∙ n)
-        (omega (arith, used-set none states r k (omega arith) e (λ f. omega arith)))
+        (omega (arith, used-set absent states r k (omega arith) e (λ f. omega arith)))
 
     pub take-begins : Marking starters marks
         → TakeVisit bytes starters marks r k (takeRest bytes starters r k (set states r k) (set (replicate maxBlocks 0) 0 first) (replicate maxBlocks 0) 1) (set states r k) (set (replicate maxBlocks 0) 0 first) (replicate maxBlocks 0) 1
@@ -94,8 +94,8 @@ module _ {bytes starters marks : List ℕ} {r k : ℕ} {whole states stack passe
     take-pops end = record { marking = i .marking; number = i .number; own = i .own; on = pops (i .on) end states (i .on .sized .seen-64) (omega arith) }
 
     -- the next byte, and the same as an index
-    module _ (to t : ℕ) (index : t ≡ to) (is : to ≡ getD bytes (2 * block + j) none) (more : j < 2) where
-      byte : t ≡ getD bytes (2 * block + j) none
+    module _ (to t : ℕ) (index : t ≡ to) (is : to ≡ getD bytes (2 * block + j) absent) (more : j < 2) where
+      byte : t ≡ getD bytes (2 * block + j) absent
       byte = index ∙ is
 
       pub take-none : maxBlocks ≤ t → TakeEdges bytes starters marks r k whole states stack passed depth block (j + 1)
@@ -105,11 +105,11 @@ module _ {bytes starters marks : List ℕ} {r k : ℕ} {whole states stack passe
         abbrev path : List ℕ
         path = block ∷ pathOf bytes stack passed (depth - 1)
 
-        pub take-known : (getD states t 0 ≡ none → ⊥) → TakeEdges bytes starters marks r k whole states stack passed depth block (j + 1)
+        pub take-known : (getD states t 0 ≡ absent → ⊥) → TakeEdges bytes starters marks r k whole states stack passed depth block (j + 1)
         take-known f =
-            record { marking = i .marking; number = i .number; own = i .own; on = turns (i .on) t byte more l (stops-taken starters r k path t states (i .on .sized .seen-64) l f) }
+            record { marking = i .marking; number = i .number; own = i .own; on = skips (i .on) t byte more l (stops-taken starters r k path t states (i .on .sized .seen-64) l f) }
 
-        module _ (e : getD states t 0 ≡ none) where
+        module _ (e : getD states t 0 ≡ absent) where
           another : t ≡ r → ⊥
           another p = i .own (sym (ap (λ (x : ℕ). getD states x 0) p) ∙ e)
 
@@ -121,17 +121,17 @@ module _ {bytes starters marks : List ℕ} {r k : ℕ} {whole states stack passe
                 marking = i .marking;
                 number = i .number;
                 own = i .own;
-                on = turns (i .on) t byte more l (free starters r k path t states (i .on .sized .seen-64) l e ∙ rw (m, ne-eqb t r another) refl);
+                on = skips (i .on) t byte more l (free starters r k path t states (i .on .sized .seen-64) l e ∙ rw (m, ne-eqb t r another) refl);
               }
 
-          not-none : k ≡ none → ⊥
+          not-none : k ≡ absent → ⊥
           not-none f = let h = i .number in omega arith
 
           pub take-room : depth < maxBlocks
           take-room = room (i .on) t byte more l e
 
           pub take-falls : {states₀ : List ℕ} {depth₀ : ℕ} → states ≡ states₀ → depth ≡ depth₀
-              → 2 * (maxBlocks - used none (set states t k)) + (depth + 1) < 2 * (maxBlocks - used none states₀) + depth₀
+              → 2 * (maxBlocks - used absent (set states t k)) + (depth + 1) < 2 * (maxBlocks - used absent states₀) + depth₀
           take-falls es ed = falls (i .on) t byte more l e k not-none es ed
 
           pub take-pushes : getD marks t 0 ≡ 0
@@ -154,9 +154,9 @@ pub record Populating (bytes : List ℕ) (s : Starters) (states : List ℕ) (k :
   pub size : length states ≡ maxBlocks
   pub left : takenFrom bytes (startersOf s) k (drop k (startersOf s)) states ≡ population bytes (startersOf s)
 
-pub populating-begins : (bytes : List ℕ) (s : Starters) → Populating bytes s (replicate maxBlocks none) 0
+pub populating-begins : (bytes : List ℕ) (s : Starters) → Populating bytes s (replicate maxBlocks absent) 0
 unfolding population
-populating-begins bytes s = record { number = omega arith; size = length-replicate maxBlocks none; left = refl }
+populating-begins bytes s = record { number = omega arith; size = length-replicate maxBlocks absent; left = refl }
 
 module _ (bytes : List ℕ) (s : Starters) (listed : Listed s) (states : List ℕ) (k : ℕ) (i : Populating bytes s states k) where
   size : length (startersOf s) ≡ s .count

@@ -12,7 +12,7 @@ use Rattle.cfg.specs.Layout.{maxBlocks}
 use Rattle.cfg.specs.declared.Ending.{Ending}
 use Rattle.cfg.specs.declared.Ending.the-variants.{Goto, Ite, Halt}
 use Rattle.cfg.specs.Graph.{CFG, emptyBlock, blockOf, targets, successors}
-use Rattle.cfg.specs.Table.{graphOf, admitted}
+use Rattle.cfg.specs.Table.{graphOf, admittedGraph}
 use Rattle.cfg.proofs.Admitted.{ValidEnding, ValidGraph, valid-graph, admitted-halves}
 
 -- what the grouping asks of a graph
@@ -52,5 +52,5 @@ valid-closed g h = record { some-block = h .someBlock; few-blocks = h .fewBlocks
     go u v i (no n) = absurd (no-target v (rw (List·getD-eq-default (g .blocks) emptyBlock {n = u} (omega arith)) at i))
 
 -- and so the graph of every admitted table
-pub admitted-closed : (t : List ℕ) → admitted t ≡ true → Closed (graphOf t)
+pub admitted-closed : (t : List ℕ) → admittedGraph t ≡ true → Closed (graphOf t)
 admitted-closed t h = valid-closed (graphOf t) (valid-graph (graphOf t) (admitted-halves t h .0))

@@ -34,8 +34,8 @@ pub record Law {S : Type 0} (v : Visitor S) (next : ℕ → List ℕ) (root boun
   pub le-trans : (a b c : S) → Le a b → Le b c → Le a c
   pub stays : (path : List ℕ) (x : ℕ) (s s′ : S) → Le s s′ → D path x s → D path x s′
   pub small : (path : List ℕ) (x : ℕ) (s : S) → I path s → Came next root path x → x < bound
-  pub turned : (path : List ℕ) (x : ℕ) (s : S) → I path s → Came next root path x → v .stop path x s ≡ true
-      → Outcome (I path) (D path x) Le s (v .turn path x s)
+  pub skipped : (path : List ℕ) (x : ℕ) (s : S) → I path s → Came next root path x → v .stop path x s ≡ true
+      → Outcome (I path) (D path x) Le s (v .skip path x s)
   pub new : (path : List ℕ) (x : ℕ) (s : S) → I path s → v .stop path x s ≡ false → In x path → ⊥
   pub entered : (path : List ℕ) (x : ℕ) (s : S) → I path s → Came next root path x → v .stop path x s ≡ false
       → I (x ∷ path) (v .enter x s) × Le s (v .enter x s)
@@ -43,7 +43,7 @@ pub record Law {S : Type 0} (v : Visitor S) (next : ℕ → List ℕ) (root boun
       → ((y : ℕ) → In y (next x) → D (x ∷ path) y s) → Outcome (I path) (D path x) Le s (v .finish x s)
 
 module _ {S : Type 0} (v : Visitor S) (next : ℕ → List ℕ) (n : ℕ) (path : List ℕ) (x : ℕ) (s : S) where
-  pub visit-stops : v .stop path x s ≡ true → visit v next (suc n) path x s ≡ v .turn path x s
+  pub visit-stops : v .stop path x s ≡ true → visit v next (suc n) path x s ≡ v .skip path x s
   unfolding visit
   visit-stops h = rw (h, visit) refl
 
@@ -92,7 +92,7 @@ module _ {S : Type 0} {v : Visitor S} {next : ℕ → List ℕ} {root bound : �
           → ((y : ℕ) (t : S) → bound < n + suc (length path) → (In x path → ⊥) × Distinct path → ((z : ℕ) → (z ≡ x) ⊎ In z path → z < bound)
           → I (x ∷ path) t → In y (next x) → Outcome (I (x ∷ path)) (D (x ∷ path) y) Le t (visit v next n (x ∷ path) y t))
           → Outcome (I path) (D path x) Le s (visit v next (suc n) path x s)
-      go (inl h) ih = rw (visit-stops v next n path x s h) (law .turned path x s i c h)
+      go (inl h) ih = rw (visit-stops v next n path x s h) (law .skipped path x s i c h)
       go (inr h) ih =
           let new = law .new path x s i h in
           let op = law .entered path x s i c h in

@@ -12,7 +12,7 @@ use Rattle.grouping.proofs.VisitLaws.{visit-stops, visit-goes}
 -- on blocks below the bound and states with I
 pub record Maps {S T : Type 0} (v : Visitor S) (w : Visitor T) (h : S → T) (I : S → Type 0) (bound : ℕ) : Type 0 where
   pub stops : (path : List ℕ) (x : ℕ) (s : S) → x < bound → I s → w .stop path x (h s) ≡ v .stop path x s
-  pub turns : (path : List ℕ) (x : ℕ) (s : S) → x < bound → I s → (w .turn path x (h s) ≡ h (v .turn path x s)) × I (v .turn path x s)
+  pub skips : (path : List ℕ) (x : ℕ) (s : S) → x < bound → I s → (w .skip path x (h s) ≡ h (v .skip path x s)) × I (v .skip path x s)
   pub enters : (x : ℕ) (s : S) → x < bound → I s → (w .enter x (h s) ≡ h (v .enter x s)) × I (v .enter x s)
   pub finishes : (x : ℕ) (s : S) → x < bound → I s → (w .finish x (h s) ≡ h (v .finish x s)) × I (v .finish x s)
 
@@ -35,7 +35,7 @@ module _ {S T : Type 0} {v : Visitor S} {w : Visitor T} {h : S → T} {I : S →
           → ((y : ℕ) (t : S) → y < bound → I t → (visit w next n (x ∷ path) y (h t) ≡ h (visit v next n (x ∷ path) y t)) × I (visit v next n (x ∷ path) y t))
           → (visit w next (suc n) path x (h s) ≡ h (visit v next (suc n) path x s)) × I (visit v next (suc n) path x s)
       go (inl e) ih =
-          let t = m .turns path x s l i in
+          let t = m .skips path x s l i in
           rw (visit-stops v next n path x s e) (visit-stops w next n path x (h s) (m .stops path x s l i ∙ e) ∙ t .0, t .1)
       go (inr e) ih =
           let a = m .enters x s l i in

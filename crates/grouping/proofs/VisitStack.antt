@@ -38,12 +38,12 @@ module _ {S : Type 0} (v : Visitor S) (next : ℕ → List ℕ) where
   unfolding resume
   resume-pop fuel n fs s = refl
 
-  -- the next successor is turned away from, or gone into
+  -- the next successor is skipped, or gone into
   module _ (n t : ℕ) (ts : List ℕ) (fs : List Frame) (s : S) (fuel : ℕ) where
-    pub resume-turn : v .stop (n ∷ blocks fs) t s ≡ true
-        → resume fuel (record { block = n; left = t ∷ ts } ∷ fs) s ≡ resume fuel (record { block = n; left = ts } ∷ fs) (v .turn (n ∷ blocks fs) t s)
+    pub resume-skip : v .stop (n ∷ blocks fs) t s ≡ true
+        → resume fuel (record { block = n; left = t ∷ ts } ∷ fs) s ≡ resume fuel (record { block = n; left = ts } ∷ fs) (v .skip (n ∷ blocks fs) t s)
     unfolding resume
-    resume-turn h =
+    resume-skip h =
         ap (λ (u : S). resume (suc fuel) fs (v .finish n (each (visit v next (suc fuel) (n ∷ blocks fs)) ts u)))
         (visit-stops v next fuel (n ∷ blocks fs) t s h)
 
@@ -55,13 +55,13 @@ module _ {S : Type 0} (v : Visitor S) (next : ℕ → List ℕ) where
         ap (λ (u : S). resume (suc (suc fuel)) fs (v .finish n (each (visit v next (suc (suc fuel)) (n ∷ blocks fs)) ts u)))
         (visit-goes v next (suc fuel) (n ∷ blocks fs) t s h)
 
-  -- where every block is turned away from and nothing changes, nothing is left to do
-  module _ (s : S) (stops : (path : List ℕ) (x : ℕ) → v .stop path x s ≡ true) (turns : (path : List ℕ) (x : ℕ) → v .turn path x s ≡ s)
+  -- where every block is skipped and nothing changes, nothing is left to do
+  module _ (s : S) (stops : (path : List ℕ) (x : ℕ) → v .stop path x s ≡ true) (skips : (path : List ℕ) (x : ℕ) → v .skip path x s ≡ s)
       (finishes : (x : ℕ) → v .finish x s ≡ s) where
     each-over : (fuel : ℕ) (path ts : List ℕ) → each (visit v next (suc fuel) path) ts s ≡ s
     each-over fuel path [] = refl
     each-over fuel path (t ∷ ts) =
-        ap (each (visit v next (suc fuel) path) ts) (visit-stops v next fuel path t s (stops path t) ∙ turns path t) ∙ each-over fuel path ts
+        ap (each (visit v next (suc fuel) path) ts) (visit-stops v next fuel path t s (stops path t) ∙ skips path t) ∙ each-over fuel path ts
 
     pub resume-over : (fuel : ℕ) (fs : List Frame) → resume fuel fs s ≡ s
     unfolding resume

@@ -7,7 +7,7 @@ use lib.Dec.{eqb, ltb}
 use lib.ListN.{length, getD, take, drop, replicate}
 use Rattle.runs.specs.Lists.{mem, only}
 use Rattle.cfg.specs.Layout.{maxBlocks}
-use Rattle.fsmd.specs.Layout.{none}
+use Rattle.fsmd.specs.Layout.{absent}
 use Rattle.grouping.specs.declared.Starters.{Starters}
 use Rattle.grouping.specs.declared.Detected.{Detected}
 use Rattle.grouping.specs.declared.Detected.the-variants.{IllegalTo, Legal}
@@ -16,7 +16,7 @@ use Rattle.grouping.specs.Grouping.{looping, populating, Detection, visi
 
 -- the successors of block n from the kth on: two bytes a block, true first; a byte from 64 up is none
 unfoldable pub edgesFrom : List ℕ → ℕ → ℕ → List ℕ
-edgesFrom bytes n k = only (λ t. ltb t maxBlocks) (drop k (getD bytes (2 * n) none ∷ getD bytes (2 * n + 1) none ∷ []))
+edgesFrom bytes n k = only (λ t. ltb t maxBlocks) (drop k (getD bytes (2 * n) absent ∷ getD bytes (2 * n + 1) absent ∷ []))
 
 abbrev pub edgesIn : List ℕ → ℕ → List ℕ
 edgesIn bytes n = edgesFrom bytes n 0
@@ -69,11 +69,11 @@ takenFrom bytes starters k (r ∷ rs) states = takenFrom bytes starters (suc k) 
 
 unfoldable pub population : List ℕ → List ℕ → List ℕ
 unfolding takenFrom
-population bytes starters = takenFrom bytes starters 0 starters (replicate maxBlocks none)
+population bytes starters = takenFrom bytes starters 0 starters (replicate maxBlocks absent)
 
 -- an edge from x to y is illegal
 abbrev pub illegalBy : List ℕ → List ℕ → ℕ → ℕ → Bool
-illegalBy states marks x y = not (eqb (getD states x none) (getD states y none)) && eqb (getD marks y 0) 0
+illegalBy states marks x y = not (eqb (getD states x absent) (getD states y absent)) && eqb (getD marks y 0) 0
 
 abbrev pub detectedOf : Detection → Detected
 detectedOf (visited seen) = Legal

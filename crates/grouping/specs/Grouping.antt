@@ -6,7 +6,7 @@ use lib.ListN.{length, getD, set, replicate}
 use lib.Dec.{eqb}
 use Rattle.runs.specs.Lists.{mem}
 use Rattle.cfg.specs.Graph.{CFG}
-use Rattle.fsmd.specs.Layout.{none}
+use Rattle.fsmd.specs.Layout.{absent}
 use Rattle.grouping.specs.Visit.{Visitor, visitFrom}
 
 -- 1. Loop detection. `finished` has the blocks left for good, the last first; a block is met again where it is finished or on the path.
@@ -26,7 +26,7 @@ abbrev pub looping : Visitor Loops
 looping =
     record {
       stop = λ path x s. mem x (s .finished) || mem x path;
-      turn = λ path x s. elim (mem x (s .finished)) [ true ↦ s | false ↦ startedAt x s ];
+      skip = λ path x s. elim (mem x (s .finished)) [ true ↦ s | false ↦ startedAt x s ];
       enter = λ x s. s;
       finish = finishedAt;
     }
@@ -41,8 +41,8 @@ loops g = visitFrom looping g 0 (record { finished = []; starters = 0 ∷ [] })
 abbrev pub populating : List ℕ → ℕ → ℕ → Visitor (List ℕ)
 populating starters r k =
     record {
-      stop = λ path x states. not (eqb (getD states x none) none) || (mem x starters && not (eqb x r));
-      turn = λ path x states. states;
+      stop = λ path x states. not (eqb (getD states x absent) absent) || (mem x starters && not (eqb x r));
+      skip = λ path x states. states;
       enter = λ x states. set states x k;
       finish = λ x states. states;
     }
@@ -55,12 +55,12 @@ populateFrom g starters k (r ∷ rs) states = populateFrom g starters (suc k) rs
 
 unfoldable pub populate : CFG → List ℕ → List ℕ
 unfolding populateFrom
-populate g starters = populateFrom g starters 0 starters (replicate (length (g .blocks)) none)
+populate g starters = populateFrom g starters 0 starters (replicate (length (g .blocks)) absent)
 
 -- 3. Detection. An edge is tested before it is gone down: it is illegal where it leads to another state and its target is no starter.
 abbrev pub illegal : List ℕ → List ℕ → List ℕ → ℕ → Bool
 illegal starters states [] y = false
-illegal starters states (x ∷ path) y = not (eqb (getD states x none) (getD states y none)) && not (mem y starters)
+illegal starters states (x ∷ path) y = not (eqb (getD states x absent) (getD states y absent)) && not (mem y starters)
 
 -- the blocks visited so far, or the target of the first illegal edge, which ends the whole detection
 pub data Detection : Type 0 where
@@ -72,9 +72,9 @@ module _ (starters states : List ℕ) where
   detectStop path y (illegalTo z) = true
   detectStop path y (visited seen) = illegal starters states path y || mem y seen
 
-  abbrev pub detectTurn : List ℕ → ℕ → Detection → Detection
-  detectTurn path y (illegalTo z) = illegalTo z
-  detectTurn path y (visited seen) = elim (illegal starters states path y) [ true ↦ illegalTo y | false ↦ visited seen ]
+  abbrev pub detectSkip : List ℕ → ℕ → Detection → Detection
+  detectSkip path y (illegalTo z) = illegalTo z
+  detectSkip path y (visited seen) = elim (illegal starters states path y) [ true ↦ illegalTo y | false ↦ visited seen ]
 
 abbrev pub detectEnter : ℕ → Detection → Detection
 detectEnter y (illegalTo z) = illegalTo z
@@ -84,7 +84,7 @@ abbrev pub detecting : List ℕ → List ℕ → Visitor Detection
 detecting starters states =
     record {
       stop = detectStop starters states;
-      turn = detectTurn starters states;
+      skip = detectSkip starters states;
       enter = detectEnter;
       finish = λ x d. d;
     }

@@ -10,11 +10,11 @@ abbrev pub each : {S : Type 0} → (ℕ → S → S) → List ℕ → S → S
 each f [] s = s
 each f (x ∷ xs) s = each f xs (f x s)
 
--- Where `stop` says so, block x is not gone into and `turn` is all that happens; else `enter`, the successors in order with x on
+-- Where `stop` says so, block x is not gone into and `skip` is all that happens; else `enter`, the successors in order with x on
 -- the path (whose head is the block that an edge comes from), and `finish`.
 pub record Visitor (S : Type 0) : Type 0 where
   pub stop : List ℕ → ℕ → S → Bool
-  pub turn : List ℕ → ℕ → S → S
+  pub skip : List ℕ → ℕ → S → S
   pub enter : ℕ → S → S
   pub finish : ℕ → S → S
 
@@ -23,7 +23,7 @@ unfoldable pub visit : {S : Type 0} → Visitor S → (ℕ → List ℕ) → ℕ
 visit v next zero path x s = s
 visit v next (suc fuel) path x s =
     elim (v .stop path x s) [
-      | true ↦ v .turn path x s
+      | true ↦ v .skip path x s
       | false ↦ v .finish x (each (visit v next fuel (x ∷ path)) (next x) (v .enter x s))
     ]
 

@@ -2,7 +2,7 @@
 use crate::Detected;
 use crate::Starters;
 use crate::edges;
-use cfg::Graph;
+use cfg::GraphTable;
 ghost use mathlib.Core.Path.{_≡_};
 ghost use Prim.Native.Nat.{_<_};
 ghost use lib.ListN.{length};
@@ -26,9 +26,9 @@ pub fn detect(edges: &[u8], states: &[u8], starters: Starters) -> Detected
     requires { ⌜ Listed starters ⌝ }
     ensures { λ r. ⌜ r ≡ detection (now (edges .entry)) (startersOf starters) (now (states .entry)) ⌝ }
 {
-    let mut seen = [0u8; Graph::BLOCKS];
-    let mut stack = [0u8; Graph::BLOCKS];
-    let mut passed = [0u8; Graph::BLOCKS];
+    let mut seen = [0u8; GraphTable::BLOCKS];
+    let mut stack = [0u8; GraphTable::BLOCKS];
+    let mut passed = [0u8; GraphTable::BLOCKS];
     let mut depth: usize = 1;
     let mut found = Detected::Legal;
     seen[0] = 1;
@@ -39,7 +39,7 @@ pub fn detect(edges: &[u8], states: &[u8], starters: Starters) -> Detected
             let to = edges::at(edges, 2 * block + k);
             let t = buffers::byte_index(to);
             k += 1;
-            if t < Graph::BLOCKS {
+            if t < GraphTable::BLOCKS {
                 if illegal(states, &starters.marks, block, t) {
                     found = Detected::IllegalTo(to);
                     break 'visit;

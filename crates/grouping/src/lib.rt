@@ -1,11 +1,11 @@
 // Grouping: which blocks of a graph share a state.
-use cfg::Graph;
+use cfg::GraphTable;
 ghost use mathlib.Core.Path.{_≡_};
 ghost use mathlib.Core.Bool.{true};
 ghost use mathlib.Core.List.{[], _∷_};
 ghost use Prim.Native.Nat.{_<_};
 ghost use Rattle.cfg.specs.Layout.{maxBlocks};
-ghost use Rattle.cfg.specs.Table.{admitted};
+ghost use Rattle.cfg.specs.Table.{admittedGraph};
 ghost use Rattle.grouping.specs.Bytes.{Listed, startersOf, withStarter};
 ghost use Rattle.grouping.specs.Answer.{groupingOf};
 
@@ -17,15 +17,15 @@ mod population; // population.rt: the blocks that each state takes
 // How many states there are, their starters in order and the state of each block.
 pub struct Grouping {
     pub count: usize,
-    pub starters: [u8; Graph::BLOCKS],
-    pub states: [u8; Graph::BLOCKS],
+    pub starters: [u8; GraphTable::BLOCKS],
+    pub states: [u8; GraphTable::BLOCKS],
 }
 
 // The starters in order, and a mark at each of them.
 struct Starters {
     pub count: usize,
-    pub list: [u8; Graph::BLOCKS],
-    pub marks: [u8; Graph::BLOCKS],
+    pub list: [u8; GraphTable::BLOCKS],
+    pub marks: [u8; GraphTable::BLOCKS],
 }
 
 // What detection finds: the target of an illegal edge, or none.
@@ -39,8 +39,8 @@ impl Starters {
     fn entry() -> Starters
         ensures { λ r. ⌜ Listed r × (startersOf r ≡ 0 ∷ []) ⌝ }
     {
-        let list = [0u8; Graph::BLOCKS];
-        let mut marks = [0u8; Graph::BLOCKS];
+        let list = [0u8; GraphTable::BLOCKS];
+        let mut marks = [0u8; GraphTable::BLOCKS];
         marks[0] = 1;
         Starters {
             count: 1,
@@ -67,7 +67,7 @@ impl Starters {
 
 // The grouping of an admitted graph table. An illegal edge's target becomes the newest starter, and population begins again from nothing.
 pub fn group(table: &[u32]) -> Grouping
-    requires { ⌜ admitted (now table) ≡ true ⌝ }
+    requires { ⌜ admittedGraph (now table) ≡ true ⌝ }
     ensures { λ r. ⌜ r ≡ groupingOf (now (table .entry)) ⌝ }
 {
     let edges = edges::edges_of(table);

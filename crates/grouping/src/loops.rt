@@ -1,7 +1,7 @@
 // Loop detection: a depth-first visit from block 0.
 use crate::Starters;
 use crate::edges;
-use cfg::Graph;
+use cfg::GraphTable;
 ghost use mathlib.Core.Path.{_≡_};
 ghost use Rattle.grouping.specs.Bytes.{Listed, startersOf, loopStarters};
 
@@ -10,9 +10,9 @@ pub fn loop_starters(edges: &[u8]) -> Starters
     ensures { λ r. ⌜ Listed r × (startersOf r ≡ loopStarters (now (edges .entry))) ⌝ }
 {
     let mut starters = Starters::entry();
-    let mut marks = [0u8; Graph::BLOCKS];
-    let mut stack = [0u8; Graph::BLOCKS];
-    let mut passed = [0u8; Graph::BLOCKS];
+    let mut marks = [0u8; GraphTable::BLOCKS];
+    let mut stack = [0u8; GraphTable::BLOCKS];
+    let mut passed = [0u8; GraphTable::BLOCKS];
     let mut depth: usize = 1;
     marks[0] = 1;
     'visit: while depth > 0 {
@@ -22,7 +22,7 @@ pub fn loop_starters(edges: &[u8]) -> Starters
             let to = edges::at(edges, 2 * block + k);
             let t = buffers::byte_index(to);
             k += 1;
-            if t < Graph::BLOCKS {
+            if t < GraphTable::BLOCKS {
                 if marks[t] == 0 {
                     passed[depth - 1] = k as u8;
                     marks[t] = 1;

@@ -1,7 +1,7 @@
 // Population: states in order of creation, each depth-first from its starter.
 use crate::Starters;
 use crate::edges;
-use cfg::Graph;
+use cfg::GraphTable;
 ghost use mathlib.Core.Path.{_≡_};
 ghost use Prim.Native.Nat.{_<_};
 ghost use lib.ListN.{length, getD};
@@ -19,8 +19,8 @@ fn take_state(edges: &[u8], starters: &[u8], marks: &[u8], k: u8, states: &mut [
     if states[root] != edges::NONE {
         return;
     }
-    let mut stack = [0u8; Graph::BLOCKS];
-    let mut passed = [0u8; Graph::BLOCKS];
+    let mut stack = [0u8; GraphTable::BLOCKS];
+    let mut passed = [0u8; GraphTable::BLOCKS];
     let mut depth: usize = 1;
     states[root] = k;
     stack[0] = first;
@@ -31,7 +31,7 @@ fn take_state(edges: &[u8], starters: &[u8], marks: &[u8], k: u8, states: &mut [
             let to = edges::at(edges, 2 * block + j);
             let t = buffers::byte_index(to);
             j += 1;
-            if t < Graph::BLOCKS {
+            if t < GraphTable::BLOCKS {
                 if states[t] == edges::NONE {
                     if marks[t] == 0 {
                         passed[depth - 1] = j as u8;
@@ -49,14 +49,14 @@ fn take_state(edges: &[u8], starters: &[u8], marks: &[u8], k: u8, states: &mut [
 }
 
 // The state of each block, 255 where none has taken it.
-pub fn populate(edges: &[u8], starters: Starters) -> [u8; Graph::BLOCKS]
+pub fn populate(edges: &[u8], starters: Starters) -> [u8; GraphTable::BLOCKS]
     requires { ⌜ Listed starters ⌝ }
     ensures { λ r. ⌜ r ≡ population (now (edges .entry)) (startersOf starters) ⌝ }
 {
     let count = starters.count;
     let list = starters.list;
     let marks = starters.marks;
-    let mut states = [edges::NONE; Graph::BLOCKS];
+    let mut states = [edges::NONE; GraphTable::BLOCKS];
     let mut k: u8 = 0;
     while buffers::byte_index(k) < count {
         take_state(edges, &list[..count], &marks, k, &mut states);

@@ -5,18 +5,18 @@ use compiler::fields;
 use runs::RunAnswer;
 ghost use mathlib.Core.Path.{_≡_};
 ghost use Rattle.capture.specs.Capture.{compareCaptures};
-ghost use Rattle.cfg_text.specs.Read.{readAnswer, readWords, numberOf as readNumber, lineOf};
-ghost use Rattle.cfg_write.specs.Write.{writeAnswer, writeBytes, numberOf as writeNumber, lengthOf};
+ghost use Rattle.cfg_text.specs.Read.{readAnswer, readWords, readNumber, readLine};
+ghost use Rattle.cfg_write.specs.Write.{writeAnswer, writeBytes, writeNumber, writeLength};
 ghost use Rattle.synthesis.specs.Synthesis.{synthesisAnswer, synthesisWords};
 ghost use Rattle.compiler.specs.Answers.{synthesisNumber};
-ghost use Rattle.cfg.specs.Run.{runAnswer as graphAnswer, runRegisters as graphRegisters, wordsAnswer as graphWordsAnswer, wordsRegisters as graphWordsRegisters};
-ghost use Rattle.fsmd.specs.Run.{runAnswer as machineAnswer, runRegisters as machineRegisters, wordsAnswer as machineWordsAnswer, wordsRegisters as machineWordsRegisters};
+ghost use Rattle.cfg.specs.Run.{graphAnswer, graphRegisters, graphWordsAnswer, graphWordsRegisters};
+ghost use Rattle.fsmd.specs.Run.{machineAnswer, machineRegisters, machineWordsAnswer, machineWordsRegisters};
 ghost use Rattle.host.specs.Fields.{RunFields, CaptureFields};
 
 #[no_mangle]
 pub extern "C" fn gutkavu_read(text: &[u8], table: &mut [u32], line: &mut u32) -> u32
     ensures { λ r. ⌜ r ≡ readNumber (readAnswer (now (text .entry)) (now (table .entry))) ⌝ }
-    ensures { λ _. ⌜ now (line .exit) ≡ lineOf (readAnswer (now (text .entry)) (now (table .entry))) ⌝ }
+    ensures { λ _. ⌜ now (line .exit) ≡ readLine (readAnswer (now (text .entry)) (now (table .entry))) ⌝ }
     ensures { λ _. ⌜ now (table .exit) ≡ readWords (now (text .entry)) (now (table .entry)) ⌝ }
 {
     let answer = compiler::read_text(text, table);
@@ -27,7 +27,7 @@ pub extern "C" fn gutkavu_read(text: &[u8], table: &mut [u32], line: &mut u32) -
 #[no_mangle]
 pub extern "C" fn gutkavu_write(table: &[u32], out: &mut [u8], length: &mut u32) -> u32
     ensures { λ r. ⌜ r ≡ writeNumber (writeAnswer (now (table .entry)) (now (out .entry))) ⌝ }
-    ensures { λ _. ⌜ now (length .exit) ≡ lengthOf (writeAnswer (now (table .entry)) (now (out .entry))) ⌝ }
+    ensures { λ _. ⌜ now (length .exit) ≡ writeLength (writeAnswer (now (table .entry)) (now (out .entry))) ⌝ }
     ensures { λ _. ⌜ now (out .exit) ≡ writeBytes (now (table .entry)) (now (out .entry)) ⌝ }
 {
     let answer = compiler::write_text(table, out);

@@ -48,11 +48,11 @@ fn read_past() -> isize {
 // Reads on while reads give bytes, and hands back what the last one answered.
 pub fn skip(last: isize) -> isize {
     // Nothing says that the input ends: the count is one that no run uses up.
-    let mut turns = u64::MAX;
+    let mut rounds = u64::MAX;
     let mut got = last;
-    while turns > 0 && got > 0 {
+    while rounds > 0 && got > 0 {
         got = read_past();
-        turns -= 1;
+        rounds -= 1;
     }
     got
 }

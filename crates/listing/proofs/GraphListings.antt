@@ -4,10 +4,10 @@ use mathlib.Core.Path.{_≡_}
 use mathlib.Core.Bool.{true}
 use mathlib.Core.List.{List, _++_}
 use lib.ListN.{length, drop}
-use Rattle.cfg.specs.Table.{graphOf, admitted}
+use Rattle.cfg.specs.Table.{graphOf, admittedGraph}
 use Rattle.cfg.proofs.Admitted.{valid-graph, admitted-halves}
 use Rattle.fsmd.specs.Layout.{machineWords}
-use Rattle.fsmd.specs.Table.{tableOf}
+use Rattle.fsmd.specs.Table.{machineTableOf}
 use Rattle.synthesis.specs.Synthesis.{machine, synthesisWords}
 use Rattle.synthesis.proofs.SynthesisedMachine.{MachineFits, machine-fits}
 use Rattle.synthesis.proofs.MadeTable.{made-words, admitted-made}
@@ -15,8 +15,8 @@ use Rattle.listing.specs.Listing.{machineListing}
 use Rattle.listing.specs.Words.{tableListing, Listable}
 use Rattle.listing.proofs.TableListings.{table-listing, table-listable}
 
-module _ (t old : List ℕ) (ok : admitted t ≡ true) (long : machineWords ≤ length old) where
-  words-made : synthesisWords t old ≡ tableOf (machine (graphOf t)) ++ drop machineWords old
+module _ (t old : List ℕ) (ok : admittedGraph t ≡ true) (long : machineWords ≤ length old) where
+  words-made : synthesisWords t old ≡ machineTableOf (machine (graphOf t)) ++ drop machineWords old
   words-made = made-words t old (admitted-made t old ok long)
 
   fits : MachineFits (machine (graphOf t))

@@ -11,15 +11,15 @@ use Rattle.runs.specs.Lists.{upFrom, concatMap}
 use Rattle.delimited.specs.Parts.{parted}
 use Rattle.cfg_write.specs.Put.{Put}
 use Rattle.cfg_write.proofs.PutLaws.{put-then, put-as, put-length}
-use Rattle.listing.specs.Listing.{lineOf}
+use Rattle.listing.specs.Listing.{listingLine}
 
 -- ---- lines by their fields
 
-pub line-of-three : (x y z : List ℕ) → x ++ ((44 ∷ y) ++ ((44 ∷ z) ++ (10 ∷ []))) ≡ lineOf (x ∷ y ∷ z ∷ [])
+pub line-of-three : (x y z : List ℕ) → x ++ ((44 ∷ y) ++ ((44 ∷ z) ++ (10 ∷ []))) ≡ listingLine (x ∷ y ∷ z ∷ [])
 unfolding parted
 line-of-three x y z = simp append-assoc
 
-pub line-of-four : (w x y z : List ℕ) → w ++ ((44 ∷ x) ++ ((44 ∷ y) ++ ((44 ∷ z) ++ (10 ∷ [])))) ≡ lineOf (w ∷ x ∷ y ∷ z ∷ [])
+pub line-of-four : (w x y z : List ℕ) → w ++ ((44 ∷ x) ++ ((44 ∷ y) ++ ((44 ∷ z) ++ (10 ∷ [])))) ≡ listingLine (w ∷ x ∷ y ∷ z ∷ [])
 unfolding parted
 line-of-four w x y z = simp append-assoc
 

@@ -10,12 +10,12 @@ use lib.Dec.{eqb}
 use borrow.Author.Tests.{ne-eqb}
 use Rattle.runs.specs.Lists.{upFrom, only, padded, concatMap, occurrences}
 use Rattle.runs.proofs.ListLaws.{only-append, padded-append}
-use Rattle.fsmd.specs.Layout.{maxStates, maxBlocks, startersOffset, none}
+use Rattle.fsmd.specs.Layout.{maxStates, maxBlocks, startersOffset, absent}
 use Rattle.fsmd.specs.Machine.{State, wireCount, FSMD, stateOf, emptyState}
-use Rattle.fsmd.specs.Table.{tableOf, wireCountAt}
+use Rattle.fsmd.specs.Table.{machineTableOf, wireCountAt}
 use Rattle.fsmd.proofs.WrittenTable.{wiresBefore, count-is, back-starters, back-blocks, back-first, back-count, table-length}
 use Rattle.synthesis.proofs.SynthesisedMachine.{MachineFits}
-use Rattle.listing.specs.Listing.{blocksIn, wiresIn, headLine, stateLine, machineListing}
+use Rattle.listing.specs.Listing.{blocksIn, allWires, headLine, stateLine, machineListing}
 use Rattle.listing.specs.Words.{starterAt, blocksAt, wiresAt, headLineAt, stateLineAt, stateLinesAt, tableListing, Listable}
 
 -- ---- counting
@@ -26,12 +26,12 @@ no-other k zero x e = refl
 no-other k (suc n) x e = rw e (no-other k n x e)
 
 -- padding is no block of a state
-padded-blocks : (k : ℕ) (l : List ℕ) → k < maxStates → length l ≤ maxBlocks → occurrences k (padded maxBlocks none l) ≡ occurrences k l
+padded-blocks : (k : ℕ) (l : List ℕ) → k < maxStates → length l ≤ maxBlocks → occurrences k (padded maxBlocks absent l) ≡ occurrences k l
 padded-blocks k l h few =
     let n = maxBlocks - length l in
-    let pad = no-other k n none (ne-eqb k none (λ q. absurd (omega arith))) in
-    ap (occurrences k) (padded-append maxBlocks none l few)
-    ∙ (ap length (only-append (eqb k) l (replicate n none)) ∙ rw (pad, append-nil) refl)
+    let pad = no-other k n absent (ne-eqb k absent (λ q. absurd (omega arith))) in
+    ap (occurrences k) (padded-append maxBlocks absent l few)
+    ∙ (ap length (only-append (eqb k) l (replicate n absent)) ∙ rw (pad, append-nil) refl)
 
 -- the wires of all states are those before the last and its own
 wires-last : (qs : List State) (k : ℕ) → length qs ≡ suc k → wiresBefore qs k + length (getD qs k emptyState .wires) ≡ wireCount qs
@@ -52,7 +52,7 @@ concat-same f g j (suc n) e =
 
 module _ (m : FSMD) (rest : List ℕ) (f : MachineFits m) where
   abbrev table : List ℕ
-  table = tableOf m ++ rest
+  table = machineTableOf m ++ rest
 
   starter-back : (k : ℕ) → k < length (m .states) → starterAt table k ≡ getD (m .starters) k 0
   starter-back k h =
@@ -67,7 +67,7 @@ module _ (m : FSMD) (rest : List ℕ) (f : MachineFits m) where
   wires-back : (k : ℕ) → k < length (m .states) → wireCountAt table k ≡ length (stateOf m k .wires)
   wires-back k h = back-count m rest (f .fewStates) (f .room) k h
 
-  all-wires : wiresAt table ≡ wiresIn m
+  all-wires : wiresAt table ≡ allWires m
   all-wires =
       let some = f .someState in
       let last = length (m .states) - 1 in
@@ -95,7 +95,7 @@ module _ (m : FSMD) (rest : List ℕ) (f : MachineFits m) where
   table-listable =
       let n = count-is m rest in
       record {
-        long = omega (arith, length-append (tableOf m) rest, table-length m);
+        long = omega (arith, length-append (machineTableOf m) rest, table-length m);
         someState = rw n (f .someState);
         fewStates = rw n (f .fewStates);
         fewWires = rw all-wires (f .room);

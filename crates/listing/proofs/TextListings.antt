@@ -10,16 +10,16 @@ use borrow.Author.Tests.{lt-ltb, le-ltb}
 use Rattle.word.specs.Word.{choose}
 use Rattle.cfg.specs.Layout.{graphWords}
 use Rattle.cfg.specs.Graph.{CFG}
-use Rattle.cfg.specs.Table.{graphOf, admitted}
+use Rattle.cfg.specs.Table.{graphOf, admittedGraph}
 use Rattle.cfg_text.specs.Walk.{Reading, refused, read}
-use Rattle.cfg_text.specs.Read.{maxText, readText, reading, answerOf, readAnswer, readWords}
+use Rattle.cfg_text.specs.Read.{maxText, readText, reading, readingAnswer, readAnswer, readWords}
 use Rattle.cfg_text.specs.declared.ReadAnswer.the-variants.{Refused, Read}
 use Rattle.cfg_write.proofs.RoundTrip.{read-whole}
 use Rattle.cfg_write.proofs.AnswerLaws.{took-of, words-are, begins-graph, begins-admitted}
 use Rattle.synthesis.specs.Synthesis.{machine}
 use Rattle.listing.specs.Listing.{refusedLine, listingOf, machineListing, listing}
 
-by-answer : (r : Reading) (k n : ℕ) → answerOf r ≡ Refused k n → listingOf r ≡ refusedLine k n
+by-answer : (r : Reading) (k n : ℕ) → readingAnswer r ≡ Refused k n → listingOf r ≡ refusedLine k n
 by-answer (refused a b) k n e =
     let p : a ≡ k = cc in
     let q : b ≡ n = cc in
@@ -43,7 +43,7 @@ module _ (text table : List ℕ) where
 
   -- one that is read
   pub record Listed : Type 0 where
-    pub accepted : admitted (readWords text table) ≡ true
+    pub accepted : admittedGraph (readWords text table) ≡ true
     pub same : listing text ≡ machineListing (machine (graphOf (readWords text table)))
 
   pub read-listing : readAnswer text table ≡ Read → Listed

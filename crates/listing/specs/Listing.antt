@@ -19,27 +19,27 @@ abbrev pub maxListing : ℕ
 maxListing = 4096
 
 -- fields parted by commas, then a line feed
-abbrev pub lineOf : List (List ℕ) → List ℕ
-lineOf fs = parted 44 fs ++ (10 ∷ [])
+abbrev pub listingLine : List (List ℕ) → List ℕ
+listingLine fs = parted 44 fs ++ (10 ∷ [])
 
 -- how many blocks state k has
 abbrev pub blocksIn : FSMD → ℕ → ℕ
 blocksIn m k = length (only (eqb k) (m .blockStates))
 
 -- how many wires there are in all
-abbrev pub wiresIn : FSMD → ℕ
-wiresIn m = wireCount (m .states)
+abbrev pub allWires : FSMD → ℕ
+allWires m = wireCount (m .states)
 
 -- the word, states, wires in all
 unfoldable pub headLine : FSMD → List ℕ
 unfolding parted decimalOf wireCount
-headLine m = lineOf (bytes "states" ∷ decimalOf (length (m .states)) ∷ decimalOf (wiresIn m) ∷ [])
+headLine m = listingLine (bytes "states" ∷ decimalOf (length (m .states)) ∷ decimalOf (allWires m) ∷ [])
 
 -- state, starter, blocks, wires
 unfoldable pub stateLine : FSMD → ℕ → List ℕ
 unfolding parted decimalOf
 stateLine m k =
-    lineOf (decimalOf k ∷ decimalOf (getD (m .starters) k 0) ∷ decimalOf (blocksIn m k) ∷ decimalOf (length (stateOf m k .wires)) ∷ [])
+    listingLine (decimalOf k ∷ decimalOf (getD (m .starters) k 0) ∷ decimalOf (blocksIn m k) ∷ decimalOf (length (stateOf m k .wires)) ∷ [])
 
 unfoldable pub machineListing : FSMD → List ℕ
 unfolding headLine stateLine concatMap
@@ -48,7 +48,7 @@ machineListing m = headLine m ++ concatMap (stateLine m) (upFrom 0 (length (m .s
 -- the number and the line of a refusal
 unfoldable pub refusedLine : ℕ → ℕ → List ℕ
 unfolding parted decimalOf
-refusedLine number line = lineOf (bytes "refused" ∷ decimalOf number ∷ decimalOf line ∷ [])
+refusedLine number line = listingLine (bytes "refused" ∷ decimalOf number ∷ decimalOf line ∷ [])
 
 abbrev pub listingOf : Reading → List ℕ
 listingOf (refused number line) = refusedLine number line

@@ -7,7 +7,7 @@ use Rattle.decimal.specs.Decimal.{decimalOf}
 use Rattle.delimited.specs.Parts.{bytes}
 use Rattle.fsmd.specs.Layout.{maxStates, maxBlocks, maxWires, startersOffset, blockStatesOffset, machineWords}
 use Rattle.fsmd.specs.Table.{stateCount, firstWireAt, wireCountAt}
-use Rattle.listing.specs.Listing.{lineOf}
+use Rattle.listing.specs.Listing.{listingLine}
 
 abbrev pub starterAt : List ℕ → ℕ → ℕ
 starterAt t k = getD t (startersOffset + k) 0
@@ -20,10 +20,10 @@ abbrev pub wiresAt : List ℕ → ℕ
 wiresAt t = let last = stateCount t - 1 in firstWireAt t last + wireCountAt t last
 
 unfoldable pub stateLineAt : List ℕ → ℕ → List ℕ
-stateLineAt t k = lineOf (decimalOf k ∷ decimalOf (starterAt t k) ∷ decimalOf (blocksAt t k) ∷ decimalOf (wireCountAt t k) ∷ [])
+stateLineAt t k = listingLine (decimalOf k ∷ decimalOf (starterAt t k) ∷ decimalOf (blocksAt t k) ∷ decimalOf (wireCountAt t k) ∷ [])
 
 unfoldable pub headLineAt : List ℕ → List ℕ
-headLineAt t = lineOf (bytes "states" ∷ decimalOf (stateCount t) ∷ decimalOf (wiresAt t) ∷ [])
+headLineAt t = listingLine (bytes "states" ∷ decimalOf (stateCount t) ∷ decimalOf (wiresAt t) ∷ [])
 
 unfoldable pub stateLinesAt : List ℕ → List ℕ
 unfolding stateLineAt concatMap

@@ -2,14 +2,14 @@
 pub mod lines; // lines.rt: the lines of a listing in a buffer
 pub mod table; // table.rt: the listing that a machine table's words give
 
-use cfg::Graph;
+use cfg::GraphTable;
 use cfg_text::ReadAnswer;
-use fsmd::Machine;
+use fsmd::MachineTable;
 ghost use mathlib.Core.Path.{_≡_};
 ghost use mathlib.Core.Bool.{true};
 ghost use Prim.Native.Nat.{_≤_};
 ghost use lib.ListN.{length};
-ghost use Rattle.cfg.specs.Table.{graphOf, admitted};
+ghost use Rattle.cfg.specs.Table.{graphOf, admittedGraph};
 ghost use Rattle.synthesis.specs.Synthesis.{machine};
 ghost use Rattle.listing.specs.Listing.{maxListing, machineListing, refusedLine, answerFor, outputFor, listing, listAnswer, listBytes};
 ghost use Rattle.listing.specs.Words.{tableListing, Listable};
@@ -63,12 +63,12 @@ fn list_machine(machine: &[u32], out: &mut [u8]) -> ListAnswer
 
 // The lines of the machine of a graph table, for which synthesis has no refusal.
 fn list_graph(graph: &[u32], out: &mut [u8]) -> ListAnswer
-    requires { ⌜ admitted (now graph) ≡ true ⌝ }
+    requires { ⌜ admittedGraph (now graph) ≡ true ⌝ }
     ensures { λ r. ⌜ r ≡ answerFor (machineListing (machine (graphOf (now (graph .entry))))) (now (out .entry)) ⌝ }
     ensures { λ _. ⌜ now (out .exit) ≡ outputFor (machineListing (machine (graphOf (now (graph .entry))))) (now (out .entry)) ⌝ }
     ensures { λ _. ⌜ length (machineListing (machine (graphOf (now (graph .entry))))) ≤ maxListing ⌝ }
 {
-    let mut words = [0u32; Machine::WORDS];
+    let mut words = [0u32; MachineTable::WORDS];
     synthesis::table::synthesise(graph, &mut words);
     list_machine(&words, out)
 }
@@ -79,7 +79,7 @@ pub fn list(text: &[u8], out: &mut [u8]) -> ListAnswer
     ensures { λ _. ⌜ now (out .exit) ≡ listBytes (now (text .entry)) (now (out .entry)) ⌝ }
     ensures { λ _. ⌜ length (listing (now (text .entry))) ≤ maxListing ⌝ }
 {
-    let mut graph = [0u32; Graph::WORDS];
+    let mut graph = [0u32; GraphTable::WORDS];
     let answer = cfg_text::read_text(text, &mut graph);
     match answer {
         ReadAnswer::Refused(number, line) => list_refusal(number, line, out),

@@ -8,12 +8,12 @@ ghost use lib.ListN.{length};
 ghost use Rattle.decimal.specs.Decimal.{decimalOf};
 ghost use Rattle.delimited.specs.Parts.{bytes};
 ghost use Rattle.cfg_write.specs.Put.{Put};
-ghost use Rattle.listing.specs.Listing.{lineOf, refusedLine};
+ghost use Rattle.listing.specs.Listing.{listingLine, refusedLine};
 
 // A name and two numbers, from the start of the buffer on.
 fn put_named(out: &mut [u8], name: &[u8], first: u32, second: u32) -> usize
     requires { ⌜ length (now name) ≤ 8 ⌝ }
-    ensures { λ r. ⌜ Put 31 (now (out .entry)) (now (out .exit)) 0 (lineOf (now (name .entry) ∷ decimalOf first ∷ decimalOf second ∷ [])) r ⌝ }
+    ensures { λ r. ⌜ Put 31 (now (out .entry)) (now (out .exit)) 0 (listingLine (now (name .entry) ∷ decimalOf first ∷ decimalOf second ∷ [])) r ⌝ }
 {
     let named = put_bytes(out, 0, name);
     let one = put_number(out, named, first);
@@ -30,7 +30,7 @@ pub fn put_refused(out: &mut [u8], number: u32, line: u32) -> usize
 
 // The first line: states, wires in all.
 pub fn put_head(out: &mut [u8], states: u32, wires: u32) -> usize
-    ensures { λ r. ⌜ Put 31 (now (out .entry)) (now (out .exit)) 0 (lineOf (bytes "states" ∷ decimalOf states ∷ decimalOf wires ∷ [])) r ⌝ }
+    ensures { λ r. ⌜ Put 31 (now (out .entry)) (now (out .exit)) 0 (listingLine (bytes "states" ∷ decimalOf states ∷ decimalOf wires ∷ [])) r ⌝ }
 {
     put_named(out, b"states", states, wires)
 }
@@ -45,7 +45,7 @@ pub fn put_state(
     wires: u32,
 ) -> usize
     requires { ⌜ at < 2 ^ 16 ⌝ }
-    ensures { λ r. ⌜ Put 44 (now (out .entry)) (now (out .exit)) at (lineOf (decimalOf state ∷ decimalOf starter ∷ decimalOf blocks ∷ decimalOf wires ∷ [])) r ⌝ }
+    ensures { λ r. ⌜ Put 44 (now (out .entry)) (now (out .exit)) at (listingLine (decimalOf state ∷ decimalOf starter ∷ decimalOf blocks ∷ decimalOf wires ∷ [])) r ⌝ }
 {
     let one = decimal::put_decimal(out, at, state);
     let two = put_number(out, one, starter);

@@ -1,6 +1,6 @@
 // The listing that the words of a machine table give.
 use crate::lines;
-use fsmd::Machine;
+use fsmd::MachineTable;
 ghost use mathlib.Core.Path.{_≡_};
 ghost use Prim.Native.Nat.{_+_, _≤_, _<_};
 ghost use lib.ListN.{length};
@@ -32,8 +32,8 @@ fn blocks_of(machine: &[u32], k: u32) -> u32
     requires { ⌜ Listable (now machine) ⌝ }
     ensures { λ r. ⌜ r ≡ blocksAt (now (machine .entry)) k ⌝ }
 {
-    let from = Machine::BLOCK_STATES;
-    let to = Machine::RECORDS;
+    let from = MachineTable::BLOCK_STATES;
+    let to = MachineTable::RECORDS;
     count_of(&machine[from..to], k)
 }
 
@@ -42,9 +42,9 @@ fn wires_of(machine: &[u32]) -> u32
     requires { ⌜ Listable (now machine) ⌝ }
     ensures { λ r. ⌜ r ≡ wiresAt (now (machine .entry)) ⌝ }
 {
-    let last = (machine[Machine::STATE_COUNT] - 1) as usize;
-    let at = Machine::RECORDS + Machine::RECORD * last;
-    machine[at] + machine[at + Machine::WIRE_COUNT]
+    let last = (machine[MachineTable::STATE_COUNT] - 1) as usize;
+    let at = MachineTable::RECORDS + MachineTable::RECORD * last;
+    machine[at] + machine[at + MachineTable::WIRE_COUNT]
 }
 
 // The line of a state.
@@ -54,8 +54,10 @@ fn put_line(machine: &[u32], k: u32, out: &mut [u8], at: usize) -> usize
     ensures { λ r. ⌜ Put 44 (now (out .entry)) (now (out .exit)) at (stateLineAt (now (machine .entry)) k) r ⌝ }
 {
     let i = k as usize;
-    let starter = machine[Machine::STARTERS + i];
-    let wires = machine[Machine::RECORDS + Machine::RECORD * i + Machine::WIRE_COUNT];
+    let starter = machine[MachineTable::STARTERS + i];
+    let wires = machine[MachineTable::RECORDS
+        + MachineTable::RECORD * i
+        + MachineTable::WIRE_COUNT];
     lines::put_state(out, at, k, starter, blocks_of(machine, k), wires)
 }
 
@@ -65,7 +67,7 @@ fn put_lines(machine: &[u32], out: &mut [u8], at: usize) -> usize
     requires { ⌜ at ≤ 64 ⌝ }
     ensures { λ r. ⌜ Put 2816 (now (out .entry)) (now (out .exit)) at (stateLinesAt (now (machine .entry))) r ⌝ }
 {
-    let n = machine[Machine::STATE_COUNT];
+    let n = machine[MachineTable::STATE_COUNT];
     let mut end = at;
     let mut k: u32 = 0;
     while k < n {
@@ -80,6 +82,6 @@ pub fn put_listing(machine: &[u32], out: &mut [u8]) -> usize
     requires { ⌜ Listable (now machine) ⌝ }
     ensures { λ r. ⌜ Put maxListing (now (out .entry)) (now (out .exit)) 0 (tableListing (now (machine .entry))) r ⌝ }
 {
-    let at = lines::put_head(out, machine[Machine::STATE_COUNT], wires_of(machine));
+    let at = lines::put_head(out, machine[MachineTable::STATE_COUNT], wires_of(machine));
     put_lines(machine, out, at)
 }

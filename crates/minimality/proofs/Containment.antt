@@ -7,7 +7,7 @@ use native.Mathlib.Omega.{arith}
 use lib.ListN.{length, getD}
 use Rattle.runs.proofs.Sets.{In, Subset, Found, there, missing, mem→In, In→mem, found, in-append, getD-in}
 use Rattle.cfg.specs.Graph.{CFG, successors}
-use Rattle.fsmd.specs.Layout.{none}
+use Rattle.fsmd.specs.Layout.{absent}
 use Rattle.grouping.specs.Grouping.{loops, populate, groups}
 use Rattle.grouping.proofs.Reach.{Closed, Reached, along}
 use Rattle.grouping.proofs.LoopLaws.{Looped, rank, rank-most, rank-falls}
@@ -34,11 +34,11 @@ module _ (g : CFG) (a : Closed g) (set : List ℕ) (fit : Fit g set) where
     source zero x h r = absurd (omega (arith, rank-most finished x))
     source (suc n) x h r = go (found x set) (given .taken .rooted x (given .all x r)) (source n)
       where
-        go : Found x set → (getD starters (stateIn states x) none ≡ x) ⊎ ((u : ℕ) × (stateIn states u ≡ stateIn states x) × In x (successors g u))
+        go : Found x set → (getD starters (stateIn states x) absent ≡ x) ⊎ ((u : ℕ) × (stateIn states u ≡ stateIn states x) × In x (successors g u))
             → ((u : ℕ) → length finished < n + rank finished u → Reached g u → Source u) → Source x
         go (there e i) q ih = (x, itself g (Reachable g) (λ s p. p) set r e, refl)
         go (missing e f) (inl q) ih =
-            absurd (f (inside x (subst (λ z. In z starters) q (getD-in starters (stateIn states x) none (given .taken .low x (given .all x r))))))
+            absurd (f (inside x (subst (λ z. In z starters) q (getD-in starters (stateIn states x) absent (given .taken .low x (given .all x r))))))
         go (missing e f) (inr q) ih =
             let before = given .taken .reach (q .0) (λ w. given .all x r (sym (q .1) ∙ w)) in
             let falls = rank-falls g starters finished (l .ranked) (q .0) x (l .all (q .0) before) (q .2) (λ i. f (inside x i)) in

@@ -8,7 +8,7 @@ use lib.ListN.{length, getD}
 use Rattle.runs.specs.Lists.{mem}
 use Rattle.runs.proofs.Sets.{In, Distinct, Found, there, missing, mem→In, found, getD-in, getD-any, in-getD, distinct-at}
 use Rattle.cfg.specs.Graph.{CFG, successors}
-use Rattle.fsmd.specs.Layout.{none}
+use Rattle.fsmd.specs.Layout.{absent}
 use Rattle.grouping.specs.Grouping.{loops}
 use Rattle.grouping.proofs.Reach.{Closed, Reached, along}
 use Rattle.grouping.proofs.LoopLaws.{looped}
@@ -28,11 +28,11 @@ module _ (g : CFG) (a : Closed g) where
         go v o (inl e) = absurd (true≢false (sym e ∙ o))
         go v o (inr q) = q
 
-    home : (s : ℕ) → mem s starters ≡ true → s ≡ getD starters (state s) none
-    home s e = let k = in-getD s starters none (mem→In s starters e) in sym (rw (← k .2, d .own (k .0) none (k .1)) refl)
+    home : (s : ℕ) → mem s starters ≡ true → s ≡ getD starters (state s) absent
+    home s e = let k = in-getD s starters absent (mem→In s starters e) in sym (rw (← k .2, d .own (k .0) absent (k .1)) refl)
 
     -- so a block comes from the starter of its state
-    starter-of : {s x : ℕ} → From g (Reachable g) starters s x → s ≡ getD starters (state x) none
+    starter-of : {s x : ℕ} → From g (Reachable g) starters s x → s ≡ getD starters (state x) absent
     starter-of {s} f = rw (stays (reached (f .counts)) (f .path)) (home s (f .starter))
 
     pub division-fit : Fit g starters
@@ -54,19 +54,19 @@ module _ (g : CFG) (a : Closed g) where
     record Owner (x : ℕ) : Type 0 where
       place : ℕ
       low : Reached g x → place < length set
-      own : In x set → (place < length set) × (getD set place none ≡ x)
-      from : (s : ℕ) → From g (Reachable g) set s x → getD set place none ≡ s
+      own : In x set → (place < length set) × (getD set place absent ≡ x)
+      from : (s : ℕ) → From g (Reachable g) set s x → getD set place absent ≡ s
 
     owner : (x : ℕ) → Owner x
     owner x = go (found x set) (found x (loops g .finished))
       where
         go : Found x set → Found x (loops g .finished) → Owner x
         go (there e i) q =
-            let k = in-getD x set none i in
+            let k = in-getD x set absent i in
             record { place = k .0; low = λ r. k .1; own = λ j. (k .1, k .2); from = λ s f. k .2 ∙ sym (only-itself e (f .path)) }
         go (missing e f) (there b j) =
             let one = fit .one x (reachable (looped g a .only x j)) e in
-            let k = in-getD (one .0) set none (mem→In (one .0) set (one .1 .starter)) in
+            let k = in-getD (one .0) set absent (mem→In (one .0) set (one .1 .starter)) in
             record { place = k .0; low = λ r. k .1; own = λ i. absurd (f i); from = λ s h. k .2 ∙ sym (one .2 s h) }
         go (missing e f) (missing b h) =
             let out : Reached g x → ⊥ = λ r. h (looped g a .all x r) in
@@ -84,7 +84,7 @@ module _ (g : CFG) (a : Closed g) where
         own k d h =
             let o = owner (getD set k d) in
             let i = o .own (getD-in set k d h) in
-            distinct-at set (o .place) k none distinct (i .0) h (i .1 ∙ getD-any set k d none h)
+            distinct-at set (o .place) k absent distinct (i .0) h (i .1 ∙ getD-any set k d absent h)
 
         legal : (u v : ℕ) → Reachable g u → mem v (successors g u) ≡ true → (mem v set ≡ true) ⊎ (owner v .place ≡ owner u .place)
         legal u v r e = go (found v set)
@@ -95,5 +95,5 @@ module _ (g : CFG) (a : Closed g) where
                 let i = mem→In v (successors g u) e in
                 let s = some-starter g (Reachable g) (λ t p. p) set (zero-in g a set (fit .holds)) (reached r) in
                 let t = onward g (Reachable g) (λ t p. p) set (s .1) i b in
-                inr (distinct-at set (owner v .place) (owner u .place) none distinct (owner v .low (along (reached r) i)) (owner u .low (reached r))
+                inr (distinct-at set (owner v .place) (owner u .place) absent distinct (owner v .low (along (reached r) i)) (owner u .low (reached r))
                 (owner v .from (s .0) t ∙ sym (owner u .from (s .0) (s .1))))

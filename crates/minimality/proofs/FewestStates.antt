@@ -9,11 +9,11 @@ use lib.ListN.{length, getD, drop, List·getD-eq-default}
 use Rattle.runs.specs.Lists.{padded}
 use Rattle.runs.proofs.ListLaws.{length-padded, getD-padded}
 use Rattle.cfg.specs.Graph.{CFG}
-use Rattle.cfg.specs.Table.{graphOf, admitted}
+use Rattle.cfg.specs.Table.{graphOf, admittedGraph}
 use Rattle.cfg.proofs.Admitted.{valid-graph, admitted-halves}
-use Rattle.fsmd.specs.Layout.{maxStates, maxBlocks, machineWords, none}
+use Rattle.fsmd.specs.Layout.{maxStates, maxBlocks, machineWords, absent}
 use Rattle.fsmd.specs.Machine.{FSMD}
-use Rattle.fsmd.specs.Table.{tableOf, machineOf}
+use Rattle.fsmd.specs.Table.{machineTableOf, machineOf}
 use Rattle.fsmd.proofs.Machines.{states-length}
 use Rattle.fsmd.proofs.WrittenTable.{count-is, back-starters, back-blocks}
 use Rattle.grouping.specs.Grouping.{groups}
@@ -30,20 +30,20 @@ use Rattle.minimality.proofs.LeastStarters.{groups-division, least-fit}
 -- ---- the starters and block states that a machine's table gives back
 
 module _ (m : FSMD) (rest : List ℕ) where
-  read-starters : length (m .starters) ≡ length (m .states) → length (m .states) ≤ maxStates → machineOf (tableOf m ++ rest) .starters ≡ m .starters
+  read-starters : length (m .starters) ≡ length (m .states) → length (m .states) ≤ maxStates → machineOf (machineTableOf m ++ rest) .starters ≡ m .starters
   unfolding machineOf
   read-starters e few = back-starters m rest e few
 
   -- an absent block's state is none, in the table and past it
-  read-block-state : length (m .blockStates) ≤ maxBlocks → (b : ℕ) → getD (machineOf (tableOf m ++ rest) .blockStates) b none ≡ getD (m .blockStates) b none
+  read-block-state : length (m .blockStates) ≤ maxBlocks → (b : ℕ) → getD (machineOf (machineTableOf m ++ rest) .blockStates) b absent ≡ getD (m .blockStates) b absent
   unfolding machineOf
   read-block-state few b = rw (back-blocks m rest) (go (decLt b maxBlocks))
     where
-      go : Dec (b < maxBlocks) → getD (padded maxBlocks none (m .blockStates)) b none ≡ getD (m .blockStates) b none
-      go (yes h) = getD-padded maxBlocks none (m .blockStates) b h
+      go : Dec (b < maxBlocks) → getD (padded maxBlocks absent (m .blockStates)) b absent ≡ getD (m .blockStates) b absent
+      go (yes h) = getD-padded maxBlocks absent (m .blockStates) b h
       go (no h) =
-          List·getD-eq-default (padded maxBlocks none (m .blockStates)) none {n = b} (omega (arith, length-padded maxBlocks none (m .blockStates)))
-          ∙ sym (List·getD-eq-default (m .blockStates) none {n = b} (omega arith))
+          List·getD-eq-default (padded maxBlocks absent (m .blockStates)) absent {n = b} (omega (arith, length-padded maxBlocks absent (m .blockStates)))
+          ∙ sym (List·getD-eq-default (m .blockStates) absent {n = b} (omega arith))
 
 -- ---- the table that Synthesise makes
 
@@ -53,16 +53,16 @@ machine-starters g = ap (λ (m : FSMD). m .starters) (machine-is g) ∙ starters
 machine-blocks : (g : CFG) → machine g .blockStates ≡ groups g .states
 machine-blocks g = ap (λ (m : FSMD). m .blockStates) (machine-is g) ∙ block-states-are g (groups g)
 
-made-fewest : (t rest : List ℕ) → admitted t ≡ true → FewestStates t (tableOf (machine (graphOf t)) ++ rest)
+made-fewest : (t rest : List ℕ) → admittedGraph t ≡ true → FewestStates t (machineTableOf (machine (graphOf t)) ++ rest)
 made-fewest t rest ok =
     let g = graphOf t in
     let a = admitted-closed t ok in
     let m = machine g in
     let f = machine-fits g (valid-graph g (admitted-halves t ok .0)) in
-    let table = tableOf m ++ rest in
+    let table = machineTableOf m ++ rest in
     let starters : machineOf table .starters ≡ groups g .starters = read-starters m rest (f .startersCount) (f .fewStates) ∙ machine-starters g in
-    let states : (λ b. getD (machineOf table .blockStates) b none) ≡ stateIn (groups g .states) =
-    fun-ext (λ b. read-block-state m rest (f .fewBlocks) b ∙ ap (λ (l : List ℕ). getD l b none) (machine-blocks g)) in
+    let states : (λ b. getD (machineOf table .blockStates) b absent) ≡ stateIn (groups g .states) =
+    fun-ext (λ b. read-block-state m rest (f .fewBlocks) b ∙ ap (λ (l : List ℕ). getD l b absent) (machine-blocks g)) in
     let count : length (groups g .starters) ≡ length (machineOf table .states) =
     ap length (sym (machine-starters g)) ∙ f .startersCount ∙ sym (count-is m rest) ∙ sym (states-length table) in
     record {

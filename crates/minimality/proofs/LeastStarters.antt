@@ -7,7 +7,7 @@ use mathlib.Core.List.{List, [], _∷_}
 use Rattle.runs.specs.Lists.{mem}
 use Rattle.runs.proofs.Sets.{In, Subset, mem→In, In→mem, in-left, pigeonhole}
 use Rattle.cfg.specs.Graph.{CFG, successors}
-use Rattle.cfg.specs.Table.{graphOf, admitted}
+use Rattle.cfg.specs.Table.{graphOf, admittedGraph}
 use Rattle.grouping.specs.Grouping.{loops, groups}
 use Rattle.grouping.proofs.Reach.{Closed, admitted-closed}
 use Rattle.grouping.proofs.PopulationLaws.{stateIn}
@@ -59,5 +59,5 @@ module _ (g : CFG) (a : Closed g) where
   }
 
 -- the starters of every admitted graph table
-pub table-least-fit : (t : List ℕ) → admitted t ≡ true → LeastFit (graphOf t) (groups (graphOf t) .starters)
+pub table-least-fit : (t : List ℕ) → admittedGraph t ≡ true → LeastFit (graphOf t) (groups (graphOf t) .starters)
 table-least-fit t ok = least-fit (graphOf t) (admitted-closed t ok)

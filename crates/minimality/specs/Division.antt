@@ -8,7 +8,7 @@ use lib.ListN.{length, getD}
 use Rattle.runs.specs.Lists.{mem}
 use Rattle.cfg.specs.Graph.{CFG, successors}
 use Rattle.cfg.specs.Table.{graphOf}
-use Rattle.fsmd.specs.Layout.{none}
+use Rattle.fsmd.specs.Layout.{absent}
 use Rattle.fsmd.specs.Table.{machineOf}
 use Rattle.grouping.specs.Grouping.{loops}
 use Rattle.minimality.specs.Fit.{Reachable, LeastFit}
@@ -28,5 +28,5 @@ pub record FewestStates (graphTable machineTable : List ℕ) : Type 0 where
   pub each : length (machineOf machineTable .starters) ≡ length (machineOf machineTable .states)
   pub least : LeastFit (graphOf graphTable) (machineOf machineTable .starters)
   -- its starters and block states are a division of the graph, and no division has fewer states
-  pub divided : Division (graphOf graphTable) (machineOf machineTable .starters) (λ b. getD (machineOf machineTable .blockStates) b none)
+  pub divided : Division (graphOf graphTable) (machineOf machineTable .starters) (λ b. getD (machineOf machineTable .blockStates) b absent)
   pub fewest : (starters : List ℕ) (state : ℕ → ℕ) → Division (graphOf graphTable) starters state → length (machineOf machineTable .states) ≤ length starters

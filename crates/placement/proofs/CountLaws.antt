@@ -240,7 +240,7 @@ module _ (to : ℕ → List ℕ) (starter : ℕ → Bool) where
 
   -- a placement that always takes the first block that is ready takes the blocks that the counts choose
   module _ (blocks : List ℕ) (d : Distinct blocks) (whole : ℕ → List ℕ → List ℕ) (stop : (placed : List ℕ) → whole zero placed ≡ [])
-      (turn : (n : ℕ) (placed : List ℕ) → whole (suc n) placed ≡ placeNext (first (λ x. not (mem x placed) && (starter x || every (λ u. not (mem x (to u)) || mem u placed) blocks)) blocks) (λ x. whole n (x ∷ placed))) where
+      (round : (n : ℕ) (placed : List ℕ) → whole (suc n) placed ≡ placeNext (first (λ x. not (mem x placed) && (starter x || every (λ u. not (mem x (to u)) || mem u placed) blocks)) blocks) (λ x. whole n (x ∷ placed))) where
     same-choice : (placed : List ℕ)
         → first (λ x. not (mem x placed) && (starter x || every (λ u. not (mem x (to u)) || mem u placed) blocks)) blocks ≡ choice (targetsOf to starter) (unplaced blocks placed)
     same-choice placed =
@@ -257,9 +257,9 @@ module _ (to : ℕ → List ℕ) (starter : ℕ → Bool) where
         go : (o : Option ℕ) → choice (targetsOf to starter) (unplaced blocks placed) ≡ o
             → ((q : List ℕ) → blocksOf (run (targetsOf to starter) n (unplaced blocks q)) ≡ whole n q)
             → blocksOf (run (targetsOf to starter) (suc n) (unplaced blocks placed)) ≡ whole (suc n) placed
-        go none e ih = rw (run-stops (targetsOf to starter) (suc n) (unplaced blocks placed) e, turn n placed, same-choice placed, e) refl
+        go none e ih = rw (run-stops (targetsOf to starter) (suc n) (unplaced blocks placed) e, round n placed, same-choice placed, e) refl
         go (some x) e ih =
-            rw (run-on (targetsOf to starter) n (unplaced blocks placed) x (distinct-only (λ x. not (mem x placed)) blocks d) e, turn n placed, same-choice placed, e, unplaced-on blocks placed x, ih (x ∷ placed)) refl
+            rw (run-on (targetsOf to starter) n (unplaced blocks placed) x (distinct-only (λ x. not (mem x placed)) blocks d) e, round n placed, same-choice placed, e, unplaced-on blocks placed x, ih (x ∷ placed)) refl
 
     pub run-places : (n : ℕ) → blocksOf (run (targetsOf to starter) n blocks) ≡ whole n []
     run-places n = ap (λ (l : List ℕ). blocksOf (run (targetsOf to starter) n l)) (sym (unplaced-all blocks)) ∙ by-counts n []

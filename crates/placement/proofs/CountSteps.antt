@@ -14,7 +14,7 @@ use Rattle.word.specs.Word.{choose}
 use Rattle.runs.specs.Lists.{only, keep, concatMap}
 use Rattle.runs.proofs.Tests.{Compared, same, other, compared, and-true}
 use Rattle.runs.proofs.ListLaws.{length-only, concat-one}
-use Rattle.fsmd.specs.Layout.{maxBlocks, none}
+use Rattle.fsmd.specs.Layout.{maxBlocks, absent}
 use Rattle.grouping.specs.Bytes.{edgesFrom}
 use Rattle.placement.specs.Counts.{waiting, lowered}
 use Rattle.placement.specs.PlacementBytes.{marked, awaited, targetIn, targetsIn, countsIn}
@@ -22,9 +22,9 @@ use Rattle.placement.proofs.CountLaws.{only-only, number-append, lowere
 
 -- ---- the edges of a block
 
-pub targets-two : (edges starts : List ℕ) (u : ℕ) → targetsIn edges starts u ≡ targetIn starts (getD edges (2 * u) none) ++ targetIn starts (getD edges (2 * u + 1) none)
+pub targets-two : (edges starts : List ℕ) (u : ℕ) → targetsIn edges starts u ≡ targetIn starts (getD edges (2 * u) absent) ++ targetIn starts (getD edges (2 * u + 1) absent)
 unfolding edgesFrom
-targets-two edges starts u = go (getD edges (2 * u) none) (getD edges (2 * u + 1) none)
+targets-two edges starts u = go (getD edges (2 * u) absent) (getD edges (2 * u + 1) absent)
   where
     go : (a b : ℕ) → only (λ t. not (marked starts t)) (only (λ t. ltb t maxBlocks) (a ∷ b ∷ [])) ≡ targetIn starts a ++ targetIn starts b
     go a b = only-only (λ t. not (marked starts t)) (λ t. ltb t maxBlocks) (awaited starts) (λ t. refl) (a ∷ b ∷ []) ∙ two (awaited starts a)
@@ -74,10 +74,10 @@ module _ (starts waits : List ℕ) (t : ℕ) where
 
 module _ (edges starts waits : List ℕ) (u : ℕ) where
   abbrev pub true-target : List ℕ
-  true-target = targetIn starts (getD edges (2 * u) none)
+  true-target = targetIn starts (getD edges (2 * u) absent)
 
   abbrev pub false-target : List ℕ
-  false-target = targetIn starts (getD edges (2 * u + 1) none)
+  false-target = targetIn starts (getD edges (2 * u + 1) absent)
 
   module _ (enough : (x : ℕ) → waiting (targetsIn edges starts u) x ≤ countsIn waits x) where
     both : (x : ℕ) → waiting true-target x + waiting false-target x ≤ countsIn waits x
@@ -121,7 +121,7 @@ one-at-most starts t x = go (awaited starts t)
 
 module _ {edges starts blocks waits : List ℕ} {i : ℕ} (c : Counting edges starts blocks waits i) where
   pub counting-on : i < length blocks → (more : List ℕ) → length more ≡ maxBlocks
-      → ((x : ℕ) → countsIn more x ≡ waiting (targetIn starts (getD edges (2 * getD blocks i 0 + 1) none)) x + (waiting (targetIn starts (getD edges (2 * getD blocks i 0) none)) x + countsIn waits x))
+      → ((x : ℕ) → countsIn more x ≡ waiting (targetIn starts (getD edges (2 * getD blocks i 0 + 1) absent)) x + (waiting (targetIn starts (getD edges (2 * getD blocks i 0) absent)) x + countsIn waits x))
       → Counting edges starts blocks more (i + 1)
   counting-on h more n e = record {
     within = omega arith;
@@ -141,10 +141,10 @@ module _ {edges starts blocks waits : List ℕ} {i : ℕ} (c : Counting edges st
       u = getD blocks i 0
 
       a : ℕ
-      a = getD edges (2 * u) none
+      a = getD edges (2 * u) absent
 
       b : ℕ
-      b = getD edges (2 * u + 1) none
+      b = getD edges (2 * u + 1) absent
 
       grown : concatMap (targetsIn edges starts) (take (i + 1) blocks) ≡ concatMap (targetsIn edges starts) (take i blocks) ++ (targetIn starts a ++ targetIn starts b)
       grown =

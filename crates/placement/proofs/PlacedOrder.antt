@@ -9,23 +9,23 @@ use borrow.Author.Tests.{ne-eqb}
 use Rattle.runs.specs.Lists.{upFrom, mem, only, keep, every, first}
 use Rattle.runs.proofs.ListLaws.{length-upFrom, length-only}
 use Rattle.cfg.specs.Graph.{CFG, successors}
-use Rattle.fsmd.specs.Layout.{maxBlocks, none}
+use Rattle.fsmd.specs.Layout.{maxBlocks, absent}
 use Rattle.grouping.specs.Grouping.{Groups}
 use Rattle.grouping.specs.Bytes.{edgesIn}
 use Rattle.grouping.proofs.Reach.{Closed}
 use Rattle.grouping.proofs.GroupingLaws.{Grouped}
-use Rattle.placement.specs.Placement.{members, ready, placeNext, place, order}
+use Rattle.placement.specs.Placement.{members, ready, placeNext, placedFrom, order}
 use Rattle.placement.specs.PlacementBytes.{marked, ofState, membersIn, nextIn, placeIn}
-use Rattle.placement.proofs.PlacementLaws.{order-turns}
+use Rattle.placement.proofs.PlacementLaws.{order-rounds}
 
 -- the same blocks are placed where the bytes say what the graph and its grouping say
 place-alike : (g : CFG) (s : Groups) (edges starts blocks : List ℕ) → ((n : ℕ) → edgesIn edges n ≡ successors g n)
-    → ((x : ℕ) → marked starts x ≡ mem x (s .starters)) → (n : ℕ) (placed : List ℕ) → placeIn edges starts blocks n placed ≡ place g s blocks n placed
-unfolding placeIn place
+    → ((x : ℕ) → marked starts x ≡ mem x (s .starters)) → (n : ℕ) (placed : List ℕ) → placeIn edges starts blocks n placed ≡ placedFrom g s blocks n placed
+unfolding placeIn placedFrom
 place-alike g s edges starts blocks e m zero placed = refl
 place-alike g s edges starts blocks e m (suc n) placed =
     ap (λ (f : ℕ → List ℕ). placeNext (first (nextIn edges starts blocks (λ x. mem x placed)) blocks) f) (fun-ext (λ x. place-alike g s edges starts blocks e m n (x ∷ placed)))
-    ∙ ap (λ (p : ℕ → Bool). placeNext (first p blocks) (λ x. place g s blocks n (x ∷ placed))) (fun-ext due)
+    ∙ ap (λ (p : ℕ → Bool). placeNext (first p blocks) (λ x. placedFrom g s blocks n (x ∷ placed))) (fun-ext due)
   where
     passing : (x u : ℕ) → (not (mem x (edgesIn edges u)) || mem u placed) ≡ (not (mem x (successors g u)) || mem u placed)
     passing x u = ap (λ (l : List ℕ). not (mem x l) || mem u placed) (e u)
@@ -54,9 +54,9 @@ module _ (g : CFG) (a : Closed g) (s : Groups) (G : Grouped g s) (k : ℕ) (k-in
 
   outside : (x : ℕ) → length (g .blocks) ≤ x → ofState (s .states) k x ≡ false
   outside x h =
-      ne-eqb (getD (s .states) x none) k
-      (λ (e : getD (s .states) x none ≡ k).
-      let d : getD (s .states) x none ≡ none = List·getD-eq-default (s .states) none {n = x} (omega (arith, states-length)) in
+      ne-eqb (getD (s .states) x absent) k
+      (λ (e : getD (s .states) x absent ≡ k).
+      let d : getD (s .states) x absent ≡ absent = List·getD-eq-default (s .states) absent {n = x} (omega (arith, states-length)) in
       omega (arith, k-low))
 
   pub members-alike : membersIn (s .states) k ≡ members g s k
@@ -79,4 +79,4 @@ module _ (g : CFG) (a : Closed g) (s : Groups) (G : Grouped g s) (k : ℕ) (k-in
   placed-order edges starts e m =
       ap (λ (l : List ℕ). placeIn edges starts l maxBlocks []) members-alike
       ∙ place-alike g s edges starts (members g s k) e m maxBlocks []
-      ∙ order-turns g a s G k k-in maxBlocks members-few
+      ∙ order-rounds g a s G k k-in maxBlocks members-few

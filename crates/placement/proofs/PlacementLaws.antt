@@ -14,12 +14,12 @@ use Rattle.runs.proofs.Tests.{or-true, or-right, and-true}
 use Rattle.runs.proofs.Sets.{In, Distinct, Subset, found, Found, there, missing, mem→In, mem→Out, Out→mem, In→mem, pigeonhole, in-getD, getD-any, in-right}
 use Rattle.runs.proofs.MembershipLaws.{only-in, in-only, upFrom-in, every-in, in-every, first-some, first-none}
 use Rattle.cfg.specs.Graph.{CFG, successors}
-use Rattle.fsmd.specs.Layout.{none as nowhere}
+use Rattle.fsmd.specs.Layout.{absent}
 use Rattle.grouping.specs.Grouping.{Groups}
 use Rattle.grouping.proofs.Reach.{Closed, Reached, reached-below}
 use Rattle.grouping.proofs.PopulationLaws.{stateIn}
 use Rattle.grouping.proofs.GroupingLaws.{Grouped}
-use Rattle.placement.specs.Placement.{members, ready, placeNext, place, order}
+use Rattle.placement.specs.Placement.{members, ready, placeNext, placedFrom, order}
 
 -- each successor of a block is a starter or stands later
 abbrev pub Forward : CFG → List ℕ → List ℕ → Type 0
@@ -76,21 +76,21 @@ abbrev choice : CFG → Groups → List ℕ → List ℕ → Option ℕ
 choice g s blocks placed = first (λ x. not (mem x placed) && ready g s blocks placed x) blocks
 
 module _ (g : CFG) (s : Groups) (blocks : List ℕ) (n : ℕ) (placed : List ℕ) where
-  place-none : choice g s blocks placed ≡ none → place g s blocks (suc n) placed ≡ []
-  unfolding place
-  place-none e = ap (λ (o : Option ℕ). placeNext o (λ x. place g s blocks n (x ∷ placed))) e
+  place-none : choice g s blocks placed ≡ none → placedFrom g s blocks (suc n) placed ≡ []
+  unfolding placedFrom
+  place-none e = ap (λ (o : Option ℕ). placeNext o (λ x. placedFrom g s blocks n (x ∷ placed))) e
 
-  place-some : (x : ℕ) → choice g s blocks placed ≡ some x → place g s blocks (suc n) placed ≡ x ∷ place g s blocks n (x ∷ placed)
-  unfolding place
-  place-some x e = ap (λ (o : Option ℕ). placeNext o (λ x. place g s blocks n (x ∷ placed))) e
+  place-some : (x : ℕ) → choice g s blocks placed ≡ some x → placedFrom g s blocks (suc n) placed ≡ x ∷ placedFrom g s blocks n (x ∷ placed)
+  unfolding placedFrom
+  place-some x e = ap (λ (o : Option ℕ). placeNext o (λ x. placedFrom g s blocks n (x ∷ placed))) e
 
--- no more is placed than there are turns
-place-length : (g : CFG) (s : Groups) (blocks : List ℕ) (n : ℕ) (placed : List ℕ) → length (place g s blocks n placed) ≤ n
-unfolding place
+-- no more is placed than there are rounds
+place-length : (g : CFG) (s : Groups) (blocks : List ℕ) (n : ℕ) (placed : List ℕ) → length (placedFrom g s blocks n placed) ≤ n
+unfolding placedFrom
 place-length g s blocks zero placed = omega arith
 place-length g s blocks (suc n) placed = go (choice g s blocks placed) (place-length g s blocks n)
   where
-    go : (o : Option ℕ) → ((q : List ℕ) → length (place g s blocks n q) ≤ n) → length (placeNext o (λ x. place g s blocks n (x ∷ placed))) ≤ suc n
+    go : (o : Option ℕ) → ((q : List ℕ) → length (placedFrom g s blocks n q) ≤ n) → length (placeNext o (λ x. placedFrom g s blocks n (x ∷ placed))) ≤ suc n
     go none ih = omega arith
     go (some x) ih = let h = ih (x ∷ placed) in omega arith
 
@@ -142,10 +142,10 @@ module _ (g : CFG) (s : Groups) (blocks : List ℕ) (closed : (u v : ℕ) → In
       unplaced : In x placed → ⊥
       unplaced = r .fresh x (inl refl) .1
 
-      turn : (z : ℕ) → In z placed ⊎ ((z ≡ x) ⊎ In z l) → ((z ≡ x) ⊎ In z placed) ⊎ In z l
-      turn z (inl i) = inl (inr i)
-      turn z (inr (inl p)) = inl (inl p)
-      turn z (inr (inr i)) = inr i
+      swapped : (z : ℕ) → In z placed ⊎ ((z ≡ x) ⊎ In z l) → ((z ≡ x) ⊎ In z placed) ⊎ In z l
+      swapped z (inl i) = inl (inr i)
+      swapped z (inr (inl p)) = inl (inl p)
+      swapped z (inr (inr i)) = inr i
 
       apart : (z : ℕ) → In z l → (z ≡ x) ⊎ In z placed → ⊥
       apart z i (inl p) = r .distinct .0 (subst (λ w. In w l) p i)
@@ -155,7 +155,7 @@ module _ (g : CFG) (s : Groups) (blocks : List ℕ) (closed : (u v : ℕ) → In
       rest = record {
         fresh = λ z i. (r .fresh z (inr i) .0, apart z i);
         distinct = r .distinct .1;
-        complete = λ z i. turn z (r .complete z i);
+        complete = λ z i. swapped z (r .complete z i);
         sorted = r .sorted .1;
       }
 
@@ -182,7 +182,7 @@ module _ (g : CFG) (s : Groups) (blocks : List ℕ) (closed : (u v : ℕ) → In
 -- ---- placement never gets stuck
 
 module _ (g : CFG) (a : Closed g) (s : Groups) (G : Grouped g s) (k : ℕ) (k-in : k < length (s .starters)) where
-  k-some : k ≢ nowhere
+  k-some : k ≢ absent
   k-some e = let n = G .few-states in let b = a .few-blocks in omega arith
 
   pub member-state : (x : ℕ) → In x (members g s k) → stateIn (s .states) x ≡ k
@@ -246,8 +246,8 @@ module _ (g : CFG) (a : Closed g) (s : Groups) (G : Grouped g s) (k : ℕ) (k-in
       (f .0, mem→Out x placed (not-true (mem x placed) (t .0)), ready-due g s (members g s k) placed x (t .1))
 
   place-outcome : (n : ℕ) (placed : List ℕ) → n + length placed ≡ length (members g s k) → Distinct placed → Subset placed (members g s k)
-      → Outcome g s (members g s k) placed (place g s (members g s k) n placed)
-  unfolding place
+      → Outcome g s (members g s k) placed (placedFrom g s (members g s k) n placed)
+  unfolding placedFrom
   place-outcome zero placed e d m = record {
     fresh = λ z i. absurd i;
     distinct = tt;
@@ -267,7 +267,7 @@ module _ (g : CFG) (a : Closed g) (s : Groups) (G : Grouped g s) (k : ℕ) (k-in
       one-more x i f t out r = record {
         fresh = λ z j. fresh z j;
         distinct = (λ j. r .fresh x j .1 (inl refl), r .distinct);
-        complete = λ z j. turn z (r .complete z j);
+        complete = λ z j. swapped z (r .complete z j);
         sorted = (t, r .sorted);
       }
         where
@@ -275,14 +275,14 @@ module _ (g : CFG) (a : Closed g) (s : Groups) (G : Grouped g s) (k : ℕ) (k-in
           fresh z (inl p) = rw p (i, f)
           fresh z (inr j) = (r .fresh z j .0, λ c. r .fresh z j .1 (inr c))
 
-          turn : (z : ℕ) → ((z ≡ x) ⊎ In z placed) ⊎ In z out → In z placed ⊎ ((z ≡ x) ⊎ In z out)
-          turn z (inl (inl p)) = inr (inl p)
-          turn z (inl (inr c)) = inl c
-          turn z (inr c) = inr (inr c)
+          swapped : (z : ℕ) → ((z ≡ x) ⊎ In z placed) ⊎ In z out → In z placed ⊎ ((z ≡ x) ⊎ In z out)
+          swapped z (inl (inl p)) = inr (inl p)
+          swapped z (inl (inr c)) = inl c
+          swapped z (inr c) = inr (inr c)
 
       go : (o : Option ℕ) → choice g s (members g s k) placed ≡ o
-          → ((q : List ℕ) → n + length q ≡ length (members g s k) → Distinct q → Subset q (members g s k) → Outcome g s (members g s k) q (place g s (members g s k) n q))
-          → Outcome g s (members g s k) placed (place g s (members g s k) (suc n) placed)
+          → ((q : List ℕ) → n + length q ≡ length (members g s k) → Distinct q → Subset q (members g s k) → Outcome g s (members g s k) q (placedFrom g s (members g s k) n q))
+          → Outcome g s (members g s k) placed (placedFrom g s (members g s k) (suc n) placed)
       go none h ih = rw (place-none g s (members g s k) n placed h) (record {
         fresh = λ z i. absurd i;
         distinct = tt;
@@ -292,25 +292,25 @@ module _ (g : CFG) (a : Closed g) (s : Groups) (G : Grouped g s) (k : ℕ) (k-in
       go (some x) h ih =
           let c = chosen placed x h in
           rw (place-some g s (members g s k) n placed x h)
-          (one-more x (c .0) (c .1) (c .2) (place g s (members g s k) n (x ∷ placed))
+          (one-more x (c .0) (c .1) (c .2) (placedFrom g s (members g s k) n (x ∷ placed))
           (ih (x ∷ placed) (omega arith) (c .1, d) (one-inside placed x (c .0) m)))
 
-  -- more turns place no more
+  -- more rounds place no more
   place-alike : (n m : ℕ) (placed : List ℕ) → n ≤ m → n + length placed ≡ length (members g s k) → Distinct placed → Subset placed (members g s k)
-      → place g s (members g s k) m placed ≡ place g s (members g s k) n placed
-  unfolding place
+      → placedFrom g s (members g s k) m placed ≡ placedFrom g s (members g s k) n placed
+  unfolding placedFrom
   place-alike zero zero placed l e d i = refl
   place-alike zero (suc m) placed l e d i = go (choice g s (members g s k) placed) refl
     where
-      go : (o : Option ℕ) → choice g s (members g s k) placed ≡ o → place g s (members g s k) (suc m) placed ≡ []
+      go : (o : Option ℕ) → choice g s (members g s k) placed ≡ o → placedFrom g s (members g s k) (suc m) placed ≡ []
       go none h = place-none g s (members g s k) m placed h
       go (some x) h = let c = chosen placed x h in absurd (c .1 (full placed (omega arith) d i x (c .0)))
   place-alike (suc n) zero placed l e d i = absurd (omega arith)
   place-alike (suc n) (suc m) placed l e d i = go (choice g s (members g s k) placed) refl (place-alike n m)
     where
       go : (o : Option ℕ) → choice g s (members g s k) placed ≡ o
-          → ((q : List ℕ) → n ≤ m → n + length q ≡ length (members g s k) → Distinct q → Subset q (members g s k) → place g s (members g s k) m q ≡ place g s (members g s k) n q)
-          → place g s (members g s k) (suc m) placed ≡ place g s (members g s k) (suc n) placed
+          → ((q : List ℕ) → n ≤ m → n + length q ≡ length (members g s k) → Distinct q → Subset q (members g s k) → placedFrom g s (members g s k) m q ≡ placedFrom g s (members g s k) n q)
+          → placedFrom g s (members g s k) (suc m) placed ≡ placedFrom g s (members g s k) (suc n) placed
       go none h ih = place-none g s (members g s k) m placed h ∙ sym (place-none g s (members g s k) n placed h)
       go (some x) h ih =
           let c = chosen placed x h in
@@ -323,15 +323,15 @@ module _ (g : CFG) (a : Closed g) (s : Groups) (G : Grouped g s) (k : ℕ) (k-in
   order-outcome = place-outcome (length (members g s k)) [] (omega arith) tt (λ x i. absurd i)
 
   -- a starter of the state is its starter
-  own-starter : (x : ℕ) → In x (s .starters) → stateIn (s .states) x ≡ k → x ≡ getD (s .starters) k nowhere
+  own-starter : (x : ℕ) → In x (s .starters) → stateIn (s .states) x ≡ k → x ≡ getD (s .starters) k absent
   own-starter x i e =
-      let r = in-getD x (s .starters) nowhere i in
-      let h : r .0 ≡ k = sym (G .starter-home (r .0) nowhere (r .1)) ∙ ap (stateIn (s .states)) (r .2) ∙ e in
-      sym (r .2) ∙ ap (λ (n : ℕ). getD (s .starters) n nowhere) h
+      let r = in-getD x (s .starters) absent i in
+      let h : r .0 ≡ k = sym (G .starter-home (r .0) absent (r .1)) ∙ ap (stateIn (s .states)) (r .2) ∙ e in
+      sym (r .2) ∙ ap (λ (n : ℕ). getD (s .starters) n absent) h
 
   -- the first placed is the starter: any other block has one of the state before it
-  head-is : (l : List ℕ) → Outcome g s (members g s k) [] l → (rest : List ℕ) × (l ≡ getD (s .starters) k nowhere ∷ rest)
-  head-is [] r = absurd (go (r .complete (getD (s .starters) k nowhere) (state-member (getD (s .starters) k nowhere) (G .starter-home k nowhere k-in))))
+  head-is : (l : List ℕ) → Outcome g s (members g s k) [] l → (rest : List ℕ) × (l ≡ getD (s .starters) k absent ∷ rest)
+  head-is [] r = absurd (go (r .complete (getD (s .starters) k absent) (state-member (getD (s .starters) k absent) (G .starter-home k absent k-in))))
     where
       go : ⊥ ⊎ ⊥ → ⊥
       go (inl z) = z
@@ -341,7 +341,7 @@ module _ (g : CFG) (a : Closed g) (s : Groups) (G : Grouped g s) (k : ℕ) (k-in
       x-in : In x (members g s k)
       x-in = r .fresh x (inl refl) .0
 
-      go : Found x (s .starters) → Due g s (members g s k) [] x → x ≡ getD (s .starters) k nowhere
+      go : Found x (s .starters) → Due g s (members g s k) [] x → x ≡ getD (s .starters) k absent
       go (there e i) d = own-starter x i (member-state x x-in)
       go (missing e f) (inl i) = absurd (f i)
       go (missing e f) (inr h) =
@@ -354,7 +354,7 @@ module _ (g : CFG) (a : Closed g) (s : Groups) (G : Grouped g s) (k : ℕ) (k-in
     all = λ x e. there-is x (o .complete x (state-member x e));
     distinct = o .distinct;
     others = h .0;
-    starter-first = λ d. h .1 ∙ ap (λ (z : ℕ). z ∷ h .0) (getD-any (s .starters) k nowhere d k-in);
+    starter-first = λ d. h .1 ∙ ap (λ (z : ℕ). z ∷ h .0) (getD-any (s .starters) k absent d k-in);
     no-starter = lone;
     forward = sorted-forward g s (members g s k) inside [] (order g s k) o (λ v i. absurd i);
     later = later;
@@ -364,7 +364,7 @@ module _ (g : CFG) (a : Closed g) (s : Groups) (G : Grouped g s) (k : ℕ) (k-in
       o : Outcome g s (members g s k) [] (order g s k)
       o = order-outcome
 
-      h : (rest : List ℕ) × (order g s k ≡ getD (s .starters) k nowhere ∷ rest)
+      h : (rest : List ℕ) × (order g s k ≡ getD (s .starters) k absent ∷ rest)
       h = head-is (order g s k) o
 
       there-is : (x : ℕ) → ⊥ ⊎ In x (order g s k) → In x (order g s k)
@@ -373,7 +373,7 @@ module _ (g : CFG) (a : Closed g) (s : Groups) (G : Grouped g s) (k : ℕ) (k-in
 
       lone : (x : ℕ) → In x (h .0) → In x (s .starters) → ⊥
       lone x i j =
-          let d : Distinct (getD (s .starters) k nowhere ∷ h .0) = rw (h .1) at (o .distinct) in
+          let d : Distinct (getD (s .starters) k absent ∷ h .0) = rw (h .1) at (o .distinct) in
           let m : In x (order g s k) = rw (h .1) (inr i) in
           d .0 (subst (λ z. In z (h .0)) (own-starter x j (member-state x (o .fresh x m .0))) i)
 
@@ -392,8 +392,8 @@ module _ (g : CFG) (a : Closed g) (s : Groups) (G : Grouped g s) (k : ℕ) (k-in
           let b = G .predecessor x (state-reached x e) f in
           (b .0, later (b .0) x (b .1 ∙ e) (b .2) f p q c, b .2)
 
--- any number of turns from the state's blocks up gives the same
-pub order-turns : (g : CFG) → Closed g → (s : Groups) → Grouped g s → (k : ℕ) → k < length (s .starters) → (n : ℕ) → length (members g s k) ≤ n
-    → place g s (members g s k) n [] ≡ order g s k
+-- any number of rounds from the state's blocks up gives the same
+pub order-rounds : (g : CFG) → Closed g → (s : Groups) → Grouped g s → (k : ℕ) → k < length (s .starters) → (n : ℕ) → length (members g s k) ≤ n
+    → placedFrom g s (members g s k) n [] ≡ order g s k
 unfolding order
-order-turns g a s G k h n l = place-alike g a s G k h (length (members g s k)) n [] l (omega arith) tt (λ x i. absurd i)
+order-rounds g a s G k h n l = place-alike g a s G k h (length (members g s k)) n [] l (omega arith) tt (λ x i. absurd i)

@@ -16,7 +16,7 @@ use Rattle.runs.proofs.Tests.{Compared, same, other, compared}
 use Rattle.runs.proofs.ListLaws.{upFrom-cons, copied-more}
 use Rattle.runs.proofs.Sets.{Distinct, getD-any, getD-in}
 use Rattle.runs.proofs.MembershipLaws.{distinct-only, distinct-upFrom}
-use Rattle.fsmd.specs.Layout.{maxBlocks, none}
+use Rattle.fsmd.specs.Layout.{maxBlocks, absent}
 use Rattle.grouping.specs.Bytes.{edgesIn}
 use Rattle.placement.specs.Counts.{waiting, lowered, without, blocksOf, run}
 use Rattle.placement.specs.PlacementBytes.{marked, ofState, membersFrom, membersIn, placeIn, targetsIn, countsIn, Chosen}
@@ -58,7 +58,7 @@ module _ {states blocks : List ℕ} {k count x : ℕ} (m : Members states blocks
       size = length-set blocks count x ∙ m .size;
       within = omega arith;
       few = let f = m .few in omega arith;
-      rest = members-next l ∙ rw (getD-any states x none 0 h, eq-eqb (getD states x 0) k e, taken) (sym (append-snoc (take count blocks) x (membersFrom states k (x + 1) (maxBlocks - (x + 1)))));
+      rest = members-next l ∙ rw (getD-any states x absent 0 h, eq-eqb (getD states x 0) k e, taken) (sym (append-snoc (take count blocks) x (membersFrom states k (x + 1) (maxBlocks - (x + 1)))));
     }
       where
         taken : take (count + 1) (set blocks count x) ≡ take count blocks ++ (x ∷ [])
@@ -69,7 +69,7 @@ module _ {states blocks : List ℕ} {k count x : ℕ} (m : Members states blocks
       size = m .size;
       within = omega arith;
       few = let f = m .few in omega arith;
-      rest = members-next l ∙ rw (getD-any states x none 0 h, ne-eqb (getD states x 0) k f) refl;
+      rest = members-next l ∙ rw (getD-any states x absent 0 h, ne-eqb (getD states x 0) k f) refl;
     }
 
   pub members-all : length states ≤ x → k < maxBlocks → take count blocks ≡ membersIn states k
@@ -77,8 +77,8 @@ module _ {states blocks : List ℕ} {k count x : ℕ} (m : Members states blocks
     where
       outside : (y : ℕ) → x + 0 ≤ y → ofState states k y ≡ false
       outside y g =
-          let e : getD states y none ≡ none = List·getD-eq-default states none {n = y} (omega arith) in
-          rw (e, ne-eqb none k (λ (f : none ≡ k). absurd (omega arith))) refl
+          let e : getD states y absent ≡ absent = List·getD-eq-default states absent {n = y} (omega arith) in
+          rw (e, ne-eqb absent k (λ (f : absent ≡ k). absurd (omega arith))) refl
 
       none-left : membersFrom states k x (maxBlocks - x) ≡ []
       none-left = let e : maxBlocks - x ≡ 0 + (maxBlocks - x) = omega arith in rw e (only-more (ofState states k) x 0 (maxBlocks - x) outside)
@@ -133,18 +133,18 @@ module _ {old : List ℕ} {i : ℕ} {left : List ℕ} {carried j : ℕ} (m : Mov
 -- ---- one more block placed
 
 -- what is placed so far and what the counts choose of those left are the whole
-pub record Placing (targets : ℕ → List ℕ) (whole front left counts : List ℕ) (turns : ℕ) : Type 0 where
+pub record Placing (targets : ℕ → List ℕ) (whole front left counts : List ℕ) (rounds : ℕ) : Type 0 where
   pub distinct : Distinct left
   pub exact : countsIn counts ≡ waits targets left
-  pub rest : whole ≡ front ++ blocksOf (run targets turns left)
+  pub rest : whole ≡ front ++ blocksOf (run targets rounds left)
 
-module _ {targets : ℕ → List ℕ} {whole front left counts : List ℕ} {turns : ℕ} (p : Placing targets whole front left counts turns) where
+module _ {targets : ℕ → List ℕ} {whole front left counts : List ℕ} {rounds : ℕ} (p : Placing targets whole front left counts rounds) where
   choice-is : first (λ x. eqb (countsIn counts x) 0) left ≡ choice targets left
   choice-is = ap (λ (f : ℕ → ℕ). first (λ x. eqb (f x) 0) left) (p .exact)
 
   pub placing-stops : first (λ x. eqb (countsIn counts x) 0) left ≡ Option.none → front ≡ whole
   placing-stops e =
-      sym (p .rest ∙ ap (λ l. front ++ blocksOf l) (run-stops targets turns left (sym choice-is ∙ e)) ∙ append-nil front)
+      sym (p .rest ∙ ap (λ l. front ++ blocksOf l) (run-stops targets rounds left (sym choice-is ∙ e)) ∙ append-nil front)
 
   module _ (i : ℕ) (h : i < length left) where
     -- the counts are high enough for the block's edges to lower them
@@ -152,7 +152,7 @@ module _ {targets : ℕ → List ℕ} {whole front left counts : List ℕ} {turn
     placing-enough x = omega (arith, ap (λ f. f x) (p .exact), enough targets (getD left i 0) left (p .distinct) (getD-in left i 0 h) x)
 
     pub placing-on : first (λ x. eqb (countsIn counts x) 0) left ≡ Option.some (getD left i 0) → (lower : List ℕ) → countsIn lower ≡ lowered (targets (getD left i 0)) (countsIn counts)
-        → (m : ℕ) → turns ≡ suc m → Placing targets whole (front ++ (getD left i 0 ∷ [])) (take i left ++ drop (i + 1) left) lower m
+        → (m : ℕ) → rounds ≡ suc m → Placing targets whole (front ++ (getD left i 0 ∷ [])) (take i left ++ drop (i + 1) left) lower m
     placing-on e lower w m t = rw (← others) (record {
       distinct = distinct-only (λ y. not (eqb y (getD left i 0))) left (p .distinct);
       exact = w ∙ ap (lowered (targets (getD left i 0))) (p .exact) ∙ waits-on targets (getD left i 0) left (p .distinct) (getD-in left i 0 h);

@@ -9,7 +9,7 @@ use lib.ListN.{length, getD}
 use Rattle.runs.specs.Lists.{mem}
 use Rattle.runs.proofs.Sets.{In, mem→In, In→mem, Out→mem, in-getD, getD-in}
 use Rattle.cfg.specs.Graph.{CFG, successors}
-use Rattle.fsmd.specs.Layout.{none}
+use Rattle.fsmd.specs.Layout.{absent}
 use Rattle.grouping.specs.Grouping.{Groups}
 use Rattle.grouping.proofs.Reach.{Closed}
 use Rattle.grouping.proofs.GroupingLaws.{Grouped}
@@ -36,12 +36,12 @@ pub record StateOrder (g : CFG) (s : Groups) (k y : ℕ) : Type 0 where
 
 -- of the whole grouping: few states, block 0 in state 0, and each starter's state is one, its own and in order
 pub record Arranged (g : CFG) (s : Groups) : Type 0 where
-  pub few : length (s .starters) ≤ none
+  pub few : length (s .starters) ≤ absent
   pub entry : mem 0 (s .starters) ≡ true
-  pub entry-state : getD (s .states) 0 none ≡ 0
-  pub home : (y : ℕ) → mem y (s .starters) ≡ true → getD (s .states) y none < length (s .starters)
-  pub own : (y : ℕ) → mem y (s .starters) ≡ true → getD (s .starters) (getD (s .states) y none) none ≡ y
-  pub placed : (y : ℕ) → mem y (s .starters) ≡ true → StateOrder g s (getD (s .states) y none) y
+  pub entry-state : getD (s .states) 0 absent ≡ 0
+  pub home : (y : ℕ) → mem y (s .starters) ≡ true → getD (s .states) y absent < length (s .starters)
+  pub own : (y : ℕ) → mem y (s .starters) ≡ true → getD (s .starters) (getD (s .states) y absent) absent ≡ y
+  pub placed : (y : ℕ) → mem y (s .starters) ≡ true → StateOrder g s (getD (s .states) y absent) y
   pub sized : (k : ℕ) → length (order g s k) ≤ length (members g s k)
 
 ahead-made : (starters xs vs : List ℕ) → ((v : ℕ) → In v vs → In v starters ⊎ In v xs) → Ahead starters xs vs
@@ -55,26 +55,26 @@ ordered-made g starters (x ∷ l) f o =
 
 -- every finished grouping
 module _ (g : CFG) (a : Closed g) (s : Groups) (G : Grouped g s) where
-  state-order : (k : ℕ) → k < length (s .starters) → StateOrder g s k (getD (s .starters) k none)
+  state-order : (k : ℕ) → k < length (s .starters) → StateOrder g s k (getD (s .starters) k absent)
   state-order k h = record {
     others = p .others;
-    order-is = p .starter-first none;
-    starter = In→mem (getD (s .starters) k none) (s .starters) (getD-in (s .starters) k none h);
-    ahead = ahead-made (s .starters) (p .others) (successors g (getD (s .starters) k none)) (f .0);
+    order-is = p .starter-first absent;
+    starter = In→mem (getD (s .starters) k absent) (s .starters) (getD-in (s .starters) k absent h);
+    ahead = ahead-made (s .starters) (p .others) (successors g (getD (s .starters) k absent)) (f .0);
     ordered = ordered-made g (s .starters) (p .others) (f .1) (p .no-starter);
   }
     where
       p : Placed g s k
       p = placed g a s G k h
 
-      f : Forward g (s .starters) (getD (s .starters) k none ∷ p .others)
-      f = rw (p .starter-first none) at (p .forward)
+      f : Forward g (s .starters) (getD (s .starters) k absent ∷ p .others)
+      f = rw (p .starter-first absent) at (p .forward)
 
   pub arranged : Arranged g s
   arranged = record {
     few = let n = G .few-states in let b = a .few-blocks in omega arith;
     entry = In→mem 0 (s .starters) zero-in;
-    entry-state = sym (ap (λ (z : ℕ). getD (s .states) z none) (G .entry-first none)) ∙ G .starter-home 0 none (G .some-state);
+    entry-state = sym (ap (λ (z : ℕ). getD (s .states) z absent) (G .entry-first absent)) ∙ G .starter-home 0 absent (G .some-state);
     home = λ y m. of-starter y m .0;
     own = λ y m. of-starter y m .1;
     placed = λ y m. of-starter y m .2;
@@ -82,14 +82,14 @@ module _ (g : CFG) (a : Closed g) (s : Groups) (G : Grouped g s) where
   }
     where
       zero-in : In 0 (s .starters)
-      zero-in = rw (G .entry-first none) at (getD-in (s .starters) 0 none (G .some-state))
+      zero-in = rw (G .entry-first absent) at (getD-in (s .starters) 0 absent (G .some-state))
 
       of-starter : (y : ℕ) → mem y (s .starters) ≡ true
-          → (getD (s .states) y none < length (s .starters))
-          × (getD (s .starters) (getD (s .states) y none) none ≡ y)
-          × StateOrder g s (getD (s .states) y none) y
+          → (getD (s .states) y absent < length (s .starters))
+          × (getD (s .starters) (getD (s .states) y absent) absent ≡ y)
+          × StateOrder g s (getD (s .states) y absent) y
       of-starter y m =
-          let r = in-getD y (s .starters) none (mem→In y (s .starters) m) in
-          let e : getD (s .states) y none ≡ r .0 = rw (r .2) at (G .starter-home (r .0) none (r .1)) in
+          let r = in-getD y (s .starters) absent (mem→In y (s .starters) m) in
+          let e : getD (s .states) y absent ≡ r .0 = rw (r .2) at (G .starter-home (r .0) absent (r .1)) in
           let o : StateOrder g s (r .0) y = rw (r .2) at (state-order (r .0) (r .1)) in
           (rw e (r .1), rw e (r .2), rw e o)

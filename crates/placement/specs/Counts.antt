@@ -9,7 +9,7 @@ use lib.Dec.{eqb, ltb}
 use Rattle.word.specs.Word.{choose}
 use Rattle.runs.specs.Lists.{mem, only, first, concatMap, occurrences}
 use Rattle.cfg.specs.Graph.{CFG, successors}
-use Rattle.fsmd.specs.Layout.{none as nowhere}
+use Rattle.fsmd.specs.Layout.{absent}
 use Rattle.grouping.specs.Grouping.{Groups}
 use Rattle.placement.specs.Placement.{members, order}
 
@@ -63,57 +63,57 @@ Each P (c ∷ cs) = P c × Each P cs
 -- ---- of a state
 
 -- edge `way` of a block, where 0 is its first: true before false
-pub record Edge : Type 0 where
+pub record BlockEdge : Type 0 where
   pub source : ℕ
   pub way : ℕ
   pub target : ℕ
 
 -- the edges of u to `targets`, from number `way` up
-abbrev pub edgesTo : ℕ → ℕ → List ℕ → List Edge
+abbrev pub edgesTo : ℕ → ℕ → List ℕ → List BlockEdge
 edgesTo u way [] = []
 edgesTo u way (t ∷ targets) = record { source = u; way = way; target = t } ∷ edgesTo u (suc way) targets
 
 -- the in-state edges of u: those to non-starters
-abbrev pub edgesOut : CFG → Groups → ℕ → List Edge
-edgesOut g s u = only (λ (e : Edge). not (mem (e .target) (s .starters))) (edgesTo u 0 (successors g u))
+abbrev pub edgesOut : CFG → Groups → ℕ → List BlockEdge
+edgesOut g s u = only (λ (e : BlockEdge). not (mem (e .target) (s .starters))) (edgesTo u 0 (successors g u))
 
 -- one target for each in-state edge of u
-abbrev pub inState : CFG → Groups → ℕ → List ℕ
-inState g s u = map (λ (e : Edge). e .target) (edgesOut g s u)
+abbrev pub inStateTargets : CFG → Groups → ℕ → List ℕ
+inStateTargets g s u = map (λ (e : BlockEdge). e .target) (edgesOut g s u)
 
 unfoldable pub choicesOf : CFG → Groups → ℕ → List Choice
 unfolding members run
-choicesOf g s k = let blocks = members g s k in run (inState g s) (length blocks) blocks
+choicesOf g s k = let blocks = members g s k in run (inStateTargets g s) (length blocks) blocks
 
 -- the in-state edges of state k, by rising source
-unfoldable pub edgesOf : CFG → Groups → ℕ → List Edge
+unfoldable pub edgesOf : CFG → Groups → ℕ → List BlockEdge
 unfolding members
 edgesOf g s k = concatMap (edgesOut g s) (members g s k)
 
 -- the edges that lower a count, in the order in which they do
-unfoldable pub lowerings : CFG → Groups → ℕ → List Edge
+unfoldable pub lowerings : CFG → Groups → ℕ → List BlockEdge
 unfolding choicesOf
 lowerings g s k = concatMap (λ (c : Choice). edgesOut g s (c .block)) (choicesOf g s k)
 
 -- how often edge `way` of u stands in a list
-abbrev pub isEdge : ℕ → ℕ → Edge → Bool
+abbrev pub isEdge : ℕ → ℕ → BlockEdge → Bool
 isEdge u way e = eqb (e .source) u && eqb (e .way) way
 
-abbrev pub timesIn : List Edge → ℕ → ℕ → ℕ
+abbrev pub timesIn : List BlockEdge → ℕ → ℕ → ℕ
 timesIn edges u way = length (only (isEdge u way) edges)
 
 -- edge `way` of u is an in-state edge of state k: u is a block of the state, and the edge leads to a non-starter
 abbrev pub isInState : CFG → Groups → ℕ → ℕ → ℕ → Bool
-isInState g s k u way = mem u (members g s k) && (ltb way (length (successors g u)) && not (mem (getD (successors g u) way nowhere) (s .starters)))
+isInState g s k u way = mem u (members g s k) && (ltb way (length (successors g u)) && not (mem (getD (successors g u) way absent) (s .starters)))
 
 -- what placing state k by counts is shown to do
 pub record PlacedByCounts (g : CFG) (s : Groups) (k : ℕ) : Type 0 where
   -- the placement is the same, block for block
   pub same-order : blocksOf (choicesOf g s k) ≡ order g s k
-  pub exact : Each (Exact (inState g s)) (choicesOf g s k)
+  pub exact : Each (Exact (inStateTargets g s)) (choicesOf g s k)
   -- each in-state edge of the state lowers a count exactly once, and no other edge lowers one
   pub once : (u way : ℕ) → timesIn (lowerings g s k) u way ≡ choose (isInState g s k u way) 1 0
   -- whichever edges are looked for, as many lower a count as there are
-  pub alike : (p : Edge → Bool) → length (only p (lowerings g s k)) ≡ length (only p (edgesOf g s k))
+  pub alike : (p : BlockEdge → Bool) → length (only p (lowerings g s k)) ≡ length (only p (edgesOf g s k))
   -- an in-state edge stays in the state
-  pub inside : (u t : ℕ) → mem u (members g s k) ≡ true → mem t (inState g s u) ≡ true → mem t (members g s k) ≡ true
+  pub inside : (u t : ℕ) → mem u (members g s k) ≡ true → mem t (inStateTargets g s u) ≡ true → mem t (members g s k) ≡ true

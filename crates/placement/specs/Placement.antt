@@ -7,12 +7,12 @@ use lib.ListN.{length, getD}
 use lib.Dec.{eqb}
 use Rattle.runs.specs.Lists.{upFrom, mem, only, every, first}
 use Rattle.cfg.specs.Graph.{CFG, successors}
-use Rattle.fsmd.specs.Layout.{none as nowhere}
+use Rattle.fsmd.specs.Layout.{absent}
 use Rattle.grouping.specs.Grouping.{Groups}
 
 -- the blocks of state k, in rising order
 unfoldable pub members : CFG → Groups → ℕ → List ℕ
-members g s k = only (λ x. eqb (getD (s .states) x nowhere) k) (upFrom 0 (length (g .blocks)))
+members g s k = only (λ x. eqb (getD (s .states) x absent) k) (upFrom 0 (length (g .blocks)))
 
 -- the incoming in-state edges of x all come from placed blocks; an edge to a starter is none of them
 abbrev pub ready : CFG → Groups → List ℕ → List ℕ → ℕ → Bool
@@ -23,11 +23,11 @@ placeNext none f = []
 placeNext (some x) f = x ∷ f x
 
 -- the blocks still to place, in order, where `placed` has those before: always the lowest-numbered that is ready
-unfoldable pub place : CFG → Groups → List ℕ → ℕ → List ℕ → List ℕ
-place g s blocks zero placed = []
-place g s blocks (suc n) placed =
-    placeNext (first (λ x. not (mem x placed) && ready g s blocks placed x) blocks) (λ x. place g s blocks n (x ∷ placed))
+unfoldable pub placedFrom : CFG → Groups → List ℕ → ℕ → List ℕ → List ℕ
+placedFrom g s blocks zero placed = []
+placedFrom g s blocks (suc n) placed =
+    placeNext (first (λ x. not (mem x placed) && ready g s blocks placed x) blocks) (λ x. placedFrom g s blocks n (x ∷ placed))
 
 unfoldable pub order : CFG → Groups → ℕ → List ℕ
-unfolding members place
-order g s k = let blocks = members g s k in place g s blocks (length blocks) []
+unfolding members placedFrom
+order g s k = let blocks = members g s k in placedFrom g s blocks (length blocks) []

@@ -7,7 +7,7 @@ use mathlib.Core.Option.{Option}
 use lib.Dec.{eqb, ltb}
 use lib.ListN.{length, getD}
 use Rattle.runs.specs.Lists.{upFrom, mem, only, keep, every, first}
-use Rattle.fsmd.specs.Layout.{maxBlocks, none}
+use Rattle.fsmd.specs.Layout.{maxBlocks, absent}
 use Rattle.grouping.specs.Bytes.{edgesIn}
 use Rattle.placement.specs.Placement.{placeNext}
 
@@ -17,7 +17,7 @@ marked marks x = not (eqb (getD marks x 0) 0)
 
 -- x is a block of state k
 abbrev pub ofState : List ℕ → ℕ → ℕ → Bool
-ofState states k x = eqb (getD states x none) k
+ofState states k x = eqb (getD states x absent) k
 
 -- the blocks of state k among the n from number x up
 abbrev pub membersFrom : List ℕ → ℕ → ℕ → ℕ → List ℕ
@@ -65,4 +65,4 @@ countsIn waits x = getD waits x 0
 pub record Chosen (left waits : List ℕ) (i : ℕ) : Type 0 where
   pub within : i ≤ length left
   pub block : i < length left → first (λ x. eqb (countsIn waits x) 0) left ≡ Option.some (getD left i 0)
-  pub none : length left ≤ i → first (λ x. eqb (countsIn waits x) 0) left ≡ Option.none
+  pub all-wait : length left ≤ i → first (λ x. eqb (countsIn waits x) 0) left ≡ Option.none

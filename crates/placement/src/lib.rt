@@ -1,5 +1,5 @@
 // The order in which the blocks of a state are placed, by counts of the edges that each block waits for.
-use cfg::Graph;
+use cfg::GraphTable;
 use grouping::edges;
 ghost use mathlib.Core.Path.{_≡_};
 ghost use mathlib.Core.List.{[], _∷_, _++_};
@@ -11,7 +11,7 @@ ghost use Rattle.placement.specs.Counts.{waiting, lowered};
 ghost use Rattle.placement.specs.PlacementBytes.{marked, membersIn, placeIn, awaited, targetIn, targetsIn, countsIn, Chosen};
 
 // A number that no block has.
-const PAST: u8 = Graph::BLOCKS as u8;
+const PAST: u8 = GraphTable::BLOCKS as u8;
 
 // Whether the byte at x is other than 0, as the mark of a starter is, and the count of a block that waits; past the end it is not.
 fn mark(marks: &[u8], x: usize) -> bool
@@ -133,7 +133,7 @@ pub fn place(edges: &[u8], states: &[u8], starts: &[u8], k: u8, blocks: &mut [u8
     ensures { λ r. ⌜ (r ≤ maxBlocks) × (take r (now (blocks .exit)) ≡ placeIn (now (edges .entry)) (now (starts .entry)) (membersIn (now (states .entry)) k) maxBlocks []) ⌝ }
 {
     let n = members(states, k, blocks);
-    let mut waits = [0u8; Graph::BLOCKS];
+    let mut waits = [0u8; GraphTable::BLOCKS];
     count_edges(edges, starts, &blocks[..n], &mut waits);
     let mut count: usize = 0;
     while count < n {

@@ -52,15 +52,15 @@ fn step(buffer: &mut [u8], window: Window) -> Window
 
 fn answer_all(buffer: &mut [u8]) {
     // Nothing says that the input ends: the count is one that no run uses up.
-    let mut turns = u64::MAX;
+    let mut rounds = u64::MAX;
     let mut w = Window {
         from: 0,
         end: 0,
         open: true,
     };
-    while turns > 0 && w.open {
+    while rounds > 0 && w.open {
         w = step(buffer, w);
-        turns -= 1;
+        rounds -= 1;
     }
 }
 

@@ -8,7 +8,7 @@ use lib.ListN.{take, drop}
 use lib.Dec.{ltb}
 use borrow.Author.Tests.{ne-eqb}
 use Rattle.word.specs.RegisterFile.{fileWords}
-use Rattle.runs.specs.Runs.{Place, standing, halted, Configuration, startAt, Supply, Runner, times, stepsRun, outcome, answer, registersAfter, numberOf, outcomeOf, countOf, nextOf}
+use Rattle.runs.specs.Runs.{Place, standing, halted, Configuration, startAt, Supply, Runner, times, stepsRun, outcome, answer, registersAfter, runNumber, runOutcome, runCount, runNext}
 use Rattle.runs.specs.Operations.{answered, registersLeft, nextAt, outcomeAt, RunValues}
 use Rattle.runs.specs.declared.RunAnswer.{RunAnswer}
 use Rattle.runs.specs.declared.RunAnswer.the-variants.{Refused}
@@ -53,10 +53,10 @@ module _ (r : Runner) (ws : Supply) (buffer : List ℕ) (start budget : ℕ) (n 
 -- ---- the fields of an answer
 
 pub record OutcomeValues (p : Place) (left : Bool) (count : ℕ) (a : RunAnswer) : Type 0 where
-  pub number : numberOf a ≡ 0
-  pub ended : outcomeOf a ≡ outcomeAt p left
-  pub counted : countOf a ≡ count
-  pub following : nextOf a ≡ nextAt p
+  pub number : runNumber a ≡ 0
+  pub ended : runOutcome a ≡ outcomeAt p left
+  pub counted : runCount a ≡ count
+  pub following : runNext a ≡ nextAt p
 
 outcome-values : (p : Place) (left : Bool) (count : ℕ) → OutcomeValues p left count (outcome p left count)
 outcome-values halted left count = record { number = refl; ended = refl; counted = refl; following = refl }

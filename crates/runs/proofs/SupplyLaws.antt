@@ -8,7 +8,7 @@ use lib.Dec.{ltb}
 use lib.ListN.{length}
 use borrow.Author.Tests.{lt-ltb, ltb-true, ltb-false}
 use Rattle.word.specs.Word.{choose}
-use Rattle.runs.specs.Runs.{Place, standing, halted, Configuration, startAt, Supply, upTo, listed, unread, Runner, onward, arrivalsAt, outcomeOf, goes, step, times, stepsRun, answer, registersAfter}
+use Rattle.runs.specs.Runs.{Place, standing, halted, Configuration, startAt, Supply, upTo, listed, unread, Runner, onward, arrivalsAt, runOutcome, goes, step, times, stepsRun, answer, registersAfter}
 use Rattle.runs.proofs.RunLaws.{false-true, going-stands, going-lasts, goes-standing, step-going, step-ended, times-zero, times-suc, stepsRun-zero, stepsRun-going, stepsRun-ended, left-ended, answer-is, registers-of}
 
 -- a move makes one arrival at most
@@ -97,10 +97,10 @@ pub unread-alike : (budget : ℕ) → Alike budget (upTo budget []) unread
 unread-alike budget = record { word = λ j l. refl; lasts = λ j l. lt-ltb j budget l }
 
 -- a run without words is never dry
-pub unread-outcome : (r : Runner) (k : ℕ) (c : Configuration) → outcomeOf (answer r unread k c) ≤ 1
+pub unread-outcome : (r : Runner) (k : ℕ) (c : Configuration) → runOutcome (answer r unread k c) ≤ 1
 unread-outcome r k c = go (times r unread k c .place) (ltb (stepsRun r unread k c) k) refl refl
   where
-    go : (p : Place) (t : Bool) → times r unread k c .place ≡ p → ltb (stepsRun r unread k c) k ≡ t → outcomeOf (answer r unread k c) ≤ 1
+    go : (p : Place) (t : Bool) → times r unread k c .place ≡ p → ltb (stepsRun r unread k c) k ≡ t → runOutcome (answer r unread k c) ≤ 1
     go halted t h e = rw (answer-is r unread k c, h) (omega arith)
     go (standing n) false h e = rw (answer-is r unread k c, h, e) (omega arith)
     go (standing n) true h e = absurd (false-true (left-ended r unread k c (ltb-true (stepsRun r unread k c) k e)) (goes-standing unread (times r unread k c) n h refl))

@@ -8,7 +8,7 @@ use lib.ListN.{take, drop}
 use lib.Dec.{eqb, ltb}
 use Rattle.word.specs.Word.{choose}
 use Rattle.word.specs.RegisterFile.{fileWords}
-use Rattle.runs.specs.Runs.{Place, standing, halted, noPlace, Configuration, startAt, Supply, Runner, times, stepsRun, answer, registersAfter, numberOf, outcomeOf, countOf, nextOf}
+use Rattle.runs.specs.Runs.{Place, standing, halted, noPlace, Configuration, startAt, Supply, Runner, times, stepsRun, answer, registersAfter, runNumber, runOutcome, runCount, runNext}
 use Rattle.runs.specs.declared.RunAnswer.{RunAnswer}
 use Rattle.runs.specs.declared.RunAnswer.the-variants.{Refused}
 
@@ -39,8 +39,8 @@ outcomeAt (standing n) false = 0
 
 -- of an operation that is refused with number n, or runs from c where n is 0
 pub record RunValues (n : ℕ) (r : Runner) (ws : Supply) (budget : ℕ) (c : Configuration) (a : RunAnswer) : Type 0 where
-  pub number : numberOf a ≡ n
-  pub refused : n ≢ 0 → (outcomeOf a ≡ 0) × (countOf a ≡ 0) × (nextOf a ≡ 0)
-  pub outcome : n ≡ 0 → outcomeOf a ≡ outcomeAt (times r ws budget c .place) (ltb (stepsRun r ws budget c) budget)
-  pub count : n ≡ 0 → countOf a ≡ stepsRun r ws budget c
-  pub next : n ≡ 0 → nextOf a ≡ nextAt (times r ws budget c .place)
+  pub number : runNumber a ≡ n
+  pub refused : n ≢ 0 → (runOutcome a ≡ 0) × (runCount a ≡ 0) × (runNext a ≡ 0)
+  pub outcome : n ≡ 0 → runOutcome a ≡ outcomeAt (times r ws budget c .place) (ltb (stepsRun r ws budget c) budget)
+  pub count : n ≡ 0 → runCount a ≡ stepsRun r ws budget c
+  pub next : n ≡ 0 → runNext a ≡ nextAt (times r ws budget c .place)

@@ -118,26 +118,26 @@ module _ (r : Runner) (ws : Supply) where
   registersAfter budget c = times budget c .registers
 
 -- paper 01's fields of an answer: the refusal's number, the outcome (0 spent, 1 halted, 2 dry), the count, what is next
-abbrev pub numberOf : RunAnswer → ℕ
-numberOf (Refused n) = n
-numberOf (Halted k) = 0
-numberOf (Spent k n) = 0
-numberOf (Dry k n) = 0
+abbrev pub runNumber : RunAnswer → ℕ
+runNumber (Refused n) = n
+runNumber (Halted k) = 0
+runNumber (Spent k n) = 0
+runNumber (Dry k n) = 0
 
-abbrev pub outcomeOf : RunAnswer → ℕ
-outcomeOf (Refused n) = 0
-outcomeOf (Halted k) = 1
-outcomeOf (Spent k n) = 0
-outcomeOf (Dry k n) = 2
+abbrev pub runOutcome : RunAnswer → ℕ
+runOutcome (Refused n) = 0
+runOutcome (Halted k) = 1
+runOutcome (Spent k n) = 0
+runOutcome (Dry k n) = 2
 
-abbrev pub countOf : RunAnswer → ℕ
-countOf (Refused n) = 0
-countOf (Halted k) = k
-countOf (Spent k n) = k
-countOf (Dry k n) = k
+abbrev pub runCount : RunAnswer → ℕ
+runCount (Refused n) = 0
+runCount (Halted k) = k
+runCount (Spent k n) = k
+runCount (Dry k n) = k
 
-abbrev pub nextOf : RunAnswer → ℕ
-nextOf (Refused n) = 0
-nextOf (Halted k) = noPlace
-nextOf (Spent k n) = n
-nextOf (Dry k n) = n
+abbrev pub runNext : RunAnswer → ℕ
+runNext (Refused n) = 0
+runNext (Halted k) = noPlace
+runNext (Spent k n) = n
+runNext (Dry k n) = n

@@ -14,7 +14,7 @@ use Rattle.word.specs.Word.{choose}
 use Rattle.runs.specs.Lists.{keep, only, upFrom}
 use Rattle.runs.specs.Runs.{Place, standing, halted}
 use Rattle.runs.proofs.ListLaws.{only-append}
-use Rattle.fsmd.specs.Layout.{maxRegisters, none}
+use Rattle.fsmd.specs.Layout.{maxRegisters, absent}
 use Rattle.state.specs.Wires.{Edge, leadsTo, towards}
 use Rattle.state.specs.Making.{used, placeOf, edgeTo, edgeIn, edgesIn, pending, rowWords, maxEdges, Edged}
 use Rattle.state.proofs.Counting.{upFrom-more}
@@ -111,7 +111,7 @@ module _ (ts rows vs : List ℕ) (n target taken : ℕ) (h : Edged ts rows (n + 
       (λ i lo hi. edge-same (length vs) ts (set ts n target) rows rows′ n i few (omega arith) (getD-set-other ts n i target 0 (λ e. omega arith)) before))
 
   live : (target ≡ used → ⊥) → not (leadsTo used (placeOf target)) ≡ true
-  live ne = go (eqb target none)
+  live ne = go (eqb target absent)
     where
       go : (b : Bool) → not (leadsTo used (choose b halted (standing target))) ≡ true
       go true = refl

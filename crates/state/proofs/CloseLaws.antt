@@ -4,7 +4,7 @@ use native.Mathlib.Omega.{arith}
 use mathlib.Core.Path.{_≡_, refl, sym, ap, _∙_, subst}
 use mathlib.Core.List.{List, [], _∷_, _++_}
 use lib.ListN.{length, getD, length-append}
-use Rattle.word.specs.Word.{codeOf as comparisonCode}
+use Rattle.word.specs.Word.{comparisonCode}
 use Rattle.runs.specs.Runs.{standing}
 use Rattle.cfg.specs.declared.Condition.{Condition}
 use Rattle.cfg.specs.declared.Ending.{Ending}
@@ -12,9 +12,9 @@ use Rattle.cfg.specs.declared.Ending.the-variants.{Goto, Ite, Halt}
 use Rattle.cfg.specs.Layout.{endingOffset, blockOffset}
 use Rattle.cfg.specs.Table.{endingAt, blockAt}
 use Rattle.fsmd.specs.declared.Wire.{Wire}
-use Rattle.fsmd.specs.Layout.{maxRegisters, maxBlocks, none, wireWords}
-use Rattle.state.specs.Wires.{wire, and-wire, and-not-wire, Edge, Point, Build, close, after}
-use Rattle.state.specs.Making.{wiresIn, stored, appended, Room, pointIn, placeOf, edgeTo, pending, buildIn, Built, Aims}
+use Rattle.fsmd.specs.Layout.{maxRegisters, maxBlocks, absent, wireWords}
+use Rattle.state.specs.Wires.{wire, and-wire, and-not-wire, Edge, BlockBuild, StateBuild, close, after}
+use Rattle.state.specs.Making.{wiresIn, stored, appended, Room, blockBuildIn, placeOf, edgeTo, pending, stateBuildIn, Built, Aims}
 use Rattle.state.proofs.StoredWires.{length-wiresIn, wiresIn-stored, stored-none}
 use Rattle.state.proofs.EdgeLaws.{place-standing}
 
@@ -23,7 +23,7 @@ unfolding blockAt
 ending-of t x = refl
 
 -- what the code holds of a state in the making, from its parts
-pub built-by : (b : Build) (t₀ : List ℕ) (r : ℕ) (ts rows : List ℕ) (n k : ℕ) (t : List ℕ)
+pub built-by : (b : StateBuild) (t₀ : List ℕ) (r : ℕ) (ts rows : List ℕ) (n k : ℕ) (t : List ℕ)
     → pending r ts rows n ≡ b .edges → k ≡ length (b .wires) → t ≡ stored (b .wires) t₀ → Built b t₀ r ts rows n k t
 built-by b t₀ r ts rows n k t ee ek et =
     let w : wiresIn k t ≡ b .wires = ap (λ (m : ℕ). wiresIn m t) ek ∙ ap (wiresIn (length (b .wires))) et ∙ wiresIn-stored (b .wires) t₀ in
@@ -32,15 +32,15 @@ built-by b t₀ r ts rows n k t ee ek et =
       rest = et ∙ ap (λ (ws : List Wire). stored ws t₀) (sym w);
     }
 
-pub grow-close : (e : Ending) (p : Point) → length (p .wires) ≤ length (close e p .wires)
+pub grow-close : (e : Ending) (p : BlockBuild) → length (p .wires) ≤ length (close e p .wires)
 unfolding close
 grow-close (Goto t) p = omega arith
 grow-close (Ite c t f) p = rw (close, length-append) (omega arith)
 grow-close Halt p = omega arith
 
 module _ (r : ℕ) (ts rows ts′ rows′ : List ℕ) (count a : ℕ) (vs : List ℕ) (n : ℕ) (t : List ℕ) (room : wireWords * n ≤ length t) where
-  abbrev P : Point
-  P = pointIn a vs n t
+  abbrev P : BlockBuild
+  P = blockBuildIn a vs n t
 
   abbrev So : List Edge
   So = pending r ts rows count
@@ -56,7 +56,7 @@ module _ (r : ℕ) (ts rows ts′ rows′ : List ℕ) (count a : ℕ) (vs : List
       (sym (stored-none n t room)))
 
   pub close-halt : (e : Ending) → e ≡ Halt
-      → pending r ts′ rows′ (count + 1) ≡ So ++ (edgeTo none a vs ∷ []) → Built (after So (close e P)) t r ts′ rows′ (count + 1) n t
+      → pending r ts′ rows′ (count + 1) ≡ So ++ (edgeTo absent a vs ∷ []) → Built (after So (close e P)) t r ts′ rows′ (count + 1) n t
   unfolding close after
   close-halt e ee ep =
       rw ee

@@ -11,21 +11,21 @@ use borrow.Author.Tests.{eq-eqb, ne-eqb, eqb-true, eqb-false}
 use Rattle.word.specs.Word.{choose}
 use Rattle.runs.specs.Lists.{keep, only, upFrom}
 use Rattle.runs.specs.Runs.{Place, standing, halted}
-use Rattle.fsmd.specs.Layout.{maxBlocks, none}
+use Rattle.fsmd.specs.Layout.{maxBlocks, absent}
 use Rattle.state.specs.Wires.{Edge, leadsTo, towards}
 use Rattle.state.specs.Making.{used, placeOf, edgeIn, edgesIn, pending, usedUp, rowWords}
 use Rattle.state.proofs.UsedUp.{usedUp-at}
 
 -- ---- where a target leads
 
-pub place-standing : (t : ℕ) → t < none → placeOf t ≡ standing t
-place-standing t h = rw (ne-eqb t none (λ e. omega arith))
+pub place-standing : (t : ℕ) → t < absent → placeOf t ≡ standing t
+place-standing t h = rw (ne-eqb t absent (λ e. omega arith))
 
 pub leads-same : (x : ℕ) → x < maxBlocks → leadsTo x (placeOf x) ≡ true
-leads-same x h = rw (ne-eqb x none (λ e. omega arith)) (eq-eqb x x refl)
+leads-same x h = rw (ne-eqb x absent (λ e. omega arith)) (eq-eqb x x refl)
 
 pub leads-other : (x t : ℕ) → (t ≡ x → ⊥) → leadsTo x (placeOf t) ≡ false
-leads-other x t h = go (eqb t none)
+leads-other x t h = go (eqb t absent)
   where
     go : (b : Bool) → leadsTo x (choose b halted (standing t)) ≡ false
     go true = refl
@@ -110,7 +110,7 @@ module _ (r : ℕ) (ts rows : List ℕ) (n x : ℕ) (some : x < maxBlocks) (fits
   unfolding edgeIn
   at-one i lt true e l m h =
       let t = eqb-true (getD ts i 0) x e in
-      rw (usedUp-at x n i ts lt (omega arith), e, t, ne-eqb x none (λ k. omega arith), ne-eqb x used (λ k. omega arith), eq-eqb x x refl) h
+      rw (usedUp-at x n i ts lt (omega arith), e, t, ne-eqb x absent (λ k. omega arith), ne-eqb x used (λ k. omega arith), eq-eqb x x refl) h
   at-one i lt false e l m h =
       let d : not (leadsTo x (placeOf (getD ts i 0))) ≡ true = ap not (leads-other x (getD ts i 0) (eqb-false (getD ts i 0) x e)) in
       rw (usedUp-at x n i ts lt (omega arith), e) (kept (not (leadsTo used (placeOf (getD ts i 0)))) d)

@@ -11,8 +11,8 @@ use lib.Seq.{length-take-le}
 use Rattle.runs.specs.Lists.{upFrom}
 use Rattle.fsmd.specs.declared.Wire.{Wire}
 use Rattle.fsmd.specs.Layout.{maxRegisters, maxBlocks, wireWords}
-use Rattle.state.specs.Wires.{set-wire, Edge, Point, Build, joins, arrive, start, enter, leadsTo, towards}
-use Rattle.state.specs.Making.{wiresIn, stored, appended, Room, pointIn, Held, along, edgeIn, edgesIn, pending, buildIn, rowWords, NextAt}
+use Rattle.state.specs.Wires.{set-wire, Edge, BlockBuild, StateBuild, joins, arrive, startBlock, enter, leadsTo, towards}
+use Rattle.state.specs.Making.{wiresIn, stored, appended, Room, blockBuildIn, Held, along, edgeIn, edgesIn, pending, stateBuildIn, rowWords, NextAt}
 use Rattle.state.proofs.StoredWires.{length-wiresIn}
 use Rattle.state.proofs.Points.{held-by}
 use Rattle.state.proofs.EdgeLaws.{towards-found, towards-pending}
@@ -20,7 +20,7 @@ use Rattle.state.proofs.WalkLaws.{onward-passed}
 use Rattle.state.proofs.JoinLaws.{incoming}
 
 -- a wire `set` and the start values
-begun : (p : Point) (n w r : ℕ) (t : List ℕ) (a : ℕ) (vs′ : List ℕ) (n′ : ℕ) (t′ : List ℕ)
+begun : (p : BlockBuild) (n w r : ℕ) (t : List ℕ) (a : ℕ) (vs′ : List ℕ) (n′ : ℕ) (t′ : List ℕ)
     → p ≡ record { arrival = maxRegisters + length (wiresIn n t); values = upFrom 0 r; wires = wiresIn n t ++ (set-wire w ∷ []) }
     → a ≡ maxRegisters + n → n′ ≡ n + 1 → vs′ ≡ upFrom 0 r → t′ ≡ appended n (set-wire w ∷ []) t → Held p t a vs′ n′ t′
 begun p n w r t a vs′ n′ t′ e ea en ev et =
@@ -32,16 +32,16 @@ begun p n w r t a vs′ n′ t′ e ea en ev et =
     et)
 
 module _ (r : ℕ) (ts rows : List ℕ) (count x : ℕ) (n : ℕ) (t : List ℕ) where
-  abbrev B : Build
-  B = buildIn r ts rows count n t
+  abbrev B : StateBuild
+  B = stateBuildIn r ts rows count n t
 
   pub enter-start : (a : ℕ) (vs′ : List ℕ) (n′ : ℕ) (t′ : List ℕ)
       → a ≡ maxRegisters + n → n′ ≡ n + 1 → vs′ ≡ upFrom 0 r → t′ ≡ appended n (set-wire 1 ∷ []) t → Held (enter r true x B) t a vs′ n′ t′
-  unfolding enter start
+  unfolding enter startBlock
   enter-start a vs′ n′ t′ = begun (enter r true x B) n 1 r t a vs′ n′ t′ refl
 
   pub enter-start-length : length (enter r true x B .wires) ≡ n + 1
-  unfolding enter start
+  unfolding enter startBlock
   enter-start-length = omega (arith, length-append (wiresIn n t) (set-wire 1 ∷ []), length-wiresIn n t)
 
   incoming-pending : x < maxBlocks → towards (leadsTo x) (pending r ts rows count) ≡ incoming r ts rows x count 0
@@ -72,7 +72,7 @@ module _ (r : ℕ) (ts rows : List ℕ) (count x : ℕ) (n : ℕ) (t : List ℕ)
 
   -- a first incoming edge, and further ones
   first : (i : ℕ) → x < maxBlocks → NextAt (leadsTo x) ts 0 count i → i < count
-      → enter r false x B ≡ joins (incoming r ts rows x count (i + 1)) (pointIn (getD rows (rowWords * i) 0) (take r (drop (rowWords * i + 1) rows)) n t)
+      → enter r false x B ≡ joins (incoming r ts rows x count (i + 1)) (blockBuildIn (getD rows (rowWords * i) 0) (take r (drop (rowWords * i + 1) rows)) n t)
   unfolding enter arrive edgeIn
   first i some h lt =
       rw (add-one i)
@@ -80,7 +80,7 @@ module _ (r : ℕ) (ts rows : List ℕ) (count x : ℕ) (n : ℕ) (t : List ℕ)
       (passed i some h ∙ towards-found r ts rows (leadsTo x) count i lt (h .found lt)))
 
   pub enter-first : (i : ℕ) → x < maxBlocks → NextAt (leadsTo x) ts 0 count i → i < count → (vs : List ℕ) → vs ≡ take r (drop (rowWords * i + 1) rows) → length vs ≡ r
-      → enter r false x B ≡ joins (incoming (length vs) ts rows x count (i + 1)) (pointIn (getD rows (rowWords * i) 0) vs n t)
+      → enter r false x B ≡ joins (incoming (length vs) ts rows x count (i + 1)) (blockBuildIn (getD rows (rowWords * i) 0) vs n t)
   enter-first i some h lt vs e l = first i some h lt ∙ rw (l, e)
 
 pub source-length : (r i count : ℕ) (rows : List ℕ) → r ≤ maxRegisters → i < count → rowWords * count ≤ length rows

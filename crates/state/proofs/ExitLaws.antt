@@ -15,8 +15,8 @@ use Rattle.runs.proofs.ListLaws.{length-upFrom}
 use Rattle.fsmd.specs.declared.Wire.{Wire}
 use Rattle.fsmd.specs.Layout.{maxRegisters, wireWords}
 use Rattle.grouping.specs.Grouping.{Groups}
-use Rattle.state.specs.Wires.{set-wire, select-wire, selects, Edge, Point, exit, exits, closeState, leaves, leadsTo, nextStateOf, towards}
-use Rattle.state.specs.Making.{wiresIn, stored, appended, Room, pointIn, Held, along, placeOf, edgeTo, edgeIn, edgesIn, pending, rowWords, used, NextAt, exitTo}
+use Rattle.state.specs.Wires.{set-wire, select-wire, selects, Edge, BlockBuild, exit, exits, closeState, leaves, leadsTo, nextStateOf, towards}
+use Rattle.state.specs.Making.{wiresIn, stored, appended, Room, blockBuildIn, Held, along, placeOf, edgeTo, edgeIn, edgesIn, pending, rowWords, used, NextAt, exitTo}
 use Rattle.state.proofs.StoredWires.{length-wiresIn, wiresIn-stored, appended-more, stored-none}
 use Rattle.state.proofs.Selections.{length-selects}
 use Rattle.state.proofs.Points.{held-by}
@@ -30,7 +30,7 @@ module _ (k a taken n : ℕ) (vs src t : List ℕ) (same : length src ≡ length
   pub exit-made : (ref ref′ : ℕ) (vs′ t₁ t₂ t₃ : List ℕ) → ref ≡ maxRegisters + n → ref′ ≡ maxRegisters + (n + 1)
       → t₁ ≡ appended n (set-wire k ∷ []) t → t₂ ≡ appended (n + 1) (select-wire taken ref a ∷ []) t₁
       → t₃ ≡ appended (n + 2) (selects taken src vs) t₂ → vs′ ≡ upFrom (maxRegisters + (n + 2)) (length src)
-      → Held (exitTo k (along taken src) (pointIn a vs n t)) t ref′ vs′ (n + 2 + length vs′) t₃
+      → Held (exitTo k (along taken src) (blockBuildIn a vs n t)) t ref′ vs′ (n + 2 + length vs′) t₃
   unfolding exitTo
   exit-made ref ref′ vs′ t₁ t₂ t₃ er er′ e₁ e₂ e₃ ev =
       let l = length-wiresIn n t in
@@ -38,7 +38,7 @@ module _ (k a taken n : ℕ) (vs src t : List ℕ) (same : length src ≡ length
       let w = set-wire k in
       let v = select-wire taken ref a in
       let tail = selects taken src vs in
-      held-by (exitTo k (along taken src) (pointIn a vs n t)) t ref′ vs′ (n + 2 + length vs′) t₃
+      held-by (exitTo k (along taken src) (blockBuildIn a vs n t)) t ref′ vs′ (n + 2 + length vs′) t₃
       (omega (arith, er′, l))
       (ev ∙ ap (λ (m : ℕ). upFrom m (length src)) (omega (arith, l)))
       (omega (arith, l, ap length ev, length-upFrom (maxRegisters + (n + 2)) (length src), length-append (wiresIn n t) (w ∷ select-wire taken (maxRegisters + length (wiresIn n t)) a ∷ tail), length-selects taken src vs same))
@@ -50,26 +50,26 @@ module _ (k a taken n : ℕ) (vs src t : List ℕ) (same : length src ≡ length
 -- ---- exits one after another
 
 module _ (s : Groups) where
-  pub exit-is : (e : Edge) (p : Point) → exit s e p ≡ exitTo (nextStateOf s (e .target)) e p
+  pub exit-is : (e : Edge) (p : BlockBuild) → exit s e p ≡ exitTo (nextStateOf s (e .target)) e p
   unfolding exit exitTo
   exit-is e p = refl
 
-  pub length-exit : (e : Edge) (p : Point) → length (e .values) ≡ length (p .values) → length (exit s e p .wires) ≡ length (p .wires) + 2 + length (p .values)
+  pub length-exit : (e : Edge) (p : BlockBuild) → length (e .values) ≡ length (p .values) → length (exit s e p .wires) ≡ length (p .wires) + 2 + length (p .values)
   unfolding exit
   length-exit e p h =
       omega (arith, length-append (p .wires) (set-wire (nextStateOf s (e .target)) ∷ select-wire (e .taken) (maxRegisters + length (p .wires)) (p .arrival) ∷ selects (e .taken) (e .values) (p .values)), length-selects (e .taken) (e .values) (p .values) h)
 
-  pub grow-exit : (e : Edge) (p : Point) → length (p .wires) ≤ length (exit s e p .wires)
+  pub grow-exit : (e : Edge) (p : BlockBuild) → length (p .wires) ≤ length (exit s e p .wires)
   unfolding exit
   grow-exit e p =
       omega (arith, length-append (p .wires) (set-wire (nextStateOf s (e .target)) ∷ select-wire (e .taken) (maxRegisters + length (p .wires)) (p .arrival) ∷ selects (e .taken) (e .values) (p .values)))
 
-  pub exits-fold : (es : List Edge) (p : Point) → exits s es p ≡ fold (exit s) es p
+  pub exits-fold : (es : List Edge) (p : BlockBuild) → exits s es p ≡ fold (exit s) es p
   unfolding exits
   exits-fold [] p = refl
   exits-fold (e ∷ es) p = exits-fold es (exit s e p)
 
-  pub grow-exits : (es : List Edge) (p : Point) → length (p .wires) ≤ length (exits s es p .wires)
+  pub grow-exits : (es : List Edge) (p : BlockBuild) → length (p .wires) ≤ length (exits s es p .wires)
   grow-exits es p = rw (exits-fold es p) (grow-fold (exit s) grow-exit es p)
 
   -- ---- the whole
@@ -101,7 +101,7 @@ module _ (s : Groups) where
     pub leave-some : (i : ℕ) → NextAt (leaves s) ts 0 count i → i < count → (vs : List ℕ) (k ref : ℕ) (t₁ : List ℕ) → vs ≡ take r (drop (rowWords * i + 1) rows) → length vs ≡ r
         → k ≡ nextStateOf s (placeOf (getD ts i 0)) → t₁ ≡ appended n (set-wire k ∷ []) t → ref ≡ maxRegisters + n
         → closeState s (towards (leaves s) (pending r ts rows count)) (wiresIn n t)
-        ≡ exits s (onward (length vs) ts rows (leaves s) count (i + 1)) (pointIn ref vs (n + 1) t₁)
+        ≡ exits s (onward (length vs) ts rows (leaves s) count (i + 1)) (blockBuildIn ref vs (n + 1) t₁)
     unfolding closeState edgeIn
     leave-some i m lt vs k ref t₁ ev lv ek et er =
         let w : wiresIn (n + 1) t₁ ≡ wiresIn n t ++ (set-wire k ∷ []) =
@@ -125,7 +125,7 @@ module _ (s : Groups) where
         ))
 
 -- an exit's edge matters by its next state, its taken reference and its values
-pub exit-along : (s : Groups) (k y taken : ℕ) (src vs : List ℕ) (p : Point) → k ≡ nextStateOf s (placeOf y) → src ≡ vs
+pub exit-along : (s : Groups) (k y taken : ℕ) (src vs : List ℕ) (p : BlockBuild) → k ≡ nextStateOf s (placeOf y) → src ≡ vs
     → exitTo k (along taken src) p ≡ exit s (edgeTo y taken vs) p
 unfolding exit exitTo
 exit-along s k y taken src vs p ek es = rw (ek, es)

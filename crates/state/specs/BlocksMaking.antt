@@ -6,16 +6,16 @@ use Prim.Native.Nat.{_≤_, _<_}
 use Rattle.runs.specs.Lists.{mem}
 use Rattle.cfg.specs.Table.{blockAt}
 use Rattle.fsmd.specs.Layout.{maxBlocks, maxRegisters}
-use Rattle.state.specs.Wires.{Build, Point, leaves, towards, closeState}
+use Rattle.state.specs.Wires.{StateBuild, BlockBuild, leaves, towards, closeState}
 use Rattle.state.specs.Making.{putBlock, Placeable, groupsIn}
 
 -- of a graph table t, where a state has r registers: as `build` of a graph and its groups
-unfoldable pub buildBlocks : ℕ → List ℕ → List ℕ → List ℕ → Build → Build
+unfoldable pub buildBlocks : ℕ → List ℕ → List ℕ → List ℕ → StateBuild → StateBuild
 unfolding putBlock
 buildBlocks r t starters [] b = b
 buildBlocks r t starters (x ∷ xs) b = buildBlocks r t starters xs (putBlock r (mem x starters) (blockAt t x) x b)
 
-abbrev pub nothing : Build
+abbrev pub nothing : StateBuild
 nothing = record { wires = []; edges = [] }
 
 -- the blocks of the list can be placed
@@ -24,7 +24,7 @@ pub record AllPlaceable (t xs : List ℕ) : Type 0 where
   pub each : (i : ℕ) → i < length xs → Placeable t (getD xs i 0)
 
 -- the finished state
-unfoldable pub stateBlocks : ℕ → List ℕ → List ℕ → List ℕ → List ℕ → Point
+unfoldable pub stateBlocks : ℕ → List ℕ → List ℕ → List ℕ → List ℕ → BlockBuild
 unfolding buildBlocks closeState
 stateBlocks r t starters states xs =
     let b = buildBlocks r t starters xs nothing in

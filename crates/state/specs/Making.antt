@@ -13,13 +13,13 @@ use Rattle.cfg.specs.declared.Ending.{Ending}
 use Rattle.cfg.specs.declared.Ending.the-variants.{Goto, Ite, Halt}
 use Rattle.cfg.specs.declared.Block.{Block}
 use Rattle.cfg.specs.Layout.{maxInstructions, blockOffset, graphWords}
-use Rattle.cfg.specs.Graph.{codeOf}
+use Rattle.cfg.specs.Graph.{instructionsOf}
 use Rattle.cfg.specs.Table.{blockAt}
 use Rattle.fsmd.specs.declared.Wire.{Wire}
-use Rattle.fsmd.specs.Layout.{maxStates, maxBlocks, maxRegisters, maxWires, wireWords, none, wireAOffset, wireBOffset, wireCOffset}
+use Rattle.fsmd.specs.Layout.{maxStates, maxBlocks, maxRegisters, maxWires, wireWords, absent, wireAOffset, wireBOffset, wireCOffset}
 use Rattle.fsmd.specs.Table.{wireWordsOf}
 use Rattle.grouping.specs.Grouping.{Groups}
-use Rattle.state.specs.Wires.{wire, set-wire, select-wire, Edge, Point, Build, fresh, selects, leadsTo, towards, enter, assigns, close, after}
+use Rattle.state.specs.Wires.{wire, set-wire, select-wire, Edge, BlockBuild, StateBuild, fresh, selects, leadsTo, towards, enter, assigns, close, after}
 
 -- ---- wires
 
@@ -43,12 +43,12 @@ pub record Room (n : ℕ) (t : List ℕ) : Type 0 where
   pub few : n ≤ maxWires
 
 -- the block in the making of whose state n wires stand in words t
-abbrev pub pointIn : ℕ → List ℕ → ℕ → List ℕ → Point
-pointIn arrival values n t = record { arrival = arrival; values = values; wires = wiresIn n t }
+abbrev pub blockBuildIn : ℕ → List ℕ → ℕ → List ℕ → BlockBuild
+blockBuildIn arrival values n t = record { arrival = arrival; values = values; wires = wiresIn n t }
 
 -- it is p, and past its wires the words are those of t₀
-pub record Held (p : Point) (t₀ : List ℕ) (arrival : ℕ) (values : List ℕ) (n : ℕ) (t : List ℕ) : Type 0 where
-  pub point : pointIn arrival values n t ≡ p
+pub record Held (p : BlockBuild) (t₀ : List ℕ) (arrival : ℕ) (values : List ℕ) (n : ℕ) (t : List ℕ) : Type 0 where
+  pub point : blockBuildIn arrival values n t ≡ p
   pub rest : t ≡ stored (wiresIn n t) t₀
 
 -- an edge whose target is of no matter
@@ -62,7 +62,7 @@ abbrev pub used : ℕ
 used = 254
 
 abbrev pub placeOf : ℕ → Place
-placeOf t = choose (eqb t none) halted (standing t)
+placeOf t = choose (eqb t absent) halted (standing t)
 
 abbrev pub edgeTo : ℕ → ℕ → List ℕ → Edge
 edgeTo target taken values = record { target = placeOf target; taken = taken; values = values }
@@ -99,12 +99,12 @@ pub record Edged (targets rows : List ℕ) (n : ℕ) : Type 0 where
   pub few : n ≤ maxEdges
 
 -- the state in the making of which n edges stand in the two lists, and k wires in words t
-abbrev pub buildIn : ℕ → List ℕ → List ℕ → ℕ → ℕ → List ℕ → Build
-buildIn r targets rows n k t = record { wires = wiresIn k t; edges = pending r targets rows n }
+abbrev pub stateBuildIn : ℕ → List ℕ → List ℕ → ℕ → ℕ → List ℕ → StateBuild
+stateBuildIn r targets rows n k t = record { wires = wiresIn k t; edges = pending r targets rows n }
 
 -- it is b, and past its wires the words are those of t₀
-pub record Built (b : Build) (t₀ : List ℕ) (r : ℕ) (targets rows : List ℕ) (n k : ℕ) (t : List ℕ) : Type 0 where
-  pub build : buildIn r targets rows n k t ≡ b
+pub record Built (b : StateBuild) (t₀ : List ℕ) (r : ℕ) (targets rows : List ℕ) (n k : ℕ) (t : List ℕ) : Type 0 where
+  pub build : stateBuildIn r targets rows n k t ≡ b
   pub rest : t ≡ stored (wiresIn k t) t₀
 
 -- the targets of an ending are blocks
@@ -121,9 +121,9 @@ pub record Placeable (t : List ℕ) (x : ℕ) : Type 0 where
   pub aims : Aims (blockAt t x .ending)
 
 -- block x, which is `block`, placed, a starter or not: as `put` of a graph and its groups
-unfoldable pub putBlock : ℕ → Bool → Block → ℕ → Build → Build
+unfoldable pub putBlock : ℕ → Bool → Block → ℕ → StateBuild → StateBuild
 unfolding enter assigns close after
-putBlock r starter block x b = after (towards (λ p. not (leadsTo x p)) (b .edges)) (close (block .ending) (assigns (codeOf block) (enter r starter x b)))
+putBlock r starter block x b = after (towards (λ p. not (leadsTo x p)) (b .edges)) (close (block .ending) (assigns (instructionsOf block) (enter r starter x b)))
 
 -- the first n targets that are x used up
 abbrev pub usedUp : ℕ → ℕ → List ℕ → List ℕ
@@ -145,12 +145,12 @@ groupsIn starters states = record { starters = starters; states = states }
 
 -- each starter is in its own state, and there are not too many
 pub record GroupedBytes (starters states : List ℕ) : Type 0 where
-  pub owned : (k : ℕ) → k < length starters → getD states (getD starters k none) none ≡ k
+  pub owned : (k : ℕ) → k < length starters → getD states (getD starters k absent) absent ≡ k
   pub few : length starters ≤ maxStates
   pub known : length states ≤ maxBlocks
 
 -- a further exit, whose next state is k: as `exit` of the groups
-unfoldable pub exitTo : ℕ → Edge → Point → Point
+unfoldable pub exitTo : ℕ → Edge → BlockBuild → BlockBuild
 exitTo k e p =
     let n = fresh (p .wires) in
     record {

@@ -5,15 +5,15 @@ use mathlib.Core.Bool.{Bool, true, false, not}
 use mathlib.Core.List.{List, [], _∷_, _++_}
 use lib.ListN.{length, getD, set}
 use lib.Dec.{eqb, ltb}
-use Rattle.word.specs.Word.{choose, arity, codeOf as comparisonCode, setCode, andCode, orCode, andNotCode, selectCode}
+use Rattle.word.specs.Word.{choose, arity, comparisonCode, setCode, andCode, orCode, andNotCode, selectCode}
 use Rattle.runs.specs.Lists.{upFrom, mem, only}
 use Rattle.runs.specs.Runs.{Place, standing, halted}
 use Rattle.cfg.specs.declared.Instruction.{Instruction}
 use Rattle.cfg.specs.declared.Ending.{Ending}
 use Rattle.cfg.specs.declared.Ending.the-variants.{Goto, Ite, Halt}
-use Rattle.cfg.specs.Graph.{CFG, blockOf, codeOf}
+use Rattle.cfg.specs.Graph.{CFG, blockOf, instructionsOf}
 use Rattle.fsmd.specs.declared.Wire.{Wire}
-use Rattle.fsmd.specs.Layout.{maxRegisters, none}
+use Rattle.fsmd.specs.Layout.{maxRegisters, absent}
 use Rattle.fsmd.specs.Machine.{State}
 use Rattle.grouping.specs.Grouping.{Groups}
 use Rattle.placement.specs.Placement.{order}
@@ -45,7 +45,7 @@ pub record Edge : Type 0 where
   pub values : List ℕ
 
 -- a block in the making: the reference of its arrival, those of its registers, and the state's wires so far
-pub record Point : Type 0 where
+pub record BlockBuild : Type 0 where
   pub arrival : ℕ
   pub values : List ℕ
   pub wires : List Wire
@@ -61,7 +61,7 @@ selects taken (v ∷ vs) [] = []
 selects taken (v ∷ vs) (s ∷ ss) = select-wire taken v s ∷ selects taken vs ss
 
 -- a further incoming edge: an `or` for the arrival, then a 19 for each register
-unfoldable pub join : Edge → Point → Point
+unfoldable pub join : Edge → BlockBuild → BlockBuild
 join e p =
     let n = fresh (p .wires) in
     record {
@@ -70,21 +70,21 @@ join e p =
       wires = p .wires ++ (or-wire (p .arrival) (e .taken) ∷ selects (e .taken) (e .values) (p .values));
     }
 
-unfoldable pub joins : List Edge → Point → Point
+unfoldable pub joins : List Edge → BlockBuild → BlockBuild
 unfolding join
 joins [] p = p
 joins (e ∷ es) p = joins es (join e p)
 
 -- arrival and values of a block that is no starter, from its first incoming edge and each further one
 -- (every such block has an incoming edge: the first clause is never used, which is proved; it is a block not arrived at)
-unfoldable pub arrive : ℕ → List Edge → List Wire → Point
+unfoldable pub arrive : ℕ → List Edge → List Wire → BlockBuild
 unfolding joins
 arrive r [] ws = record { arrival = fresh ws; values = upFrom 0 r; wires = ws ++ (set-wire 0 ∷ []) }
 arrive r (e ∷ es) ws = joins es (record { arrival = e .taken; values = e .values; wires = ws })
 
 -- the starter arrives by a wire `set 1` and has the start values
-unfoldable pub start : ℕ → List Wire → Point
-start r ws = record { arrival = fresh ws; values = upFrom 0 r; wires = ws ++ (set-wire 1 ∷ []) }
+unfoldable pub startBlock : ℕ → List Wire → BlockBuild
+startBlock r ws = record { arrival = fresh ws; values = upFrom 0 r; wires = ws ++ (set-wire 1 ∷ []) }
 
 -- an instruction's wire: the same code over references, where `at` gives a register's; operands that the code does not read are 0
 unfoldable pub instructionWire : (ℕ → ℕ) → Instruction → Wire
@@ -95,7 +95,7 @@ instructionWire at i =
     (choose (ltb (arity (i .code)) 2) 0 (at (i .b)))
     0
 
-unfoldable pub assign : Instruction → Point → Point
+unfoldable pub assign : Instruction → BlockBuild → BlockBuild
 unfolding instructionWire
 assign i p =
     record {
@@ -104,21 +104,21 @@ assign i p =
       wires = p .wires ++ (instructionWire (λ r. getD (p .values) r 0) i ∷ []);
     }
 
-unfoldable pub assigns : List Instruction → Point → Point
+unfoldable pub assigns : List Instruction → BlockBuild → BlockBuild
 unfolding assign
 assigns [] p = p
 assigns (i ∷ is) p = assigns is (assign i p)
 
 -- the wires of a state so far, and the edges out of its placed blocks that lead to no placed block
-pub record Build : Type 0 where
+pub record StateBuild : Type 0 where
   pub wires : List Wire
   pub edges : List Edge
 
-abbrev pub edge : Place → ℕ → Point → Edge
+abbrev pub edge : Place → ℕ → BlockBuild → Edge
 edge target taken p = record { target = target; taken = taken; values = p .values }
 
 -- an ending's wires and edges, true first: an ite adds its comparison, `and` for true and 18 for false
-unfoldable pub close : Ending → Point → Build
+unfoldable pub close : Ending → BlockBuild → StateBuild
 close (Goto t) p = record { wires = p .wires; edges = edge (standing t) (p .arrival) p ∷ [] }
 close (Ite c t f) p =
     let n = fresh (p .wires) in
@@ -137,22 +137,22 @@ leadsTo x halted = false
 abbrev pub towards : (Place → Bool) → List Edge → List Edge
 towards p es = only (λ e. p (e .target)) es
 
-unfoldable pub enter : ℕ → Bool → ℕ → Build → Point
-unfolding arrive start
-enter r true x b = start r (b .wires)
+unfoldable pub enter : ℕ → Bool → ℕ → StateBuild → BlockBuild
+unfolding arrive startBlock
+enter r true x b = startBlock r (b .wires)
 enter r false x b = arrive r (towards (leadsTo x) (b .edges)) (b .wires)
 
-unfoldable pub after : List Edge → Build → Build
+unfoldable pub after : List Edge → StateBuild → StateBuild
 after es b = record { wires = b .wires; edges = es ++ b .edges }
 
 -- block x placed: its arrival and joins, its instructions, its ending; the edges that lead to it are used up
-unfoldable pub put : CFG → Groups → ℕ → Build → Build
+unfoldable pub put : CFG → Groups → ℕ → StateBuild → StateBuild
 unfolding enter assigns close after
 put g s x b =
     after (towards (λ p. not (leadsTo x p)) (b .edges))
-    (close (blockOf g x .ending) (assigns (codeOf (blockOf g x)) (enter (g .registers) (mem x (s .starters)) x b)))
+    (close (blockOf g x .ending) (assigns (instructionsOf (blockOf g x)) (enter (g .registers) (mem x (s .starters)) x b)))
 
-unfoldable pub build : CFG → Groups → List ℕ → Build → Build
+unfoldable pub build : CFG → Groups → List ℕ → StateBuild → StateBuild
 unfolding put
 build g s [] b = b
 build g s (x ∷ xs) b = build g s xs (put g s x b)
@@ -165,11 +165,11 @@ leaves s halted = true
 
 -- the next state of an exit
 abbrev pub nextStateOf : Groups → Place → ℕ
-nextStateOf s (standing y) = getD (s .states) y none
-nextStateOf s halted = none
+nextStateOf s (standing y) = getD (s .states) y absent
+nextStateOf s halted = absent
 
 -- a further exit: a `set` of its next state, a 19 for the next state, then one for each register
-unfoldable pub exit : Groups → Edge → Point → Point
+unfoldable pub exit : Groups → Edge → BlockBuild → BlockBuild
 exit s e p =
     let n = fresh (p .wires) in
     record {
@@ -178,23 +178,23 @@ exit s e p =
       wires = p .wires ++ (set-wire (nextStateOf s (e .target)) ∷ select-wire (e .taken) n (p .arrival) ∷ selects (e .taken) (e .values) (p .values));
     }
 
-unfoldable pub exits : Groups → List Edge → Point → Point
+unfoldable pub exits : Groups → List Edge → BlockBuild → BlockBuild
 unfolding exit
 exits s [] p = p
 exits s (e ∷ es) p = exits s es (exit s e p)
 
 -- the first exit adds only its `set`; a point's arrival is here the next state's reference
 -- (every state has an exit: the first clause is never used, which is proved)
-unfoldable pub closeState : Groups → List Edge → List Wire → Point
+unfoldable pub closeState : Groups → List Edge → List Wire → BlockBuild
 unfolding exits
 closeState s [] ws = record { arrival = 0; values = []; wires = ws }
 closeState s (e ∷ es) ws =
     exits s es (record { arrival = fresh ws; values = e .values; wires = ws ++ (set-wire (nextStateOf s (e .target)) ∷ []) })
 
 -- state k
-unfoldable pub stateOf : CFG → Groups → ℕ → State
+unfoldable pub stateMade : CFG → Groups → ℕ → State
 unfolding order build closeState
-stateOf g s k =
+stateMade g s k =
     let b = build g s (order g s k) (record { wires = []; edges = [] }) in
     let p = closeState s (towards (leaves s) (b .edges)) (b .wires) in
     record { wires = p .wires; next = p .arrival; nextRegisters = p .values }

@@ -1,13 +1,13 @@
 // What a block adds to its state: its instructions, its ending.
-use crate::Front;
-use crate::Progress;
+use crate::BlockProgress;
+use crate::StateProgress;
 use crate::edges;
 use crate::joins;
 use crate::wires;
 use cfg::Block;
 use cfg::Condition;
 use cfg::Ending;
-use cfg::Graph;
+use cfg::GraphTable;
 use cfg::Instruction;
 use cfg::decode;
 use fsmd::Wire;
@@ -17,13 +17,13 @@ ghost use mathlib.Core.List.{List, [], _∷_, _++_};
 ghost use Prim.Native.Nat.{_+_, _-_, _*_, _≤_, _<_};
 ghost use lib.ListN.{length, getD, set};
 ghost use lib.Dec.{eqb, ltb};
-ghost use Rattle.word.specs.Word.{choose, arity, setCode, codeOf as comparisonCode};
+ghost use Rattle.word.specs.Word.{choose, arity, setCode, comparisonCode};
 ghost use Rattle.fsmd.specs.Layout.{maxRegisters, maxBlocks, maxWires};
 ghost use Rattle.cfg.specs.Layout.{blockOffset, graphWords, maxInstructions};
-ghost use Rattle.cfg.specs.Graph.{codeOf};
+ghost use Rattle.cfg.specs.Graph.{instructionsOf};
 ghost use Rattle.cfg.specs.Table.{blockAt};
 ghost use Rattle.state.specs.Wires.{wire, «and-wire», «and-not-wire», instructionWire, assign as assigned, assigns, close as closed, after};
-ghost use Rattle.state.specs.Making.{appended, Room, pointIn, Held, edgeTo, pending, Edged, buildIn, Built, Aims, Placeable, putBlock};
+ghost use Rattle.state.specs.Making.{appended, Room, blockBuildIn, Held, edgeTo, pending, Edged, stateBuildIn, Built, Aims, Placeable, putBlock};
 
 // The reference of a register's value; 0 of none.
 fn value_of(values: &[u32], register: u32) -> u32
@@ -78,14 +78,19 @@ fn instruction_wire(values: &[u32], i: Instruction) -> Wire
     }
 }
 
-fn assign(wires: &mut [u32], values: &mut [u32], front: Front, i: Instruction) -> Front
+fn assign(
+    wires: &mut [u32],
+    values: &mut [u32],
+    front: BlockProgress,
+    i: Instruction,
+) -> BlockProgress
     requires { ⌜ Room (front .wires + 1) (now wires) ⌝ }
-    ensures { λ r. ⌜ Held (assigned i (pointIn (front .arrival) (now (values .entry)) (front .wires) (now (wires .entry)))) (now (wires .entry)) (r .arrival) (now (values .exit)) (r .wires) (now (wires .exit)) ⌝ }
+    ensures { λ r. ⌜ Held (assigned i (blockBuildIn (front .arrival) (now (values .entry)) (front .wires) (now (wires .entry)))) (now (wires .entry)) (r .arrival) (now (values .exit)) (r .wires) (now (wires .exit)) ⌝ }
 {
     let at = front.wires;
     wires::emit(wires, at, instruction_wire(values, i));
     set_value(values, i.d, wires::reference(at));
-    Front {
+    BlockProgress {
         arrival: front.arrival,
         wires: at + 1,
     }
@@ -97,14 +102,14 @@ pub fn assign_all(
     x: usize,
     wires: &mut [u32],
     values: &mut [u32],
-    front: Front,
-) -> Front
+    front: BlockProgress,
+) -> BlockProgress
     requires { ⌜ (x < maxBlocks) × (graphWords ≤ length (now graph)) × (getD (now graph) (blockOffset x) 0 ≤ maxInstructions) ⌝ }
     requires { ⌜ Room (front .wires) (now wires) ⌝ }
-    requires { ⌜ Room (length (assigns (codeOf (blockAt (now graph) x)) (pointIn (front .arrival) (now values) (front .wires) (now wires)) .wires)) (now wires) ⌝ }
-    ensures { λ r. ⌜ Held (assigns (codeOf (blockAt (now (graph .entry)) x)) (pointIn (front .arrival) (now (values .entry)) (front .wires) (now (wires .entry)))) (now (wires .entry)) (r .arrival) (now (values .exit)) (r .wires) (now (wires .exit)) ⌝ }
+    requires { ⌜ Room (length (assigns (instructionsOf (blockAt (now graph) x)) (blockBuildIn (front .arrival) (now values) (front .wires) (now wires)) .wires)) (now wires) ⌝ }
+    ensures { λ r. ⌜ Held (assigns (instructionsOf (blockAt (now (graph .entry)) x)) (blockBuildIn (front .arrival) (now (values .entry)) (front .wires) (now (wires .entry)))) (now (wires .entry)) (r .arrival) (now (values .exit)) (r .wires) (now (wires .exit)) ⌝ }
 {
-    let start = Graph::HEAD + Block::WORDS * x;
+    let start = GraphTable::HEAD + Block::WORDS * x;
     let count = graph[start] as usize;
     let mut made = front;
     let mut i = 0;
@@ -117,7 +122,7 @@ pub fn assign_all(
 }
 
 // An ite's comparison, and the wires that say which way it goes.
-fn branch(wires: &mut [u32], values: &[u32], front: Front, c: Condition)
+fn branch(wires: &mut [u32], values: &[u32], front: BlockProgress, c: Condition)
     requires { ⌜ Room (front .wires + 3) (now wires) ⌝ }
     ensures { λ _. ⌜ now (wires .exit) ≡ appended (front .wires) (wire (comparisonCode (c .comparison)) (getD (now (values .entry)) (c .a) 0) (getD (now (values .entry)) (c .b) 0) 0 ∷ «and-wire» (front .arrival) (maxRegisters + front .wires) ∷ «and-not-wire» (front .arrival) (maxRegisters + front .wires) ∷ []) (now (wires .entry)) ⌝ }
 {
@@ -168,22 +173,22 @@ pub fn close(
     values: &[u32],
     targets: &mut [u32],
     rows: &mut [u32],
-    front: Front,
+    front: BlockProgress,
     count: usize,
-) -> Progress
+) -> StateProgress
     requires { ⌜ (x < maxBlocks) × (graphWords ≤ length (now graph)) × (length (now values) ≤ maxRegisters) × Aims (blockAt (now graph) x .ending) ⌝ }
     requires { ⌜ Edged (now targets) (now rows) (count + 2) ⌝ }
     requires { ⌜ Room (front .wires) (now wires) ⌝ }
-    requires { ⌜ Room (length (closed (blockAt (now graph) x .ending) (pointIn (front .arrival) (now values) (front .wires) (now wires)) .wires)) (now wires) ⌝ }
-    ensures { λ r. ⌜ Built (after (pending (length (now (values .entry))) (now (targets .entry)) (now (rows .entry)) count) (closed (blockAt (now (graph .entry)) x .ending) (pointIn (front .arrival) (now (values .entry)) (front .wires) (now (wires .entry))))) (now (wires .entry)) (length (now (values .entry))) (now (targets .exit)) (now (rows .exit)) (r .edges) (r .wires) (now (wires .exit)) ⌝ }
+    requires { ⌜ Room (length (closed (blockAt (now graph) x .ending) (blockBuildIn (front .arrival) (now values) (front .wires) (now wires)) .wires)) (now wires) ⌝ }
+    ensures { λ r. ⌜ Built (after (pending (length (now (values .entry))) (now (targets .entry)) (now (rows .entry)) count) (closed (blockAt (now (graph .entry)) x .ending) (blockBuildIn (front .arrival) (now (values .entry)) (front .wires) (now (wires .entry))))) (now (wires .entry)) (length (now (values .entry))) (now (targets .exit)) (now (rows .exit)) (r .edges) (r .wires) (now (wires .exit)) ⌝ }
     ensures { λ r. ⌜ r .edges ≤ count + 2 ⌝ }
 {
     let at = front.wires;
-    let ending = decode::ending_at(graph, Graph::HEAD + Block::WORDS * x + Block::ENDING);
+    let ending = decode::ending_at(graph, GraphTable::HEAD + Block::WORDS * x + Block::ENDING);
     match ending {
         Ending::Goto(t) => {
             edges::add(targets, rows, count, t, front.arrival, values);
-            Progress {
+            StateProgress {
                 edges: count + 1,
                 wires: at,
             }
@@ -191,14 +196,21 @@ pub fn close(
         Ending::Ite(c, t, f) => {
             branch(wires, values, front, c);
             fork(targets, rows, count, t, f, at, values);
-            Progress {
+            StateProgress {
                 edges: count + 2,
                 wires: at + 3,
             }
         }
         Ending::Halt => {
-            edges::add(targets, rows, count, Progress::HALT, front.arrival, values);
-            Progress {
+            edges::add(
+                targets,
+                rows,
+                count,
+                StateProgress::HALT,
+                front.arrival,
+                values,
+            );
+            StateProgress {
                 edges: count + 1,
                 wires: at,
             }
@@ -211,17 +223,17 @@ pub fn put(
     graph: &[u32],
     starter: bool,
     x: u32,
-    made: Progress,
+    made: StateProgress,
     wires: &mut [u32],
     values: &mut [u32],
     targets: &mut [u32],
     rows: &mut [u32],
-) -> Progress
+) -> StateProgress
     requires { ⌜ Placeable (now graph) x ⌝ }
     requires { ⌜ Edged (now targets) (now rows) (made .edges + 2) ⌝ }
     requires { ⌜ (length (now values) ≤ maxRegisters) × Room (made .wires) (now wires) ⌝ }
-    requires { ⌜ Room (length (putBlock (length (now values)) starter (blockAt (now graph) x) x (buildIn (length (now values)) (now targets) (now rows) (made .edges) (made .wires) (now wires)) .wires)) (now wires) ⌝ }
-    ensures { λ r. ⌜ Built (putBlock (length (now (values .entry))) starter (blockAt (now (graph .entry)) x) x (buildIn (length (now (values .entry))) (now (targets .entry)) (now (rows .entry)) (made .edges) (made .wires) (now (wires .entry)))) (now (wires .entry)) (length (now (values .entry))) (now (targets .exit)) (now (rows .exit)) (r .edges) (r .wires) (now (wires .exit)) ⌝ }
+    requires { ⌜ Room (length (putBlock (length (now values)) starter (blockAt (now graph) x) x (stateBuildIn (length (now values)) (now targets) (now rows) (made .edges) (made .wires) (now wires)) .wires)) (now wires) ⌝ }
+    ensures { λ r. ⌜ Built (putBlock (length (now (values .entry))) starter (blockAt (now (graph .entry)) x) x (stateBuildIn (length (now (values .entry))) (now (targets .entry)) (now (rows .entry)) (made .edges) (made .wires) (now (wires .entry)))) (now (wires .entry)) (length (now (values .entry))) (now (targets .exit)) (now (rows .exit)) (r .edges) (r .wires) (now (wires .exit)) ⌝ }
     ensures { λ r. ⌜ r .edges ≤ made .edges + 2 ⌝ }
 {
     let block = x as usize;

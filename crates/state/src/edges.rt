@@ -1,5 +1,5 @@
 // The edges out of the placed blocks of a state, in two lists: a target each, and a row of its taken reference and its values.
-use crate::Progress;
+use crate::StateProgress;
 ghost use mathlib.Core.Path.{_≡_};
 ghost use mathlib.Core.List.{List, [], _∷_, _++_};
 ghost use Prim.Native.Nat.{_+_, _*_, _≤_, _<_};
@@ -28,7 +28,11 @@ pub fn next_edge(targets: &[u32], from: usize, count: usize, x: u32) -> usize
 fn used_where(target: u32, x: u32) -> u32
     ensures { λ r. ⌜ r ≡ choose (eqb target x) used target ⌝ }
 {
-    if target == x { Progress::USED } else { target }
+    if target == x {
+        StateProgress::USED
+    } else {
+        target
+    }
 }
 
 // The edges to `x` are used up.
@@ -56,7 +60,7 @@ pub fn add(
     requires { ⌜ (length (now values) ≤ maxRegisters) × (target ≡ used → ⊥) ⌝ }
     ensures { λ _. ⌜ pending (length (now (values .entry))) (now (targets .exit)) (now (rows .exit)) (count + 1) ≡ pending (length (now (values .entry))) (now (targets .entry)) (now (rows .entry)) count ++ (edgeTo target taken (now (values .entry)) ∷ []) ⌝ }
 {
-    let row = Progress::ROW * count;
+    let row = StateProgress::ROW * count;
     targets[count] = target;
     rows[row] = taken;
     buffers::copy_words(rows, row + 1, values);

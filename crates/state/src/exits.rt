@@ -1,23 +1,23 @@
 // The exits of a state: edges to starters and halts.
+use crate::BlockProgress;
 use crate::Exit;
-use crate::Front;
-use crate::Progress;
+use crate::StateProgress;
 use crate::groups;
 use crate::wires;
-use fsmd::Machine;
+use fsmd::MachineTable;
 ghost use mathlib.Core.Path.{_≡_};
 ghost use mathlib.Core.List.{List, [], _∷_};
 ghost use Prim.Native.Nat.{_+_, _-_, _*_, _≤_, _<_};
 ghost use lib.ListN.{length, take};
-ghost use Rattle.fsmd.specs.Layout.{maxRegisters, none};
+ghost use Rattle.fsmd.specs.Layout.{maxRegisters, absent};
 ghost use Rattle.state.specs.Wires.{leaves as leavesOf, nextStateOf, exits as exitsOf, closeState, towards};
-ghost use Rattle.state.specs.Making.{Room, wiresIn, pointIn, Held, along, placeOf, edgesIn, pending, Edged, NextAt, groupsIn, GroupedBytes, exitTo};
+ghost use Rattle.state.specs.Making.{Room, wiresIn, blockBuildIn, Held, along, placeOf, edgesIn, pending, Edged, NextAt, groupsIn, GroupedBytes, exitTo};
 
 fn leaves(starters: &[u8], states: &[u8], target: u32) -> bool
     requires { ⌜ GroupedBytes (now starters) (now states) ⌝ }
     ensures { λ r. ⌜ r ≡ leavesOf (groupsIn (now (starters .entry)) (now (states .entry))) (placeOf target) ⌝ }
 {
-    if target == Progress::HALT {
+    if target == StateProgress::HALT {
         return true;
     }
     groups::is_starter(starters, states, target)
@@ -27,8 +27,8 @@ fn leaves(starters: &[u8], states: &[u8], target: u32) -> bool
 fn next_state(starters: &[u8], states: &[u8], target: u32) -> u32
     ensures { λ r. ⌜ r ≡ nextStateOf (groupsIn (now (starters .entry)) (now (states .entry))) (placeOf target) ⌝ }
 {
-    if target == Progress::HALT {
-        return Machine::NONE;
+    if target == StateProgress::HALT {
+        return MachineTable::NONE;
     }
     groups::entry(states, target)
 }
@@ -53,14 +53,14 @@ fn next_exit(targets: &[u32], from: usize, count: usize, starters: &[u8], states
 fn exit(
     wires: &mut [u32],
     values: &mut [u32],
-    front: Front,
+    front: BlockProgress,
     state: u32,
     taken: u32,
     source: &[u32],
-) -> Front
+) -> BlockProgress
     requires { ⌜ length (now source) ≡ length (now values) ⌝ }
     requires { ⌜ Room (front .wires + 2 + length (now values)) (now wires) ⌝ }
-    ensures { λ r. ⌜ Held (exitTo state (along taken (now (source .entry))) (pointIn (front .arrival) (now (values .entry)) (front .wires) (now (wires .entry)))) (now (wires .entry)) (r .arrival) (now (values .exit)) (r .wires) (now (wires .exit)) ⌝ }
+    ensures { λ r. ⌜ Held (exitTo state (along taken (now (source .entry))) (blockBuildIn (front .arrival) (now (values .entry)) (front .wires) (now (wires .entry)))) (now (wires .entry)) (r .arrival) (now (values .exit)) (r .wires) (now (wires .exit)) ⌝ }
 {
     let at = front.wires;
     wires::emit(wires, at, wires::set_wire(state));
@@ -70,7 +70,7 @@ fn exit(
         wires::select_wire(taken, wires::reference(at), front.arrival),
     );
     wires::select(wires, at + 2, taken, source, values);
-    Front {
+    BlockProgress {
         arrival: wires::reference(at + 1),
         wires: at + 2 + values.len(),
     }
@@ -80,24 +80,24 @@ fn exit(
 fn exit_all(
     wires: &mut [u32],
     values: &mut [u32],
-    front: Front,
+    front: BlockProgress,
     targets: &[u32],
     rows: &[u32],
     starters: &[u8],
     states: &[u8],
     from: usize,
     count: usize,
-) -> Front
+) -> BlockProgress
     requires { ⌜ Edged (now targets) (now rows) count ⌝ }
     requires { ⌜ GroupedBytes (now starters) (now states) ⌝ }
     requires { ⌜ (from ≤ count) × (length (now values) ≤ maxRegisters) × Room (front .wires) (now wires) ⌝ }
-    requires { ⌜ Room (length (exitsOf (groupsIn (now starters) (now states)) (towards (leavesOf (groupsIn (now starters) (now states))) (edgesIn (length (now values)) (now targets) (now rows) from (count - from))) (pointIn (front .arrival) (now values) (front .wires) (now wires)) .wires)) (now wires) ⌝ }
-    ensures { λ r. ⌜ Held (exitsOf (groupsIn (now (starters .entry)) (now (states .entry))) (towards (leavesOf (groupsIn (now (starters .entry)) (now (states .entry)))) (edgesIn (length (now (values .entry))) (now (targets .entry)) (now (rows .entry)) from (count - from))) (pointIn (front .arrival) (now (values .entry)) (front .wires) (now (wires .entry)))) (now (wires .entry)) (r .arrival) (now (values .exit)) (r .wires) (now (wires .exit)) ⌝ }
+    requires { ⌜ Room (length (exitsOf (groupsIn (now starters) (now states)) (towards (leavesOf (groupsIn (now starters) (now states))) (edgesIn (length (now values)) (now targets) (now rows) from (count - from))) (blockBuildIn (front .arrival) (now values) (front .wires) (now wires)) .wires)) (now wires) ⌝ }
+    ensures { λ r. ⌜ Held (exitsOf (groupsIn (now (starters .entry)) (now (states .entry))) (towards (leavesOf (groupsIn (now (starters .entry)) (now (states .entry)))) (edgesIn (length (now (values .entry))) (now (targets .entry)) (now (rows .entry)) from (count - from))) (blockBuildIn (front .arrival) (now (values .entry)) (front .wires) (now (wires .entry)))) (now (wires .entry)) (r .arrival) (now (values .exit)) (r .wires) (now (wires .exit)) ⌝ }
 {
     let mut made = front;
     let mut i = next_exit(targets, from, count, starters, states);
     while i < count {
-        let row = Progress::ROW * i;
+        let row = StateProgress::ROW * i;
         let state = next_state(starters, states, targets[i]);
         let next = exit(
             wires,
@@ -121,7 +121,7 @@ pub fn leave(
     rows: &[u32],
     starters: &[u8],
     states: &[u8],
-    made: Progress,
+    made: StateProgress,
 ) -> Exit
     requires { ⌜ Edged (now targets) (now rows) (made .edges) ⌝ }
     requires { ⌜ GroupedBytes (now starters) (now states) ⌝ }
@@ -140,14 +140,14 @@ pub fn leave(
             wires: at,
         };
     }
-    let row = Progress::ROW * i;
+    let row = StateProgress::ROW * i;
     buffers::copy_words(values, 0, &rows[row + 1..row + 1 + values.len()]);
     wires::emit(
         wires,
         at,
         wires::set_wire(next_state(starters, states, targets[i])),
     );
-    let first = Front {
+    let first = BlockProgress {
         arrival: wires::reference(at),
         wires: at + 1,
     };

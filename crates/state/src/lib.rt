@@ -6,8 +6,8 @@ pub mod groups; // groups.rt: starters and states of blocks
 pub mod joins; // joins.rt: how a block's arrival and values come about
 pub mod wires; // wires.rt: one wire, the selections of a join
 
-use cfg::Graph;
-use fsmd::Machine;
+use cfg::GraphTable;
+use fsmd::MachineTable;
 ghost use mathlib.Core.Path.{_≡_};
 ghost use Prim.Native.Nat.{_*_, _≤_};
 ghost use lib.ListN.{length, take};
@@ -16,13 +16,13 @@ ghost use Rattle.state.specs.Making.{maxEdges, Room, Held, Edged, Built,
 ghost use Rattle.state.specs.BlocksMaking.{buildBlocks, nothing, AllPlaceable, stateBlocks};
 
 // A block in the making: the reference of its arrival, and how many wires its state has so far.
-pub struct Front {
+pub struct BlockProgress {
     pub arrival: u32,
     pub wires: usize,
 }
 
 // A state in the making: how many edges lead out of its placed blocks, used up or not, and how many wires it has.
-pub struct Progress {
+pub struct StateProgress {
     pub edges: usize,
     pub wires: usize,
 }
@@ -34,15 +34,15 @@ pub struct Exit {
     pub wires: usize,
 }
 
-impl Progress {
+impl StateProgress {
     // The most edges of a state, and the words of an edge beside its target: its taken reference and its values.
-    pub const EDGES: usize = 2 * Graph::BLOCKS;
+    pub const EDGES: usize = 2 * GraphTable::BLOCKS;
 
-    pub const ROW: usize = 1 + Machine::REGISTERS;
+    pub const ROW: usize = 1 + MachineTable::REGISTERS;
     // The target of an edge that is used up, and of a halt.
     pub const USED: u32 = 254;
 
-    pub const HALT: u32 = Machine::NONE;
+    pub const HALT: u32 = MachineTable::NONE;
 }
 
 // The blocks of `order` placed one after another, from nothing.
@@ -55,7 +55,7 @@ fn place_all(
     values: &mut [u32],
     targets: &mut [u32],
     rows: &mut [u32],
-) -> Progress
+) -> StateProgress
     requires { ⌜ AllPlaceable (now graph) (now order) ⌝ }
     requires { ⌜ GroupedBytes (now starters) (now states) ⌝ }
     requires { ⌜ Edged (now targets) (now rows) 0 ⌝ }
@@ -64,7 +64,7 @@ fn place_all(
     ensures { λ r. ⌜ Built (buildBlocks (length (now (values .entry))) (now (graph .entry)) (now (starters .entry)) (now (order .entry)) nothing) (now (wires .entry)) (length (now (values .entry))) (now (targets .exit)) (now (rows .exit)) (r .edges) (r .wires) (now (wires .exit)) ⌝ }
     ensures { λ r. ⌜ r .edges ≤ maxEdges ⌝ }
 {
-    let mut made = Progress { edges: 0, wires: 0 };
+    let mut made = StateProgress { edges: 0, wires: 0 };
     let mut i = 0;
     while i < order.len() {
         let x = buffers::byte_word(order[i]);

@@ -1,5 +1,5 @@
 // The wires of a state in the making: one wire, a register's selections, a join.
-use fsmd::Machine;
+use fsmd::MachineTable;
 use fsmd::Wire;
 use word::Code;
 ghost use mathlib.Core.Path.{_≡_};
@@ -72,7 +72,7 @@ pub fn reference(at: usize) -> u32
     requires { ⌜ at ≤ maxWires ⌝ }
     ensures { λ r. ⌜ r ≡ maxRegisters + at ⌝ }
 {
-    (Machine::REGISTERS + at) as u32
+    (MachineTable::REGISTERS + at) as u32
 }
 
 // Wire `at` of the state, after those before it.

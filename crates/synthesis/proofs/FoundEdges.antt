@@ -17,7 +17,7 @@ use Rattle.grouping.specs.Grouping.{Groups}
 use Rattle.grouping.proofs.Reach.{Closed}
 use Rattle.grouping.proofs.GroupingLaws.{Grouped}
 use Rattle.placement.specs.Placement.{order}
-use Rattle.state.specs.Wires.{Edge, Point, Build, close, leadsTo, towards, after, put, build, leaves}
+use Rattle.state.specs.Wires.{Edge, BlockBuild, StateBuild, close, leadsTo, towards, after, put, build, leaves}
 use Rattle.placement.proofs.PlacementLaws.{placed}
 use Rattle.placement.proofs.StateOrder.{Ahead, Ordered, StateOrder}
 
@@ -61,7 +61,7 @@ some-kept p q f (e ∷ es) (inr h) = go (q (e .target)) (some-kept p q f es h)
 -- ---- incoming edges
 
 module _ (g : CFG) (s : Groups) (x : ℕ) where
-  close-leads : (e : Ending) (p : Point) → In x (targets e) → Some (leadsTo x) (close e p .edges)
+  close-leads : (e : Ending) (p : BlockBuild) → In x (targets e) → Some (leadsTo x) (close e p .edges)
   unfolding close
   close-leads (Goto t) p (inl h) = inl (eq-eqb t x (sym h))
   close-leads (Goto t) p (inr h) = absurd h
@@ -75,23 +75,23 @@ module _ (g : CFG) (s : Groups) (x : ℕ) where
   leads-elsewhere z d (standing y) h = ap not (ne-eqb y z (λ e. d (sym (eqb-true y x h) ∙ e)))
   leads-elsewhere z d halted h = absurd (false≢true h)
 
-  put-keeps : (z : ℕ) (b : Build) → x ≢ z → Some (leadsTo x) (b .edges) → Some (leadsTo x) (put g s z b .edges)
+  put-keeps : (z : ℕ) (b : StateBuild) → x ≢ z → Some (leadsTo x) (b .edges) → Some (leadsTo x) (put g s z b .edges)
   unfolding put after
   put-keeps z b d h =
       some-before (leadsTo x) (towards (λ p. not (leadsTo z p)) (b .edges)) _
       (some-kept (leadsTo x) (λ p. not (leadsTo z p)) (leads-elsewhere z d) (b .edges) h)
 
-  put-leads : (z : ℕ) (b : Build) → In x (successors g z) → Some (leadsTo x) (put g s z b .edges)
+  put-leads : (z : ℕ) (b : StateBuild) → In x (successors g z) → Some (leadsTo x) (put g s z b .edges)
   unfolding put after
   put-leads z b h =
       some-behind (leadsTo x) (towards (λ p. not (leadsTo z p)) (b .edges)) _ (close-leads (blockOf g z .ending) _ h)
 
-  build-keeps : (zs : List ℕ) (b : Build) → (In x zs → ⊥) → Some (leadsTo x) (b .edges) → Some (leadsTo x) (build g s zs b .edges)
+  build-keeps : (zs : List ℕ) (b : StateBuild) → (In x zs → ⊥) → Some (leadsTo x) (b .edges) → Some (leadsTo x) (build g s zs b .edges)
   unfolding build
   build-keeps [] b d h = h
   build-keeps (z ∷ zs) b d h = build-keeps zs (put g s z b) (λ i. d (inr i)) (put-keeps z b (λ e. d (inl e)) h)
 
-  build-leads : (zs : List ℕ) (b : Build) (u : ℕ) → In u zs → In x (successors g u) → (In x zs → ⊥) → Some (leadsTo x) (build g s zs b .edges)
+  build-leads : (zs : List ℕ) (b : StateBuild) (u : ℕ) → In u zs → In x (successors g u) → (In x zs → ⊥) → Some (leadsTo x) (build g s zs b .edges)
   unfolding build
   build-leads [] b u i h d = absurd i
   build-leads (z ∷ zs) b u (inl e) h d = build-keeps zs (put g s z b) (λ i. d (inr i)) (put-leads z b (rw e at h))
@@ -118,13 +118,13 @@ to-starter : (s : Groups) (t : ℕ) → (mem t (s .starters) ≡ true) ⊎ (mem 
 to-starter s t (inl h) = h
 to-starter s t (inr h) = absurd (false≢true h)
 
-close-leaves : (s : Groups) (e : Ending) (p : Point) → Ahead (s .starters) [] (targets e) → Some (leaves s) (close e p .edges)
+close-leaves : (s : Groups) (e : Ending) (p : BlockBuild) → Ahead (s .starters) [] (targets e) → Some (leaves s) (close e p .edges)
 unfolding close
 close-leaves s (Goto t) p a = inl (to-starter s t (a .0))
 close-leaves s (Ite c t f) p a = inl (to-starter s t (a .0))
 close-leaves s Halt p a = inl refl
 
-build-leaves : (g : CFG) (s : Groups) (x : ℕ) (xs : List ℕ) (b : Build) → Ahead (s .starters) xs (successors g x) → Ordered g (s .starters) xs
+build-leaves : (g : CFG) (s : Groups) (x : ℕ) (xs : List ℕ) (b : StateBuild) → Ahead (s .starters) xs (successors g x) → Ordered g (s .starters) xs
     → Some (leaves s) (build g s (x ∷ xs) b .edges)
 unfolding build put after
 build-leaves g s x [] b a o =
@@ -133,6 +133,6 @@ build-leaves g s x (y ∷ ys) b a o = build-leaves g s y ys (put g s x b) (o .1)
 
 pub exit-found : (g : CFG) (s : Groups) (k y : ℕ) → StateOrder g s k y → Found (leaves s) (build g s (order g s k) (record { wires = []; edges = [] }) .edges)
 exit-found g s k y o =
-    let none : Build = record { wires = []; edges = [] } in
+    let none : StateBuild = record { wires = []; edges = [] } in
     some-found (leaves s) (build g s (order g s k) none .edges)
     (rw (o .order-is) (build-leaves g s y (o .others) none (o .ahead) (o .ordered)))

@@ -18,7 +18,7 @@ use Rattle.cfg.specs.declared.Instruction.{Instruction}
 use Rattle.cfg.specs.declared.Ending.{Ending}
 use Rattle.cfg.specs.declared.Ending.the-variants.{Goto, Ite, Halt}
 use Rattle.cfg.specs.declared.Block.{Block}
-use Rattle.cfg.specs.Graph.{CFG, noInstruction, emptyBlock, blockOf, codeOf}
+use Rattle.cfg.specs.Graph.{CFG, noInstruction, emptyBlock, blockOf, instructionsOf}
 use Rattle.cfg.proofs.Admitted.{ValidInstruction, ValidEnding, ValidBlock, ValidGraph}
 
 abbrev pub ValidCode : ℕ → List Instruction → Type 0
@@ -32,8 +32,8 @@ Compares R (Ite c t f) = (c .a < R) × (c .b < R)
 Compares R Halt = Unit {0}
 
 pub record BlockFits (R : ℕ) (b : Block) : Type 0 where
-  pub short : length (codeOf b) ≤ 8
-  pub body : ValidCode R (codeOf b)
+  pub short : length (instructionsOf b) ≤ 8
+  pub body : ValidCode R (instructionsOf b)
   pub ends : Compares R (b .ending)
 
 pub record GraphFits (g : CFG) : Type 0 where
@@ -58,7 +58,7 @@ block-fits B R b v =
     let c = v .few in
     record {
       short = omega arith;
-      body = valid-code R (codeOf b) (λ k l. rw (getD-take (b .count) (b .instructions) k noInstruction (omega arith)) (v .instruction k (omega arith) (omega arith)));
+      body = valid-code R (instructionsOf b) (λ k l. rw (getD-take (b .count) (b .instructions) k noInstruction (omega arith)) (v .instruction k (omega arith) (omega arith)));
       ends = compares B R (b .ending) (v .ended);
     }
 

@@ -9,16 +9,16 @@ use lib.ListN.{length, take, replicate, length-map}
 use lib.Seq.{take-at, length-take-le}
 use Rattle.runs.specs.Lists.{upFrom, padded}
 use Rattle.runs.proofs.ListLaws.{padded-append, length-upFrom}
-use Rattle.cfg.specs.Table.{graphOf, admitted}
+use Rattle.cfg.specs.Table.{graphOf, admittedGraph}
 use Rattle.cfg.proofs.Admitted.{ValidGraph, valid-graph, admitted-halves}
-use Rattle.fsmd.specs.Layout.{maxStates, maxBlocks, maxWires, allRecordWords, allWireWords, recordsOffset, machineWords, none}
+use Rattle.fsmd.specs.Layout.{maxStates, maxBlocks, maxWires, allRecordWords, allWireWords, recordsOffset, machineWords, absent}
 use Rattle.fsmd.specs.Machine.{State, wireCount}
-use Rattle.fsmd.specs.Table.{recordsOf, wiresOf, tableOf}
+use Rattle.fsmd.specs.Table.{recordsOf, wiresOf, machineTableOf}
 use Rattle.grouping.specs.Grouping.{Groups, groups}
 use Rattle.grouping.specs.Answer.{answerOf, groupingOf}
 use Rattle.grouping.proofs.Reach.{admitted-closed}
 use Rattle.grouping.proofs.GroupingLaws.{Grouped, grouped}
-use Rattle.state.specs.Wires.{stateOf}
+use Rattle.state.specs.Wires.{stateMade}
 use Rattle.synthesis.specs.Synthesis.{machineFor}
 use Rattle.synthesis.specs.StateWords.{withStates, firstStates, Filled}
 use Rattle.synthesis.proofs.SynthesisedMachine.{made-fits}
@@ -27,7 +27,7 @@ use Rattle.synthesis.proofs.TableWords.{count-more}
 -- ---- the first states
 
 abbrev pub nth : List ℕ → Groups → ℕ → State
-nth t s k = stateOf (graphOf t) s k
+nth t s k = stateMade (graphOf t) s k
 
 map-up-more : {A : Type 0} (f : ℕ → A) (n k : ℕ) → map f (upFrom n (suc k)) ≡ map f (upFrom n k) ++ (f (n + k) ∷ [])
 map-up-more {A = A} f n zero = let e : n + 0 ≡ n = omega arith in rw e refl
@@ -62,7 +62,7 @@ module _ (t : List ℕ) (s : Groups) where
       rw e (omega arith)
 
 -- of any finished grouping
-module _ (t : List ℕ) (a : admitted t ≡ true) (s : Groups) (G : Grouped (graphOf t) s) where
+module _ (t : List ℕ) (a : admittedGraph t ≡ true) (s : Groups) (G : Grouped (graphOf t) s) where
   valid : ValidGraph (graphOf t)
   valid = valid-graph (graphOf t) (admitted-halves t a .0)
 
@@ -83,15 +83,15 @@ module _ (t : List ℕ) (a : admitted t ≡ true) (s : Groups) (G : Grouped (gra
       omega arith
 
   pub machine-table : (n r : ℕ) → n ≡ length (s .starters) → r ≡ graphOf t .registers
-      → withStates (n ∷ r ∷ (padded maxStates 0 (s .starters) ++ padded maxBlocks none (s .states))) (firstStates t s n) ≡ tableOf (machineFor (graphOf t) s)
-  unfolding withStates tableOf machineFor firstStates wiresOf
+      → withStates (n ∷ r ∷ (padded maxStates 0 (s .starters) ++ padded maxBlocks absent (s .states))) (firstStates t s n) ≡ machineTableOf (machineFor (graphOf t) s)
+  unfolding withStates machineTableOf machineFor firstStates wiresOf
   machine-table n r e f =
       let g = graphOf t in
-      let l : length (map (stateOf g s) (upFrom 0 (length (s .starters)))) ≡ length (s .starters) = length-map (upFrom 0 (length (s .starters))) (stateOf g s) ∙ length-upFrom 0 (length (s .starters)) in
+      let l : length (map (stateMade g s) (upFrom 0 (length (s .starters)))) ≡ length (s .starters) = length-map (upFrom 0 (length (s .starters))) (stateMade g s) ∙ length-upFrom 0 (length (s .starters)) in
       rw (e, f, l)
       (ap (λ (x : List ℕ). length (s .starters) ∷ g .registers ∷ x)
-      (append-assoc (padded maxStates 0 (s .starters)) (padded maxBlocks none (s .states))
-      (padded allRecordWords 0 (recordsOf 0 (map (stateOf g s) (upFrom 0 (length (s .starters))))) ++ padded allWireWords 0 (wiresOf (map (stateOf g s) (upFrom 0 (length (s .starters))))))))
+      (append-assoc (padded maxStates 0 (s .starters)) (padded maxBlocks absent (s .states))
+      (padded allRecordWords 0 (recordsOf 0 (map (stateMade g s) (upFrom 0 (length (s .starters))))) ++ padded allWireWords 0 (wiresOf (map (stateMade g s) (upFrom 0 (length (s .starters))))))))
 
 -- ---- filling
 
@@ -124,7 +124,7 @@ filled-on t s table k first f last r l e g =
 abbrev pub its : List ℕ → Groups
 its t = groups (graphOf t)
 
-pub finished : (t : List ℕ) → admitted t ≡ true → Grouped (graphOf t) (its t)
+pub finished : (t : List ℕ) → admittedGraph t ≡ true → Grouped (graphOf t) (its t)
 finished t a = grouped (graphOf t) (admitted-closed t a)
 
 pub grouping-is : (t : List ℕ) → groupingOf t ≡ answerOf (its t)

@@ -14,12 +14,12 @@ use Rattle.runs.specs.Lists.{mem}
 use Rattle.runs.specs.Runs.{Place, standing, halted, Moved}
 use Rattle.cfg.specs.declared.Ending.{Ending}
 use Rattle.cfg.specs.declared.Ending.the-variants.{Goto, Ite, Halt}
-use Rattle.cfg.specs.Graph.{CFG, blockOf, codeOf, targets, successors, executeAll, holds, leave, runBlock}
+use Rattle.cfg.specs.Graph.{CFG, blockOf, instructionsOf, targets, successors, executeAll, holds, leave, runBlock}
 use Rattle.fsmd.specs.Layout.{maxRegisters}
 use Rattle.fsmd.specs.Machine.{State, worked}
 use Rattle.grouping.specs.Grouping.{Groups}
 use Rattle.placement.specs.Placement.{order}
-use Rattle.state.specs.Wires.{towards, leadsTo, Build, arrive, start, enter, after, put, build, leaves, nextStateOf, closeState, stateOf}
+use Rattle.state.specs.Wires.{towards, leadsTo, StateBuild, arrive, startBlock, enter, after, put, build, leaves, nextStateOf, closeState, stateMade}
 use Rattle.synthesis.proofs.GraphFacts.{GraphFits}
 use Rattle.placement.proofs.StateOrder.{Ahead, Ordered, StateOrder}
 use Rattle.synthesis.proofs.Readings.{Reads, start-reads}
@@ -66,11 +66,11 @@ towards-none s (standing y) (inl e) = e
 towards-none s (standing y) (inr e) = never e
 towards-none s halted b = refl
 
--- ---- the token
+-- ---- the taken edge
 
 module _ (g : CFG) (s : Groups) (sampled : ℕ) (rs : List ℕ) (b₀ : ℕ) where
   -- the blocks xs are still to place, and at most n are placed: the taken edge leads to `reached`, where the graph's run comes in `steps` steps
-  pub record Token (xs : List ℕ) (b : Build) (n : ℕ) : Type 0 where
+  pub record TakenEdge (xs : List ℕ) (b : StateBuild) (n : ℕ) : Type 0 where
     pub reached : Moved
     pub steps : ℕ
     pub taken : OneTaken (g .registers) (drop (g .registers) rs) (worked sampled rs (b .wires)) reached (b .edges)
@@ -80,38 +80,38 @@ module _ (g : CFG) (s : Groups) (sampled : ℕ) (rs : List ℕ) (b₀ : ℕ) whe
     pub few : steps ≤ n
 
 module _ (g : CFG) (s : Groups) where
-  put-inner : (x : ℕ) (b : Build) → mem x (s .starters) ≡ false
+  put-inner : (x : ℕ) (b : StateBuild) → mem x (s .starters) ≡ false
       → put g s x b
       ≡ after (towards (λ p. not (leadsTo x p)) (b .edges)) (blockMade (blockOf g x) (arrive (g .registers) (towards (leadsTo x) (b .edges)) (b .wires)))
   unfolding put enter
   put-inner x b h = rw h
 
-  put-starter : (x : ℕ) (b : Build) → mem x (s .starters) ≡ true
-      → put g s x b ≡ after (towards (λ p. not (leadsTo x p)) (b .edges)) (blockMade (blockOf g x) (start (g .registers) (b .wires)))
+  put-starter : (x : ℕ) (b : StateBuild) → mem x (s .starters) ≡ true
+      → put g s x b ≡ after (towards (λ p. not (leadsTo x p)) (b .edges)) (blockMade (blockOf g x) (startBlock (g .registers) (b .wires)))
   unfolding put enter
   put-starter x b h = rw h
 
-abbrev none-built : Build
+abbrev none-built : StateBuild
 none-built = record { wires = []; edges = [] }
 
 module _ (g : CFG) (s : Groups) (sampled : ℕ) (rs : List ℕ) (size : length rs ≡ maxRegisters) (f : GraphFits g) (b₀ : ℕ) where
-  first-token : (xs : List ℕ) → mem b₀ (s .starters) ≡ true → Ahead (s .starters) xs (successors g b₀) → Token g s sampled rs b₀ xs (put g s b₀ none-built) 1
-  unfolding start runBlock
-  first-token xs h a =
+  first-edge : (xs : List ℕ) → mem b₀ (s .starters) ≡ true → Ahead (s .starters) xs (successors g b₀) → TakenEdge g s sampled rs b₀ xs (put g s b₀ none-built) 1
+  unfolding startBlock runBlock
+  first-edge xs h a =
       let R = g .registers in
       rw (put-starter g s b₀ none-built h) (record {
         reached = runBlock sampled (blockOf g b₀) rs;
         steps = 1;
-        taken = made-reached sampled rs size R (blockOf g b₀) (f .block b₀) (start R []) rs [] (start-reads sampled rs size R [] 1 (f .fewRegisters)) tt;
-        onward = towards-leave (s .starters) xs (blockOf g b₀ .ending) (executeAll sampled (codeOf (blockOf g b₀)) rs) a;
+        taken = made-reached sampled rs size R (blockOf g b₀) (f .block b₀) (startBlock R []) rs [] (start-reads sampled rs size R [] 1 (f .fewRegisters)) tt;
+        onward = towards-leave (s .starters) xs (blockOf g b₀ .ending) (executeAll sampled (instructionsOf (blockOf g b₀)) rs) a;
         trace = first refl;
         some = omega arith;
         few = omega arith;
       })
 
   -- the taken edge leads to x: x is run
-  reach : (x : ℕ) (xs : List ℕ) (b : Build) (n : ℕ) → Ordered g (s .starters) (x ∷ xs) → (t : Token g s sampled rs b₀ (x ∷ xs) b n) → leadsTo x (t .reached .place) ≡ true
-      → Token g s sampled rs b₀ xs (put g s x b) (suc n)
+  reach : (x : ℕ) (xs : List ℕ) (b : StateBuild) (n : ℕ) → Ordered g (s .starters) (x ∷ xs) → (t : TakenEdge g s sampled rs b₀ (x ∷ xs) b n) → leadsTo x (t .reached .place) ≡ true
+      → TakenEdge g s sampled rs b₀ xs (put g s x b) (suc n)
   unfolding runBlock
   reach x xs b n o t h =
       let R = g .registers in
@@ -128,15 +128,15 @@ module _ (g : CFG) (s : Groups) (sampled : ℕ) (rs : List ℕ) (size : length r
             (arrive-one sampled rs size R into (b .wires) c (one-towards R (drop R rs) E (leadsTo x) c (b .edges) h (t .taken)))
             (none-grow R (drop R rs) E (worked sampled rs (p .wires)) (arrive-grow sampled rs size R into (b .wires)) rest
             (one-away R (drop R rs) E (λ p. not (leadsTo x p)) c (b .edges) (ap not h) (t .taken)));
-        onward = towards-leave (s .starters) xs (blockOf g x .ending) (executeAll sampled (codeOf (blockOf g x)) (c .registers)) (o .1);
+        onward = towards-leave (s .starters) xs (blockOf g x .ending) (executeAll sampled (instructionsOf (blockOf g x)) (c .registers)) (o .1);
         trace = next (t .trace) x (leads-to x (c .place) h) (o .0) refl;
         some = omega arith;
         few = omega arith;
       })
 
   -- it leads elsewhere
-  pass : (x : ℕ) (xs : List ℕ) (b : Build) (n : ℕ) → Ordered g (s .starters) (x ∷ xs) → (t : Token g s sampled rs b₀ (x ∷ xs) b n) → leadsTo x (t .reached .place) ≡ false
-      → Token g s sampled rs b₀ xs (put g s x b) (suc n)
+  pass : (x : ℕ) (xs : List ℕ) (b : StateBuild) (n : ℕ) → Ordered g (s .starters) (x ∷ xs) → (t : TakenEdge g s sampled rs b₀ (x ∷ xs) b n) → leadsTo x (t .reached .place) ≡ false
+      → TakenEdge g s sampled rs b₀ xs (put g s x b) (suc n)
   pass x xs b n o t h =
       let R = g .registers in
       let into = towards (leadsTo x) (b .edges) in
@@ -158,17 +158,17 @@ module _ (g : CFG) (s : Groups) (sampled : ℕ) (rs : List ℕ) (size : length r
         few = omega arith;
       })
 
-  put-token : (x : ℕ) (xs : List ℕ) (b : Build) (n : ℕ) → Ordered g (s .starters) (x ∷ xs) → Token g s sampled rs b₀ (x ∷ xs) b n → Token g s sampled rs b₀ xs (put g s x b) (suc n)
-  put-token x xs b n o t = either (leadsTo x (t .reached .place)) refl
+  put-edge : (x : ℕ) (xs : List ℕ) (b : StateBuild) (n : ℕ) → Ordered g (s .starters) (x ∷ xs) → TakenEdge g s sampled rs b₀ (x ∷ xs) b n → TakenEdge g s sampled rs b₀ xs (put g s x b) (suc n)
+  put-edge x xs b n o t = either (leadsTo x (t .reached .place)) refl
     where
-      either : (c : Bool) → leadsTo x (t .reached .place) ≡ c → Token g s sampled rs b₀ xs (put g s x b) (suc n)
+      either : (c : Bool) → leadsTo x (t .reached .place) ≡ c → TakenEdge g s sampled rs b₀ xs (put g s x b) (suc n)
       either true h = reach x xs b n o t h
       either false h = pass x xs b n o t h
 
-  build-token : (xs : List ℕ) (b : Build) (n : ℕ) → Ordered g (s .starters) xs → Token g s sampled rs b₀ xs b n → Token g s sampled rs b₀ [] (build g s xs b) (n + length xs)
+  build-edge : (xs : List ℕ) (b : StateBuild) (n : ℕ) → Ordered g (s .starters) xs → TakenEdge g s sampled rs b₀ xs b n → TakenEdge g s sampled rs b₀ [] (build g s xs b) (n + length xs)
   unfolding build
-  build-token [] b n o t = rw add-zero t
-  build-token (x ∷ xs) b n o t = rw (add-suc, ← suc-add) (build-token xs (put g s x b) (suc n) (o .2) (put-token x xs b n o t))
+  build-edge [] b n o t = rw add-zero t
+  build-edge (x ∷ xs) b n o t = rw (add-suc, ← suc-add) (build-edge xs (put g s x b) (suc n) (o .2) (put-edge x xs b n o t))
 
 -- ---- one cycle
 
@@ -185,13 +185,13 @@ pub record CycleAgrees (g : CFG) (s : Groups) (sampled : ℕ) (rs : List ℕ) (k
   pub leaving : leaves s (reached .place) ≡ true
   pub some : 1 ≤ steps
   pub few : steps ≤ length (order g s k)
-  pub state : StateReads g (stateOf g s k) sampled rs (nextStateOf s (reached .place)) (reached .registers)
+  pub state : StateReads g (stateMade g s k) sampled rs (nextStateOf s (reached .place)) (reached .registers)
 
 state-is : (g : CFG) (s : Groups) (k : ℕ) (xs : List ℕ) → order g s k ≡ xs
     → let z = build g s xs none-built in
     let p = closeState s (towards (leaves s) (z .edges)) (z .wires) in
-    stateOf g s k ≡ record { wires = p .wires; next = p .arrival; nextRegisters = p .values }
-unfolding stateOf
+    stateMade g s k ≡ record { wires = p .wires; next = p .arrival; nextRegisters = p .values }
+unfolding stateMade
 state-is g s k xs h = rw h
 
 pub cycle-agrees : (g : CFG) (s : Groups) (sampled : ℕ) (rs : List ℕ) → length rs ≡ maxRegisters → GraphFits g → (k b : ℕ) → StateOrder g s k b → CycleAgrees g s sampled rs k b
@@ -199,7 +199,7 @@ unfolding build
 cycle-agrees g s sampled rs size f k b h =
     let R = g .registers in
     let xs = h .others in
-    let t = build-token g s sampled rs size f b xs (put g s b none-built) 1 (h .ordered) (first-token g s sampled rs size f b xs (h .starter) (h .ahead)) in
+    let t = build-edge g s sampled rs size f b xs (put g s b none-built) 1 (h .ordered) (first-edge g s sampled rs size f b xs (h .starter) (h .ahead)) in
     let z = build g s xs (put g s b none-built) in
     let l = towards-none s (t .reached .place) (t .onward) in
     let m = t .few in

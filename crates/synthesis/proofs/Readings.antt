@@ -6,7 +6,7 @@ use mathlib.Core.Bool.{Bool, true, false, not, _&&_, _||_}
 use mathlib.Core.List.{List, [], _∷_, _++_, map}
 use lib.ListN.{length, getD, set, drop, length-append, List·getD-append, length-map, length-set, take-append-drop}
 use lib.Seq.{getD-append-seam, set-append-left}
-use Rattle.word.specs.Word.{choose, truth, codeOf}
+use Rattle.word.specs.Word.{choose, truth, comparisonCode}
 use Rattle.runs.specs.Lists.{upFrom}
 use Rattle.cfg.specs.declared.Instruction.{Instruction}
 use Rattle.cfg.specs.declared.Condition.{Condition}
@@ -14,7 +14,7 @@ use Rattle.cfg.specs.Graph.{valueOf, execute, holds}
 use Rattle.fsmd.specs.Layout.{maxRegisters}
 use Rattle.fsmd.specs.declared.Wire.{Wire}
 use Rattle.fsmd.specs.Machine.{wireValue, worked}
-use Rattle.state.specs.Wires.{wire, set-wire, and-wire, or-wire, and-not-wire, select-wire, selects, Edge, Point, fresh, join, instructionWire, assign}
+use Rattle.state.specs.Wires.{wire, set-wire, and-wire, or-wire, and-not-wire, select-wire, selects, Edge, BlockBuild, fresh, join, instructionWire, assign}
 use Rattle.runs.proofs.ListLaws.{length-upFrom}
 use Rattle.cfg.proofs.Admitted.{ValidInstruction}
 use Rattle.synthesis.proofs.WireValues.{set-value, and-value, or-value, and-not-value, select-value, comparison-value, instruction-value}
@@ -120,14 +120,14 @@ module _ {R : ℕ} {high : List ℕ} where
 
   -- the three wires of an ite
   pub reads-ite : (sampled : ℕ) (E : List ℕ) (c : Condition) (s : Bool) {t : ℕ} {vs : List ℕ} {q : List ℕ} → c .a < R → c .b < R → Reads R high E t vs (truth s) q
-      → let E′ = worked sampled E (wire (codeOf (c .comparison)) (getD vs (c .a) 0) (getD vs (c .b) 0) 0 ∷ and-wire t (length E) ∷ and-not-wire t (length E) ∷ []) in
+      → let E′ = worked sampled E (wire (comparisonCode (c .comparison)) (getD vs (c .a) 0) (getD vs (c .b) 0) 0 ∷ and-wire t (length E) ∷ and-not-wire t (length E) ∷ []) in
       Reads R high E′ (1 + length E) vs (truth (s && holds c q)) q × Reads R high E′ (2 + length E) vs (truth (s && not (holds c q))) q
   reads-ite sampled E c s {t} {vs} {q} ha hb l =
       let h : Bool = holds c q in
       let x : ℕ = truth h in
       let y : ℕ = truth (s && h) in
       let z : ℕ = truth (s && not h) in
-      let w : Wire = wire (codeOf (c .comparison)) (getD vs (c .a) 0) (getD vs (c .b) 0) 0 in
+      let w : Wire = wire (comparisonCode (c .comparison)) (getD vs (c .a) 0) (getD vs (c .b) 0) 0 in
       let E₁ = E ++ (x ∷ []) in
       let E₂ = E ++ (x ∷ []) ++ (y ∷ []) in
       let l₁ : Reads R high E₁ t vs (truth s) q = reads-append E (x ∷ []) l in
@@ -162,7 +162,7 @@ module _ {R : ℕ} {high : List ℕ} where
 
 -- ---- a point of the builder, in a cycle that starts with the registers rs
 
-abbrev pub PointReads : (sampled : ℕ) (rs : List ℕ) (R : ℕ) → Point → ℕ → List ℕ → Type 0
+abbrev pub PointReads : (sampled : ℕ) (rs : List ℕ) (R : ℕ) → BlockBuild → ℕ → List ℕ → Type 0
 PointReads sampled rs R p v q = Reads R (drop R rs) (worked sampled rs (p .wires)) (p .arrival) (p .values) v q
 
 module _ (sampled : ℕ) (rs : List ℕ) (size : length rs ≡ maxRegisters) where
@@ -170,11 +170,11 @@ module _ (sampled : ℕ) (rs : List ℕ) (size : length rs ≡ maxRegisters) whe
   fresh-is ws = omega (arith, length-worked sampled rs ws)
 
 module _ (sampled : ℕ) (rs : List ℕ) (size : length rs ≡ maxRegisters) (R : ℕ) where
-  pub assign-reads : (i : Instruction) (p : Point) {v : ℕ} {q : List ℕ} → ValidInstruction R i → PointReads sampled rs R p v q → PointReads sampled rs R (assign i p) v (execute sampled i q)
+  pub assign-reads : (i : Instruction) (p : BlockBuild) {v : ℕ} {q : List ℕ} → ValidInstruction R i → PointReads sampled rs R p v q → PointReads sampled rs R (assign i p) v (execute sampled i q)
   unfolding assign
   assign-reads i p f l = rw (worked-append sampled rs (p .wires), fresh-is sampled rs size (p .wires)) (reads-execute sampled (worked sampled rs (p .wires)) i f l)
 
-  pub join-reads : (e : Edge) (p : Point) (s b : Bool) {q q′ : List ℕ} → PointReads sampled rs R p (truth s) q
+  pub join-reads : (e : Edge) (p : BlockBuild) (s b : Bool) {q q′ : List ℕ} → PointReads sampled rs R p (truth s) q
       → Reads R (drop R rs) (worked sampled rs (p .wires)) (e .taken) (e .values) (truth b) q′
       → PointReads sampled rs R (join e p) (truth (s || b)) (choose b q′ q)
   unfolding join

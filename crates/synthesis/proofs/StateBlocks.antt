@@ -13,40 +13,40 @@ use Rattle.cfg.specs.declared.Ending.{Ending}
 use Rattle.cfg.specs.declared.Ending.the-variants.{Goto, Ite, Halt}
 use Rattle.cfg.specs.declared.Block.{Block}
 use Rattle.cfg.specs.Layout.{blockOffset}
-use Rattle.cfg.specs.Table.{blockAt, graphOf, admitted}
+use Rattle.cfg.specs.Table.{blockAt, graphOf, admittedGraph}
 use Rattle.cfg.proofs.Admitted.{admitted-facts, ValidEnding, block-below, registers-are, blocks-length}
-use Rattle.fsmd.specs.Layout.{maxBlocks, none}
+use Rattle.fsmd.specs.Layout.{maxBlocks, absent}
 use Rattle.fsmd.specs.Machine.{State}
 use Rattle.grouping.specs.Grouping.{Groups}
 use Rattle.grouping.proofs.Reach.{Closed, admitted-closed}
 use Rattle.grouping.proofs.GroupingLaws.{Grouped}
 use Rattle.placement.specs.Placement.{order}
-use Rattle.state.specs.Wires.{Build, Point, put, build, stateOf}
+use Rattle.state.specs.Wires.{StateBuild, BlockBuild, put, build, stateMade}
 use Rattle.state.specs.Making.{Aims, Placeable, putBlock}
 use Rattle.state.specs.BlocksMaking.{buildBlocks, nothing, AllPlaceable, stateBlocks}
 use Rattle.placement.proofs.PlacementLaws.{order-length, placed}
 use Rattle.placement.proofs.PlacedOrder.{members-few}
 
 -- a state's end: its wires, its next state and its next registers
-abbrev pub pointOf : State → Point
+abbrev pub pointOf : State → BlockBuild
 pointOf q = record { arrival = q .next; values = q .nextRegisters; wires = q .wires }
 
 module _ (t : List ℕ) (s : Groups) where
-  put-alike : (x : ℕ) → x < getD t 0 0 → (b : Build) → putBlock (getD t 1 0) (mem x (s .starters)) (blockAt t x) x b ≡ put (graphOf t) s x b
+  put-alike : (x : ℕ) → x < getD t 0 0 → (b : StateBuild) → putBlock (getD t 1 0) (mem x (s .starters)) (blockAt t x) x b ≡ put (graphOf t) s x b
   unfolding putBlock put
   put-alike x h b =
       ap (λ (r : ℕ). putBlock r (mem x (s .starters)) (blockAt t x) x b) (sym (registers-are t))
       ∙ ap (λ (k : Block). putBlock (graphOf t .registers) (mem x (s .starters)) k x b) (sym (block-below t x h))
 
-  build-alike : (xs : List ℕ) → ((x : ℕ) → In x xs → x < getD t 0 0) → (b : Build) → buildBlocks (getD t 1 0) t (s .starters) xs b ≡ build (graphOf t) s xs b
+  build-alike : (xs : List ℕ) → ((x : ℕ) → In x xs → x < getD t 0 0) → (b : StateBuild) → buildBlocks (getD t 1 0) t (s .starters) xs b ≡ build (graphOf t) s xs b
   unfolding buildBlocks build
   build-alike [] f b = refl
   build-alike (x ∷ xs) f b =
       ap (buildBlocks (getD t 1 0) t (s .starters) xs) (put-alike x (f x (inl refl)) b) ∙ build-alike xs (λ y i. f y (inr i)) (put (graphOf t) s x b)
 
   state-alike : (k : ℕ) → ((x : ℕ) → In x (order (graphOf t) s k) → x < getD t 0 0)
-      → stateBlocks (getD t 1 0) t (s .starters) (s .states) (order (graphOf t) s k) ≡ pointOf (stateOf (graphOf t) s k)
-  unfolding stateBlocks stateOf
+      → stateBlocks (getD t 1 0) t (s .starters) (s .states) (order (graphOf t) s k) ≡ pointOf (stateMade (graphOf t) s k)
+  unfolding stateBlocks stateMade
   state-alike k f = rw (build-alike (order (graphOf t) s k) f nothing) refl
 
 aims : (b r : ℕ) (e : Ending) → b ≤ maxBlocks → ValidEnding b r e → Aims e
@@ -58,7 +58,7 @@ count-is : (t : List ℕ) (x : ℕ) → blockAt t x .count ≡ getD t (blockOffs
 unfolding blockAt
 count-is t x = refl
 
-module _ (t : List ℕ) (a : admitted t ≡ true) (s : Groups) (G : Grouped (graphOf t) s) (k : ℕ) (below : k < length (s .starters)) where
+module _ (t : List ℕ) (a : admittedGraph t ≡ true) (s : Groups) (G : Grouped (graphOf t) s) (k : ℕ) (below : k < length (s .starters)) where
   closed : Closed (graphOf t)
   closed = admitted-closed t a
 
@@ -74,7 +74,7 @@ module _ (t : List ℕ) (a : admitted t ≡ true) (s : Groups) (G : Grouped (gra
           let f = closed .few-blocks in
           let n = G .few-states in
           let m = placed (graphOf t) closed s G k below .mine x i in
-          let d : getD (s .states) x none ≡ none = List·getD-eq-default (s .states) none {n = x} (omega arith) in
+          let d : getD (s .states) x absent ≡ absent = List·getD-eq-default (s .states) absent {n = x} (omega arith) in
           absurd (omega arith)
 
   pub all-placeable : (xs : List ℕ) → xs ≡ order (graphOf t) s k → AllPlaceable t xs
@@ -92,5 +92,5 @@ module _ (t : List ℕ) (a : admitted t ≡ true) (s : Groups) (G : Grouped (gra
           record { known = omega arith; whole = d .long; short = omega arith; aims = aims (getD t 0 0) (getD t 1 0) (blockAt t x .ending) b (v .ended) }
 
   pub state-is : (r : ℕ) (starters states xs : List ℕ) → r ≡ getD t 1 0 → starters ≡ s .starters → states ≡ s .states → xs ≡ order (graphOf t) s k
-      → stateBlocks r t starters states xs ≡ pointOf (stateOf (graphOf t) s k)
+      → stateBlocks r t starters states xs ≡ pointOf (stateMade (graphOf t) s k)
   state-is r starters states xs e f g h = rw (e, f, g, h) (state-alike t s k block-low)

@@ -9,9 +9,9 @@ use lib.Seq.{take-all, length-take-le, drop-drop, sets, sets-eq}
 use Rattle.runs.specs.Lists.{padded, concatMap}
 use Rattle.runs.proofs.ListLaws.{padded-append}
 use Rattle.cfg.specs.Layout.{graphWords}
-use Rattle.cfg.specs.Table.{graphOf, admitted}
+use Rattle.cfg.specs.Table.{graphOf, admittedGraph}
 use Rattle.cfg.proofs.Admitted.{admitted-facts, valid-graph, admitted-halves, registers-are}
-use Rattle.fsmd.specs.Layout.{maxStates, maxRegisters, maxWires, wireWords, recordsOffset, recordOffset, wireOffset, none}
+use Rattle.fsmd.specs.Layout.{maxStates, maxRegisters, maxWires, wireWords, recordsOffset, recordOffset, wireOffset, absent}
 use Rattle.fsmd.specs.declared.Wire.{Wire}
 use Rattle.fsmd.specs.Machine.{State, wireCount}
 use Rattle.fsmd.specs.Table.{wireWordsOf, recordOf}
@@ -19,7 +19,7 @@ use Rattle.fsmd.proofs.WrittenTable.{length-wordsOf}
 use Rattle.grouping.specs.Grouping.{Groups}
 use Rattle.grouping.proofs.Reach.{admitted-closed}
 use Rattle.grouping.proofs.GroupingLaws.{Grouped}
-use Rattle.state.specs.Wires.{Point}
+use Rattle.state.specs.Wires.{BlockBuild}
 use Rattle.state.specs.Making.{wiresIn, stored, Room, Held, GroupedBytes}
 use Rattle.state.proofs.StoredWires.{length-wiresIn}
 use Rattle.synthesis.specs.StateWords.{withStates, firstStates, Filled, Prepared}
@@ -30,16 +30,16 @@ use Rattle.synthesis.proofs.MachineTable.{nth, first-more, first-length
 
 module _ (q : State) (old new : List ℕ) (next : ℕ) (values : List ℕ) (n : ℕ) (h : Held (pointOf q) old next values n new) where
   its-wires : wiresIn n new ≡ q .wires
-  its-wires = ap (λ (p : Point). p .wires) (h .point)
+  its-wires = ap (λ (p : BlockBuild). p .wires) (h .point)
 
   pub its-count : n ≡ length (q .wires)
   its-count = sym (length-wiresIn n new) ∙ ap length its-wires
 
   pub its-next : next ≡ q .next
-  its-next = ap (λ (p : Point). p .arrival) (h .point)
+  its-next = ap (λ (p : BlockBuild). p .arrival) (h .point)
 
   pub its-registers : values ≡ q .nextRegisters
-  its-registers = ap (λ (p : Point). p .values) (h .point)
+  its-registers = ap (λ (p : BlockBuild). p .values) (h .point)
 
   -- the words behind those before it
   its-words : (table : List ℕ) (at : ℕ) → old ≡ drop at table → at + wireWords * length (q .wires) ≤ length table → take at table ++ new ≡ sets table at (concatMap wireWordsOf (q .wires))
@@ -58,7 +58,7 @@ registers-padded r values rest regs m l h k e t z =
     let n : maxRegisters - r ≡ maxRegisters - length regs = omega arith in
     ap (λ (x : List ℕ). x ++ rest) v ∙ ap (λ (x : List ℕ). regs ++ x) (z ∙ ap (λ (i : ℕ). replicate {A = ℕ} i 0) n) ∙ sym (padded-append maxRegisters 0 regs (omega arith))
 
-module _ (t : List ℕ) (a : admitted t ≡ true) (s : Groups) (G : Grouped (graphOf t) s) (table : List ℕ) (k first : ℕ) (f : Filled t s table k first) (below : k < length (s .starters)) where
+module _ (t : List ℕ) (a : admittedGraph t ≡ true) (s : Groups) (G : Grouped (graphOf t) s) (table : List ℕ) (k first : ℕ) (f : Filled t s table k first) (below : k < length (s .starters)) where
   pub put-room : first + length (nth t s k .wires) ≤ maxWires
   put-room = let r = first-room t a s G k below in let p = f .passed in omega arith
 
@@ -101,7 +101,7 @@ groups-held t s G edges starts starters states p =
     let m = G .all-blocks in
     let e = ap length (p .its-starters) in
     let f = ap length (p .its-states) in
-    record { owned = λ k h. rw (p .its-states, p .its-starters) (G .starter-home k none (omega arith)); few = omega arith; known = omega arith }
+    record { owned = λ k h. rw (p .its-states, p .its-starters) (G .starter-home k absent (omega arith)); few = omega arith; known = omega arith }
 
 pub drop-zeros : (r n : ℕ) → r ≤ n → drop r (replicate {A = ℕ} n 0) ≡ replicate (n - r) 0
 drop-zeros zero n h = let e : n - 0 ≡ n = omega arith in rw e refl
@@ -134,18 +134,18 @@ module _ (t : List ℕ) (s : Groups) (G : Grouped (graphOf t) s) (edges starts s
   pub rest-of : take (length table - (wireOffset first)) (drop (wireOffset first) table) ≡ drop (wireOffset first) table
   rest-of = take-all (length table - (wireOffset first)) (drop (wireOffset first) table) (let l = length-drop (wireOffset first) table in omega arith)
 
-  pub room-for : (point : Point) → point ≡ pointOf (nth t s k) → Room (length (point .wires)) (take (length table - (wireOffset first)) (drop (wireOffset first) table))
+  pub room-for : (point : BlockBuild) → point ≡ pointOf (nth t s k) → Room (length (point .wires)) (take (length table - (wireOffset first)) (drop (wireOffset first) table))
   room-for point is =
-      let e : length (point .wires) ≡ length (nth t s k .wires) = ap (λ (x : Point). length (x .wires)) is in
+      let e : length (point .wires) ≡ length (nth t s k .wires) = ap (λ (x : BlockBuild). length (x .wires)) is in
       let r = put-room t (p .admits) s G table k first f below in
       let l = ap length rest-of ∙ length-drop (wireOffset first) table in
       let a = f .all in
       record { fits = omega arith; few = omega arith }
 
-  module _ (point : Point) (is : point ≡ pointOf (nth t s k)) (new values : List ℕ) (m n next : ℕ) (h : Held point (take (length table - (wireOffset first)) (drop (wireOffset first) table)) next (take m values) n new)
+  module _ (point : BlockBuild) (is : point ≡ pointOf (nth t s k)) (new values : List ℕ) (m n next : ℕ) (h : Held point (take (length table - (wireOffset first)) (drop (wireOffset first) table)) next (take m values) n new)
       (as-many : length values ≡ getD t 1 0) (m-low : m ≤ getD t 1 0) where
     held : Held (pointOf (nth t s k)) (drop (wireOffset first) table) next (take m values) n new
-    held = subst (λ (l : List ℕ). Held (pointOf (nth t s k)) l next (take m values) n new) rest-of (subst (λ (x : Point). Held x (take (length table - (wireOffset first)) (drop (wireOffset first) table)) next (take m values) n new) is h)
+    held = subst (λ (l : List ℕ). Held (pointOf (nth t s k)) l next (take m values) n new) rest-of (subst (λ (x : BlockBuild). Held x (take (length table - (wireOffset first)) (drop (wireOffset first) table)) next (take m values) n new) is h)
 
     pub made-low : first + n ≤ maxWires
     made-low = let r = put-room t (p .admits) s G table k first f below in let c = its-count (nth t s k) (drop (wireOffset first) table) new next (take m values) n held in omega arith

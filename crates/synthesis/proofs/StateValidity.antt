@@ -7,14 +7,14 @@ use mathlib.Core.Logic.{inr}
 use mathlib.Core.Bool.{Bool, true, false, not, _&&_}
 use mathlib.Core.List.{List, [], _∷_, _++_}
 use lib.ListN.{length, getD, length-append, length-set}
-use Rattle.word.specs.Word.{codeOf as comparisonCode}
+use Rattle.word.specs.Word.{comparisonCode}
 use Rattle.runs.specs.Lists.{upFrom, mem, keep, every}
 use Rattle.runs.specs.Runs.{Place}
 use Rattle.runs.proofs.ListLaws.{length-upFrom, and-both}
 use Rattle.cfg.specs.declared.Instruction.{Instruction}
 use Rattle.cfg.specs.declared.Ending.{Ending}
 use Rattle.cfg.specs.declared.Ending.the-variants.{Goto, Ite, Halt}
-use Rattle.cfg.specs.Graph.{CFG, blockOf, codeOf}
+use Rattle.cfg.specs.Graph.{CFG, blockOf, instructionsOf}
 use Rattle.cfg.proofs.Admitted.{ValidInstruction}
 use Rattle.fsmd.specs.Layout.{maxRegisters}
 use Rattle.fsmd.specs.declared.Wire.{Wire}
@@ -26,8 +26,8 @@ use Rattle.state.proofs.AssignLaws.{grow-assigns}
 use Rattle.state.proofs.BlocksLaws.{grow-enter}
 use Rattle.state.proofs.JoinLaws.{grow-join}
 use Rattle.state.proofs.Selections.{length-selects}
-use Rattle.state.specs.Wires.{wire, set-wire, and-wire, or-wire, and-not-wire, select-wire, selects, Edge, Point, Build, fresh, join, joins, arrive, start}
-use Rattle.state.specs.Wires.{instructionWire, assign, assigns, close, leadsTo, towards, enter, after, put, build, leaves, nextStateOf, exit, exits, closeState, stateOf}
+use Rattle.state.specs.Wires.{wire, set-wire, and-wire, or-wire, and-not-wire, select-wire, selects, Edge, BlockBuild, StateBuild, fresh, join, joins, arrive, startBlock}
+use Rattle.state.specs.Wires.{instructionWire, assign, assigns, close, leadsTo, towards, enter, after, put, build, leaves, nextStateOf, exit, exits, closeState, stateMade}
 use Rattle.synthesis.proofs.GraphFacts.{ValidCode, Compares, BlockFits, GraphFits}
 use Rattle.placement.proofs.StateOrder.{StateOrder}
 use Rattle.synthesis.proofs.FoundEdges.{exit-found}
@@ -35,7 +35,7 @@ use Rattle.synthesis.proofs.WireValidity.{Reference, References, refere
 
 -- ---- points, edges and builds
 
-pub record PointValid (R : ℕ) (p : Point) : Type 0 where
+pub record PointValid (R : ℕ) (p : BlockBuild) : Type 0 where
   pub arrives : Reference R (length (p .wires)) (p .arrival)
   pub count : length (p .values) ≡ R
   pub reads : References R (length (p .wires)) (p .values)
@@ -51,7 +51,7 @@ abbrev pub EdgesValid : ℕ → ℕ → List Edge → Type 0
 EdgesValid R n [] = Unit {0}
 EdgesValid R n (e ∷ es) = EdgeValid R n e × EdgesValid R n es
 
-pub record BuildValid (R : ℕ) (b : Build) : Type 0 where
+pub record BuildValid (R : ℕ) (b : StateBuild) : Type 0 where
   pub wired : validWires R 0 (b .wires) ≡ true
   pub joined : EdgesValid R (length (b .wires)) (b .edges)
 
@@ -76,7 +76,7 @@ edges-towards R n p (e ∷ es) a = go (p (e .target)) (edges-towards R n p es (a
 
 -- ---- each step of the builder
 
-join-valid : (R : ℕ) (e : Edge) (p : Point) → EdgeValid R (length (p .wires)) e → PointValid R p → PointValid R (join e p)
+join-valid : (R : ℕ) (e : Edge) (p : BlockBuild) → EdgeValid R (length (p .wires)) e → PointValid R p → PointValid R (join e p)
 unfolding join
 join-valid R e p a b =
     let n = length (p .wires) in
@@ -92,7 +92,7 @@ join-valid R e p a b =
           (selects-valid R n (suc n) (e .taken) (e .values) (p .values) (omega arith) (a .takes) (a .reads) (b .reads))));
     }
 
-joins-valid : (R : ℕ) (es : List Edge) (p : Point) → EdgesValid R (length (p .wires)) es → PointValid R p → PointValid R (joins es p)
+joins-valid : (R : ℕ) (es : List Edge) (p : BlockBuild) → EdgesValid R (length (p .wires)) es → PointValid R p → PointValid R (joins es p)
 unfolding joins
 joins-valid R [] p a b = b
 joins-valid R (e ∷ es) p a b =
@@ -116,13 +116,13 @@ arrive-valid R (e ∷ es) ws a b =
     joins-valid R es (record { arrival = e .taken; values = e .values; wires = ws }) (a .1)
     (record { arrives = a .0 .takes; count = a .0 .count; reads = a .0 .reads; wired = b })
 
-enter-valid : (R : ℕ) (c : Bool) (x : ℕ) (b : Build) → BuildValid R b → PointValid R (enter R c x b)
-unfolding enter start
+enter-valid : (R : ℕ) (c : Bool) (x : ℕ) (b : StateBuild) → BuildValid R b → PointValid R (enter R c x b)
+unfolding enter startBlock
 enter-valid R true x b v = set-point R (b .wires) 1 (v .wired)
 enter-valid R false x b v =
     arrive-valid R (towards (leadsTo x) (b .edges)) (b .wires) (edges-towards R (length (b .wires)) (leadsTo x) (b .edges) (v .joined)) (v .wired)
 
-assign-valid : (R : ℕ) (i : Instruction) (p : Point) → ValidInstruction R i → PointValid R p → PointValid R (assign i p)
+assign-valid : (R : ℕ) (i : Instruction) (p : BlockBuild) → ValidInstruction R i → PointValid R p → PointValid R (assign i p)
 unfolding assign
 assign-valid R i p v a =
     let n = length (p .wires) in
@@ -136,12 +136,12 @@ assign-valid R i p v a =
       wired = one-wire R 0 (p .wires) w (a .wired) (rw zero-add (instruction-valid R n (p .values) i (a .count) (a .reads) v));
     }
 
-assigns-valid : (R : ℕ) (is : List Instruction) (p : Point) → ValidCode R is → PointValid R p → PointValid R (assigns is p)
+assigns-valid : (R : ℕ) (is : List Instruction) (p : BlockBuild) → ValidCode R is → PointValid R p → PointValid R (assigns is p)
 unfolding assigns
 assigns-valid R [] p f a = a
 assigns-valid R (i ∷ is) p f a = assigns-valid R is (assign i p) (f .1) (assign-valid R i p (f .0) a)
 
-close-valid : (R : ℕ) (e : Ending) (p : Point) → Compares R e → PointValid R p → BuildValid R (close e p)
+close-valid : (R : ℕ) (e : Ending) (p : BlockBuild) → Compares R e → PointValid R p → BuildValid R (close e p)
 unfolding close
 close-valid R (Goto t) p f a = record { wired = a .wired; joined = (record { takes = a .arrives; count = a .count; reads = a .reads }, tt) }
 close-valid R (Ite c t f) p h a =
@@ -169,25 +169,25 @@ close-valid R (Ite c t f) p h a =
     }
 close-valid R Halt p f a = record { wired = a .wired; joined = (record { takes = a .arrives; count = a .count; reads = a .reads }, tt) }
 
-pub put-valid : (g : CFG) (s : Groups) (x : ℕ) (b : Build) → BlockFits (g .registers) (blockOf g x) → BuildValid (g .registers) b → BuildValid (g .registers) (put g s x b)
+pub put-valid : (g : CFG) (s : Groups) (x : ℕ) (b : StateBuild) → BlockFits (g .registers) (blockOf g x) → BuildValid (g .registers) b → BuildValid (g .registers) (put g s x b)
 unfolding put after
 put-valid g s x b f v =
     let R = g .registers in
     let p = enter R (mem x (s .starters)) x b in
-    let q = assigns (codeOf (blockOf g x)) p in
+    let q = assigns (instructionsOf (blockOf g x)) p in
     let z = close (blockOf g x .ending) q in
     let rest = towards (λ p. not (leadsTo x p)) (b .edges) in
-    let e = close-valid R (blockOf g x .ending) q (f .ends) (assigns-valid R (codeOf (blockOf g x)) p (f .body) (enter-valid R (mem x (s .starters)) x b v)) in
+    let e = close-valid R (blockOf g x .ending) q (f .ends) (assigns-valid R (instructionsOf (blockOf g x)) p (f .body) (enter-valid R (mem x (s .starters)) x b v)) in
     record {
       wired = e .wired;
       joined = edges-append R (length (z .wires)) rest (z .edges)
           (edges-more R (length (b .wires)) (length (z .wires)) rest
-          (omega (arith, grow-enter R (mem x (s .starters)) x b, grow-assigns (codeOf (blockOf g x)) p, grow-close (blockOf g x .ending) q))
+          (omega (arith, grow-enter R (mem x (s .starters)) x b, grow-assigns (instructionsOf (blockOf g x)) p, grow-close (blockOf g x .ending) q))
           (edges-towards R (length (b .wires)) (λ p. not (leadsTo x p)) (b .edges) (v .joined)))
           (e .joined);
     }
 
-pub build-valid : (g : CFG) (s : Groups) → GraphFits g → (xs : List ℕ) (b : Build) → BuildValid (g .registers) b → BuildValid (g .registers) (build g s xs b)
+pub build-valid : (g : CFG) (s : Groups) → GraphFits g → (xs : List ℕ) (b : StateBuild) → BuildValid (g .registers) b → BuildValid (g .registers) (build g s xs b)
 unfolding build
 build-valid g s f [] b v = v
 build-valid g s f (x ∷ xs) b v = build-valid g s f xs (put g s x b) (put-valid g s x b (f .block x) v)
@@ -197,7 +197,7 @@ empty-valid R = record { wired = no-wires R 0; joined = tt }
 
 -- ---- the exits
 
-exit-valid : (R : ℕ) (s : Groups) (e : Edge) (p : Point) → EdgeValid R (length (p .wires)) e → PointValid R p → PointValid R (exit s e p)
+exit-valid : (R : ℕ) (s : Groups) (e : Edge) (p : BlockBuild) → EdgeValid R (length (p .wires)) e → PointValid R p → PointValid R (exit s e p)
 unfolding exit
 exit-valid R s e p a b =
     let n = length (p .wires) in
@@ -219,12 +219,12 @@ exit-valid R s e p a b =
           (selects-valid R n (suc (suc n)) (e .taken) (e .values) (p .values) (omega arith) (a .takes) (a .reads) (b .reads)))));
     }
 
-exit-more : (s : Groups) (e : Edge) (p : Point) → length (p .wires) ≤ length (exit s e p .wires)
+exit-more : (s : Groups) (e : Edge) (p : BlockBuild) → length (p .wires) ≤ length (exit s e p .wires)
 unfolding exit
 exit-more s e p =
     omega (arith, length-append (p .wires) (set-wire (nextStateOf s (e .target)) ∷ select-wire (e .taken) (fresh (p .wires)) (p .arrival) ∷ selects (e .taken) (e .values) (p .values)))
 
-exits-valid : (R : ℕ) (s : Groups) (es : List Edge) (p : Point) → EdgesValid R (length (p .wires)) es → PointValid R p → PointValid R (exits s es p)
+exits-valid : (R : ℕ) (s : Groups) (es : List Edge) (p : BlockBuild) → EdgesValid R (length (p .wires)) es → PointValid R p → PointValid R (exits s es p)
 unfolding exits
 exits-valid R s [] p a b = b
 exits-valid R s (e ∷ es) p a b =
@@ -248,11 +248,11 @@ close-state-valid R s e es ws a b =
 -- ---- a state
 
 pub record StateValid (g : CFG) (s : Groups) (k : ℕ) : Type 0 where
-  pub valid : validState (g .registers) (stateOf g s k) ≡ true
-  pub registers : length (stateOf g s k .nextRegisters) ≡ g .registers
+  pub valid : validState (g .registers) (stateMade g s k) ≡ true
+  pub registers : length (stateMade g s k .nextRegisters) ≡ g .registers
 
 pub state-valid : (g : CFG) (s : Groups) (k y : ℕ) → GraphFits g → StateOrder g s k y → StateValid g s k
-unfolding stateOf validState
+unfolding stateMade validState
 state-valid g s k y f o =
     let R = g .registers in
     let b = build g s (order g s k) (record { wires = []; edges = [] }) in

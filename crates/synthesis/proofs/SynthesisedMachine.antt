@@ -9,13 +9,13 @@ use Rattle.runs.proofs.ListLaws.{length-upFrom, getD-map-upFrom}
 use Rattle.runs.proofs.Sets.{In→mem, getD-in}
 use Rattle.cfg.specs.Graph.{CFG}
 use Rattle.cfg.proofs.Admitted.{ValidGraph}
-use Rattle.fsmd.specs.Layout.{maxStates, maxBlocks, maxRegisters, maxWires, none}
+use Rattle.fsmd.specs.Layout.{maxStates, maxBlocks, maxRegisters, maxWires, absent}
 use Rattle.fsmd.specs.Machine.{FSMD, emptyState, stateOf as stateAt, wireCount}
 use Rattle.fsmd.specs.Table.{validState}
 use Rattle.grouping.specs.Grouping.{Groups, groups}
 use Rattle.grouping.proofs.Reach.{valid-closed}
 use Rattle.grouping.proofs.GroupingLaws.{Grouped, grouped}
-use Rattle.state.specs.Wires.{stateOf}
+use Rattle.state.specs.Wires.{stateMade}
 use Rattle.synthesis.specs.Synthesis.{machineFor, machine}
 use Rattle.synthesis.proofs.GraphFacts.{graph-fits}
 use Rattle.placement.proofs.StateOrder.{StateOrder, arranged}
@@ -27,11 +27,11 @@ use Rattle.synthesis.proofs.WireCount.{machine-count}
 module _ (g : CFG) (s : Groups) where
   pub states-count : length (machineFor g s .states) ≡ length (s .starters)
   unfolding machineFor
-  states-count = length-map (upFrom 0 (length (s .starters))) (stateOf g s) ∙ length-upFrom 0 (length (s .starters))
+  states-count = length-map (upFrom 0 (length (s .starters))) (stateMade g s) ∙ length-upFrom 0 (length (s .starters))
 
-  pub state-at : (k : ℕ) → k < length (s .starters) → stateAt (machineFor g s) k ≡ stateOf g s k
+  pub state-at : (k : ℕ) → k < length (s .starters) → stateAt (machineFor g s) k ≡ stateMade g s k
   unfolding machineFor
-  state-at k h = getD-map-upFrom (stateOf g s) (length (s .starters)) k emptyState h
+  state-at k h = getD-map-upFrom (stateMade g s) (length (s .starters)) k emptyState h
 
   pub registers-are : machineFor g s .registers ≡ g .registers
   unfolding machineFor
@@ -65,13 +65,13 @@ machine-is g = refl
 -- of any finished grouping
 module _ (g : CFG) (v : ValidGraph g) (s : Groups) (G : Grouped g s) where
   -- the blocks of each state, in order
-  state-order : (k : ℕ) → k < length (s .starters) → StateOrder g s k (getD (s .starters) k none)
+  state-order : (k : ℕ) → k < length (s .starters) → StateOrder g s k (getD (s .starters) k absent)
   state-order k h =
-      let b = getD (s .starters) k none in
-      rw (G .starter-home k none h) at (arranged g (valid-closed g v) s G .placed b (In→mem b (s .starters) (getD-in (s .starters) k none h)))
+      let b = getD (s .starters) k absent in
+      rw (G .starter-home k absent h) at (arranged g (valid-closed g v) s G .placed b (In→mem b (s .starters) (getD-in (s .starters) k absent h)))
 
   pub made-valid : (k : ℕ) → k < length (s .starters) → StateValid g s k
-  made-valid k h = state-valid g s k (getD (s .starters) k none) (graph-fits g v) (state-order k h)
+  made-valid k h = state-valid g s k (getD (s .starters) k absent) (graph-fits g v) (state-order k h)
 
   pub made-fits : MachineFits (machineFor g s)
   made-fits =

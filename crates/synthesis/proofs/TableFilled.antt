@@ -10,10 +10,10 @@ use Rattle.runs.specs.Lists.{padded}
 use Rattle.runs.proofs.ListLaws.{length-padded}
 use Rattle.runs.proofs.Sets.{getD-in}
 use Rattle.cfg.specs.Layout.{graphWords}
-use Rattle.cfg.specs.Table.{graphOf, admitted}
+use Rattle.cfg.specs.Table.{graphOf, admittedGraph}
 use Rattle.cfg.proofs.Admitted.{admitted-facts, blocks-length, registers-are}
-use Rattle.fsmd.specs.Layout.{maxStates, maxBlocks, recordsOffset, machineWords, none}
-use Rattle.fsmd.specs.Table.{tableOf}
+use Rattle.fsmd.specs.Layout.{maxStates, maxBlocks, recordsOffset, machineWords, absent}
+use Rattle.fsmd.specs.Table.{machineTableOf}
 use Rattle.grouping.specs.declared.Grouping.{Grouping}
 use Rattle.grouping.specs.Grouping.{Groups}
 use Rattle.grouping.specs.Answer.{answerOf}
@@ -40,7 +40,7 @@ pub record GroupsListed (t : List ℕ) (s : Groups) (r : Grouping) : Type 0 wher
   pub low : (i : ℕ) → i < length (take (r .count) (r .starters)) → getD (take (r .count) (r .starters)) i 0 < maxBlocks
 
 -- of any finished grouping
-module _ (t : List ℕ) (a : admitted t ≡ true) (s : Groups) (G : Grouped (graphOf t) s) (r : Grouping) (e : r ≡ answerOf s) where
+module _ (t : List ℕ) (a : admittedGraph t ≡ true) (s : Groups) (G : Grouped (graphOf t) s) (r : Grouping) (e : r ≡ answerOf s) where
   closed : Closed (graphOf t)
   closed = admitted-closed t a
 
@@ -50,7 +50,7 @@ module _ (t : List ℕ) (a : admitted t ≡ true) (s : Groups) (G : Grouped (gra
   r-starters : r .starters ≡ padded maxStates 0 (s .starters)
   r-starters = ap (λ (x : Grouping). x .starters) e
 
-  r-states : r .states ≡ padded maxBlocks none (s .states)
+  r-states : r .states ≡ padded maxBlocks absent (s .states)
   r-states = ap (λ (x : Grouping). x .states) e
 
   few : length (s .starters) ≤ maxStates
@@ -75,13 +75,13 @@ module _ (t : List ℕ) (a : admitted t ≡ true) (s : Groups) (G : Grouped (gra
       let n = d .fewBlocks in
       record {
         starters-64 = ap length r-starters ∙ length-padded maxStates 0 (s .starters);
-        states-64 = ap length r-states ∙ length-padded maxBlocks none (s .states);
+        states-64 = ap length r-states ∙ length-padded maxBlocks absent (s .states);
         few-states = let f = few in let c = r-count in omega arith;
         few-blocks = d .fewBlocks;
         long = d .long;
         counted = r-count;
         starters = listed;
-        states = ap (take (getD t 0 0)) r-states ∙ take-padded maxBlocks none (s .states) (getD t 0 0) (let z = states-are in omega arith) states-are;
+        states = ap (take (getD t 0 0)) r-states ∙ take-padded maxBlocks absent (s .states) (getD t 0 0) (let z = states-are in omega arith) states-are;
         low = λ i h. rw listed (starter-low i (rw listed at h));
       }
 
@@ -93,7 +93,7 @@ module _ (t : List ℕ) (a : admitted t ≡ true) (s : Groups) (G : Grouped (gra
       filled-none t s table (r .count ∷ getD t 1 0 ∷ (r .starters ++ r .states)) l (omega (arith, length-append (r .starters) (r .states), g .starters-64, g .states-64)) f
 
   pub table-filled : (table last : List ℕ) → length table ≡ machineWords → table ≡ withStates (r .count ∷ getD t 1 0 ∷ (r .starters ++ r .states)) []
-      → last ≡ withStates (take recordsOffset table) (firstStates t s (length (take (r .count) (r .starters)))) → last ≡ tableOf (machineFor (graphOf t) s)
+      → last ≡ withStates (take recordsOffset table) (firstStates t s (length (take (r .count) (r .starters)))) → last ≡ machineTableOf (machineFor (graphOf t) s)
   table-filled table last l f g =
       let n : length (take (r .count) (r .starters)) ≡ r .count = ap length listed ∙ sym r-count in
       g
@@ -120,9 +120,9 @@ module _ (t m : List ℕ) where
   unfolding synthesisAnswer
   short-machine h l = refused-with 7 (rw (le-ltb (length t) graphWords h, lt-ltb (length m) machineWords l) refl)
 
-  pub not-admitted : graphWords ≤ length t → machineWords ≤ length m → admitted t ≡ false → Both (Refused 6) m
+  pub not-admitted : graphWords ≤ length t → machineWords ≤ length m → admittedGraph t ≡ false → Both (Refused 6) m
   unfolding synthesisAnswer
   not-admitted h l e = refused-with 6 (rw (le-ltb (length t) graphWords h, le-ltb (length m) machineWords l, e) refl)
 
-  pub machine-made : machineWords ≤ length m → admitted t ≡ true → (w : List ℕ) → w ≡ tableOf (machine (graphOf t)) → Both Made (w ++ drop machineWords m)
+  pub machine-made : machineWords ≤ length m → admittedGraph t ≡ true → (w : List ℕ) → w ≡ machineTableOf (machine (graphOf t)) → Both Made (w ++ drop machineWords m)
   machine-made l e w f = let d = admitted-made t m e l in (sym d, ap (λ (x : List ℕ). x ++ drop machineWords m) f ∙ sym (made-words t m d))

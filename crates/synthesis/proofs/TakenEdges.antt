@@ -13,12 +13,12 @@ use Rattle.cfg.specs.declared.Condition.{Condition}
 use Rattle.cfg.specs.declared.Ending.{Ending}
 use Rattle.cfg.specs.declared.Ending.the-variants.{Goto, Ite, Halt}
 use Rattle.cfg.specs.declared.Block.{Block}
-use Rattle.cfg.specs.Graph.{codeOf, executeAll, holds, leave, runBlock}
+use Rattle.cfg.specs.Graph.{instructionsOf, executeAll, holds, leave, runBlock}
 use Rattle.fsmd.specs.Layout.{maxRegisters}
 use Rattle.fsmd.specs.declared.Wire.{Wire}
 use Rattle.fsmd.specs.Machine.{worked}
 use Rattle.grouping.specs.Grouping.{Groups}
-use Rattle.state.specs.Wires.{set-wire, Edge, Point, Build, fresh, join, joins, arrive}
+use Rattle.state.specs.Wires.{set-wire, Edge, BlockBuild, StateBuild, fresh, join, joins, arrive}
 use Rattle.state.specs.Wires.{assign, assigns, edge, close, towards, after, exit, exits, closeState, nextStateOf}
 use Rattle.synthesis.proofs.GraphFacts.{ValidCode, Compares, BlockFits}
 use Rattle.synthesis.proofs.WireValues.{set-value}
@@ -91,28 +91,28 @@ module _ (R : ℕ) (high : List ℕ) (E : List ℕ) where
 -- ---- a block's arrival and body
 
 module _ (sampled : ℕ) (rs : List ℕ) (size : length rs ≡ maxRegisters) (R : ℕ) where
-  join-grow : (e : Edge) (p : Point) → Grows (worked sampled rs (p .wires)) (worked sampled rs (join e p .wires))
+  join-grow : (e : Edge) (p : BlockBuild) → Grows (worked sampled rs (p .wires)) (worked sampled rs (join e p .wires))
   unfolding join
   join-grow e p = wires-grow sampled rs (p .wires) _
 
-  joins-grow : (es : List Edge) (p : Point) → Grows (worked sampled rs (p .wires)) (worked sampled rs (joins es p .wires))
+  joins-grow : (es : List Edge) (p : BlockBuild) → Grows (worked sampled rs (p .wires)) (worked sampled rs (joins es p .wires))
   unfolding joins
   joins-grow [] p = grows-refl (worked sampled rs (p .wires))
   joins-grow (e ∷ es) p =
       grows-trans (worked sampled rs (p .wires)) (worked sampled rs (join e p .wires)) (worked sampled rs (joins es (join e p) .wires)) (join-grow e p) (joins-grow es (join e p))
 
-  join-none : (e : Edge) (p : Point) (s : Bool) {q : List ℕ} → NotTaken R (drop R rs) (worked sampled rs (p .wires)) e → PointReads sampled rs R p (truth s) q
+  join-none : (e : Edge) (p : BlockBuild) (s : Bool) {q : List ℕ} → NotTaken R (drop R rs) (worked sampled rs (p .wires)) e → PointReads sampled rs R p (truth s) q
       → PointReads sampled rs R (join e p) (truth s) q
   join-none e p s {q} o l = rw (or-false s) at (join-reads sampled rs size R e p s false l (o .1))
 
-  joins-none : (es : List Edge) (p : Point) (s : Bool) {q : List ℕ} → NoneTaken R (drop R rs) (worked sampled rs (p .wires)) es → PointReads sampled rs R p (truth s) q
+  joins-none : (es : List Edge) (p : BlockBuild) (s : Bool) {q : List ℕ} → NoneTaken R (drop R rs) (worked sampled rs (p .wires)) es → PointReads sampled rs R p (truth s) q
       → PointReads sampled rs R (joins es p) (truth s) q
   unfolding joins
   joins-none [] p s n l = l
   joins-none (e ∷ es) p s n l =
       joins-none es (join e p) s (none-grow R (drop R rs) (worked sampled rs (p .wires)) (worked sampled rs (join e p .wires)) (join-grow e p) es (n .1)) (join-none e p s (n .0) l)
 
-  joins-one : (es : List Edge) (p : Point) (c : Moved) {q : List ℕ} → OneTaken R (drop R rs) (worked sampled rs (p .wires)) c es → PointReads sampled rs R p 0 q
+  joins-one : (es : List Edge) (p : BlockBuild) (c : Moved) {q : List ℕ} → OneTaken R (drop R rs) (worked sampled rs (p .wires)) c es → PointReads sampled rs R p 0 q
       → PointReads sampled rs R (joins es p) 1 (c .registers)
   unfolding joins
   joins-one [] p c o l = absurd o
@@ -138,49 +138,49 @@ module _ (sampled : ℕ) (rs : List ℕ) (size : length rs ≡ maxRegisters) (R 
   arrive-one (e ∷ es) ws c (inl o) = joins-none es (record { arrival = e .taken; values = e .values; wires = ws }) true (o .1) (o .0 .1)
   arrive-one (e ∷ es) ws c (inr o) = joins-one es (record { arrival = e .taken; values = e .values; wires = ws }) c (o .1) (o .0 .1)
 
-  assign-grow : (i : Instruction) (p : Point) → Grows (worked sampled rs (p .wires)) (worked sampled rs (assign i p .wires))
+  assign-grow : (i : Instruction) (p : BlockBuild) → Grows (worked sampled rs (p .wires)) (worked sampled rs (assign i p .wires))
   unfolding assign
   assign-grow i p = wires-grow sampled rs (p .wires) _
 
-  assigns-grow : (is : List Instruction) (p : Point) → Grows (worked sampled rs (p .wires)) (worked sampled rs (assigns is p .wires))
+  assigns-grow : (is : List Instruction) (p : BlockBuild) → Grows (worked sampled rs (p .wires)) (worked sampled rs (assigns is p .wires))
   unfolding assigns
   assigns-grow [] p = grows-refl (worked sampled rs (p .wires))
   assigns-grow (i ∷ is) p =
       grows-trans (worked sampled rs (p .wires)) (worked sampled rs (assign i p .wires)) (worked sampled rs (assigns is (assign i p) .wires)) (assign-grow i p) (assigns-grow is (assign i p))
 
-  assigns-reads : (is : List Instruction) (p : Point) {v : ℕ} {q : List ℕ} → ValidCode R is → PointReads sampled rs R p v q → PointReads sampled rs R (assigns is p) v (executeAll sampled is q)
+  assigns-reads : (is : List Instruction) (p : BlockBuild) {v : ℕ} {q : List ℕ} → ValidCode R is → PointReads sampled rs R p v q → PointReads sampled rs R (assigns is p) v (executeAll sampled is q)
   unfolding assigns executeAll
   assigns-reads [] p f l = l
   assigns-reads (i ∷ is) p f l = assigns-reads is (assign i p) (f .1) (assign-reads sampled rs size R i p (f .0) l)
 
   -- ---- a block's ending
 
-  close-grow : (e : Ending) (p : Point) → Grows (worked sampled rs (p .wires)) (worked sampled rs (close e p .wires))
+  close-grow : (e : Ending) (p : BlockBuild) → Grows (worked sampled rs (p .wires)) (worked sampled rs (close e p .wires))
   unfolding close
   close-grow (Goto t) p = grows-refl (worked sampled rs (p .wires))
   close-grow (Ite c t f) p = wires-grow sampled rs (p .wires) _
   close-grow Halt p = grows-refl (worked sampled rs (p .wires))
 
-  ite-reads : (c : Condition) (t f : ℕ) (p : Point) (s : Bool) {q : List ℕ} → c .a < R → c .b < R → PointReads sampled rs R p (truth s) q
+  ite-reads : (c : Condition) (t f : ℕ) (p : BlockBuild) (s : Bool) {q : List ℕ} → c .a < R → c .b < R → PointReads sampled rs R p (truth s) q
       → let n = fresh (p .wires) in
       let E = worked sampled rs (close (Ite c t f) p .wires) in
       Reads R (drop R rs) E (1 + n) (p .values) (truth (s && holds c q)) q × Reads R (drop R rs) E (2 + n) (p .values) (truth (s && not (holds c q))) q
   unfolding close
   ite-reads c t f p s ha hb l = rw (worked-append sampled rs (p .wires), fresh-is sampled rs size (p .wires)) (reads-ite sampled (worked sampled rs (p .wires)) c s ha hb l)
 
-  close-none : (e : Ending) (p : Point) {q : List ℕ} → Compares R e → PointReads sampled rs R p 0 q → NoneTaken R (drop R rs) (worked sampled rs (close e p .wires)) (close e p .edges)
+  close-none : (e : Ending) (p : BlockBuild) {q : List ℕ} → Compares R e → PointReads sampled rs R p 0 q → NoneTaken R (drop R rs) (worked sampled rs (close e p .wires)) (close e p .edges)
   unfolding close
   close-none (Goto t) p {q} f l = ((q, l), tt)
   close-none (Ite c t f) p {q} h l = let m = ite-reads c t f p false (h .0) (h .1) l in ((q, m .0), ((q, m .1), tt))
   close-none Halt p {q} f l = ((q, l), tt)
 
-  ite-one : (E : List ℕ) (b : Bool) (t f t₁ t₂ : ℕ) (p : Point) (q : List ℕ) → Reads R (drop R rs) E t₁ (p .values) (truth b) q
+  ite-one : (E : List ℕ) (b : Bool) (t f t₁ t₂ : ℕ) (p : BlockBuild) (q : List ℕ) → Reads R (drop R rs) E t₁ (p .values) (truth b) q
       → Reads R (drop R rs) E t₂ (p .values) (truth (not b)) q
       → OneTaken R (drop R rs) E (record { place = standing (choose b t f); registers = q }) (edge (standing t) t₁ p ∷ edge (standing f) t₂ p ∷ [])
   ite-one E true t f t₁ t₂ p q l m = inl ((refl, l), ((q, m), tt))
   ite-one E false t f t₁ t₂ p q l m = inr ((q, l), inl ((refl, m), tt))
 
-  close-one : (e : Ending) (p : Point) (q : List ℕ) → Compares R e → PointReads sampled rs R p 1 q
+  close-one : (e : Ending) (p : BlockBuild) (q : List ℕ) → Compares R e → PointReads sampled rs R p 1 q
       → OneTaken R (drop R rs) (worked sampled rs (close e p .wires)) (record { place = leave e q; registers = q }) (close e p .edges)
   unfolding close leave
   close-one (Goto t) p q f l = inl ((refl, l), tt)
@@ -192,53 +192,53 @@ module _ (sampled : ℕ) (rs : List ℕ) (size : length rs ≡ maxRegisters) (R 
 
 -- ---- a whole block, with the edges that it leaves alone
 
-abbrev pub blockMade : Block → Point → Build
-blockMade b p = close (b .ending) (assigns (codeOf b) p)
+abbrev pub blockMade : Block → BlockBuild → StateBuild
+blockMade b p = close (b .ending) (assigns (instructionsOf b) p)
 
 module _ (sampled : ℕ) (rs : List ℕ) (size : length rs ≡ maxRegisters) (R : ℕ) (b : Block) (f : BlockFits R b) where
-  made-grow : (p : Point) → Grows (worked sampled rs (p .wires)) (worked sampled rs (blockMade b p .wires))
+  made-grow : (p : BlockBuild) → Grows (worked sampled rs (p .wires)) (worked sampled rs (blockMade b p .wires))
   made-grow p =
-      grows-trans (worked sampled rs (p .wires)) (worked sampled rs (assigns (codeOf b) p .wires)) (worked sampled rs (blockMade b p .wires))
-      (assigns-grow sampled rs size R (codeOf b) p) (close-grow sampled rs size R (b .ending) (assigns (codeOf b) p))
+      grows-trans (worked sampled rs (p .wires)) (worked sampled rs (assigns (instructionsOf b) p .wires)) (worked sampled rs (blockMade b p .wires))
+      (assigns-grow sampled rs size R (instructionsOf b) p) (close-grow sampled rs size R (b .ending) (assigns (instructionsOf b) p))
 
   -- the taken edge leads to the block: one of the block's own is taken after
-  pub made-reached : (p : Point) (q : List ℕ) (rest : List Edge) → PointReads sampled rs R p 1 q → NoneTaken R (drop R rs) (worked sampled rs (p .wires)) rest
+  pub made-reached : (p : BlockBuild) (q : List ℕ) (rest : List Edge) → PointReads sampled rs R p 1 q → NoneTaken R (drop R rs) (worked sampled rs (p .wires)) rest
       → OneTaken R (drop R rs) (worked sampled rs (after rest (blockMade b p) .wires)) (runBlock sampled b q) (after rest (blockMade b p) .edges)
   unfolding after runBlock
   made-reached p q rest l n =
       none-one R (drop R rs) (worked sampled rs (blockMade b p .wires)) (runBlock sampled b q) rest (blockMade b p .edges)
       (none-grow R (drop R rs) (worked sampled rs (p .wires)) (worked sampled rs (blockMade b p .wires)) (made-grow p) rest n)
-      (close-one sampled rs size R (b .ending) (assigns (codeOf b) p) (executeAll sampled (codeOf b) q) (f .ends) (assigns-reads sampled rs size R (codeOf b) p (f .body) l))
+      (close-one sampled rs size R (b .ending) (assigns (instructionsOf b) p) (executeAll sampled (instructionsOf b) q) (f .ends) (assigns-reads sampled rs size R (instructionsOf b) p (f .body) l))
 
   -- it leads elsewhere: it stays
-  pub made-passed : (p : Point) {q : List ℕ} (c : Moved) (rest : List Edge) → PointReads sampled rs R p 0 q → OneTaken R (drop R rs) (worked sampled rs (p .wires)) c rest
+  pub made-passed : (p : BlockBuild) {q : List ℕ} (c : Moved) (rest : List Edge) → PointReads sampled rs R p 0 q → OneTaken R (drop R rs) (worked sampled rs (p .wires)) c rest
       → OneTaken R (drop R rs) (worked sampled rs (after rest (blockMade b p) .wires)) c (after rest (blockMade b p) .edges)
   unfolding after
   made-passed p c rest l o =
       one-none R (drop R rs) (worked sampled rs (blockMade b p .wires)) c rest (blockMade b p .edges)
       (one-grow R (drop R rs) (worked sampled rs (p .wires)) (worked sampled rs (blockMade b p .wires)) (made-grow p) c rest o)
-      (close-none sampled rs size R (b .ending) (assigns (codeOf b) p) (f .ends) (assigns-reads sampled rs size R (codeOf b) p (f .body) l))
+      (close-none sampled rs size R (b .ending) (assigns (instructionsOf b) p) (f .ends) (assigns-reads sampled rs size R (instructionsOf b) p (f .body) l))
 
 -- ---- the exits
 
 module _ (sampled : ℕ) (rs : List ℕ) (size : length rs ≡ maxRegisters) (R : ℕ) (s : Groups) where
-  exit-grow : (e : Edge) (p : Point) → Grows (worked sampled rs (p .wires)) (worked sampled rs (exit s e p .wires))
+  exit-grow : (e : Edge) (p : BlockBuild) → Grows (worked sampled rs (p .wires)) (worked sampled rs (exit s e p .wires))
   unfolding exit
   exit-grow e p = wires-grow sampled rs (p .wires) _
 
-  exit-reads : (e : Edge) (p : Point) (b : Bool) {v : ℕ} {q q′ : List ℕ} → PointReads sampled rs R p v q
+  exit-reads : (e : Edge) (p : BlockBuild) (b : Bool) {v : ℕ} {q q′ : List ℕ} → PointReads sampled rs R p v q
       → Reads R (drop R rs) (worked sampled rs (p .wires)) (e .taken) (e .values) (truth b) q′
       → PointReads sampled rs R (exit s e p) (choose b (nextStateOf s (e .target)) v) (choose b q′ q)
   unfolding exit
   exit-reads e p b l m = rw (worked-append sampled rs (p .wires), fresh-is sampled rs size (p .wires)) (reads-exit sampled (worked sampled rs (p .wires)) (nextStateOf s (e .target)) b l m)
 
-  exits-none : (es : List Edge) (p : Point) {v : ℕ} {q : List ℕ} → NoneTaken R (drop R rs) (worked sampled rs (p .wires)) es → PointReads sampled rs R p v q → PointReads sampled rs R (exits s es p) v q
+  exits-none : (es : List Edge) (p : BlockBuild) {v : ℕ} {q : List ℕ} → NoneTaken R (drop R rs) (worked sampled rs (p .wires)) es → PointReads sampled rs R p v q → PointReads sampled rs R (exits s es p) v q
   unfolding exits
   exits-none [] p n l = l
   exits-none (e ∷ es) p n l =
       exits-none es (exit s e p) (none-grow R (drop R rs) (worked sampled rs (p .wires)) (worked sampled rs (exit s e p .wires)) (exit-grow e p) es (n .1)) (exit-reads e p false l (n .0 .1))
 
-  exits-one : (es : List Edge) (p : Point) (c : Moved) {v : ℕ} {q : List ℕ} → OneTaken R (drop R rs) (worked sampled rs (p .wires)) c es → PointReads sampled rs R p v q
+  exits-one : (es : List Edge) (p : BlockBuild) (c : Moved) {v : ℕ} {q : List ℕ} → OneTaken R (drop R rs) (worked sampled rs (p .wires)) c es → PointReads sampled rs R p v q
       → PointReads sampled rs R (exits s es p) (nextStateOf s (c .place)) (c .registers)
   unfolding exits
   exits-one [] p c o l = absurd o
@@ -262,10 +262,10 @@ module _ (sampled : ℕ) (rs : List ℕ) (size : length rs ≡ maxRegisters) (R 
   close-state-one [] ws c o = absurd o
   close-state-one (e ∷ es) ws c (inl o) =
       let v = ws ++ (set-wire (nextStateOf s (e .target)) ∷ []) in
-      let p : Point = record { arrival = fresh ws; values = e .values; wires = v } in
+      let p : BlockBuild = record { arrival = fresh ws; values = e .values; wires = v } in
       rw (← o .0 .0) (exits-none es p (none-grow R (drop R rs) (worked sampled rs ws) (worked sampled rs v) (wires-grow sampled rs ws (set-wire (nextStateOf s (e .target)) ∷ [])) es (o .1))
       (first-reads e ws (o .0 .1)))
   close-state-one (e ∷ es) ws c (inr o) =
       let v = ws ++ (set-wire (nextStateOf s (e .target)) ∷ []) in
-      let p : Point = record { arrival = fresh ws; values = e .values; wires = v } in
+      let p : BlockBuild = record { arrival = fresh ws; values = e .values; wires = v } in
       exits-one es p c (one-grow R (drop R rs) (worked sampled rs ws) (worked sampled rs v) (wires-grow sampled rs ws (set-wire (nextStateOf s (e .target)) ∷ [])) c es (o .1)) (first-reads e ws (o .0 .1))

@@ -7,23 +7,23 @@ use mathlib.Core.List.{List, [], _∷_, _++_, map}
 use lib.ListN.{length, getD, length-append}
 use lib.Dec.{eqb, leb}
 use borrow.Author.Tests.{le-leb, lt-leb, leb-true, eqb-true}
-use Rattle.word.specs.Word.{codeOf as comparisonCode}
+use Rattle.word.specs.Word.{comparisonCode}
 use Rattle.runs.specs.Lists.{upFrom, mem, keep, only}
 use Rattle.runs.specs.Runs.{Place}
 use Rattle.runs.proofs.ListLaws.{length-upFrom, length-only}
 use Rattle.cfg.specs.declared.Instruction.{Instruction}
 use Rattle.cfg.specs.declared.Ending.{Ending}
 use Rattle.cfg.specs.declared.Ending.the-variants.{Goto, Ite, Halt}
-use Rattle.cfg.specs.Graph.{CFG, blockOf, codeOf}
+use Rattle.cfg.specs.Graph.{CFG, blockOf, instructionsOf}
 use Rattle.fsmd.specs.declared.Wire.{Wire}
 use Rattle.fsmd.specs.Machine.{wireCount}
-use Rattle.fsmd.specs.Layout.{maxRegisters, maxWires, none}
+use Rattle.fsmd.specs.Layout.{maxRegisters, maxWires, absent}
 use Rattle.grouping.specs.Grouping.{Groups}
 use Rattle.placement.specs.Placement.{members, order}
 use Rattle.synthesis.specs.Synthesis.{machineFor}
 use Rattle.state.proofs.Selections.{selects-short}
-use Rattle.state.specs.Wires.{wire, set-wire, and-wire, or-wire, and-not-wire, select-wire, selects, Edge, Point, Build, fresh, join, joins, arrive, start}
-use Rattle.state.specs.Wires.{instructionWire, assign, assigns, close, leadsTo, towards, enter, after, put, build, leaves, nextStateOf, exit, exits, closeState, stateOf}
+use Rattle.state.specs.Wires.{wire, set-wire, and-wire, or-wire, and-not-wire, select-wire, selects, Edge, BlockBuild, StateBuild, fresh, join, joins, arrive, startBlock}
+use Rattle.state.specs.Wires.{instructionWire, assign, assigns, close, leadsTo, towards, enter, after, put, build, leaves, nextStateOf, exit, exits, closeState, stateMade}
 use Rattle.synthesis.proofs.GraphFacts.{GraphFits}
 use Rattle.placement.proofs.PlacementLaws.{order-length}
 use Rattle.synthesis.proofs.StateValidity.{EdgesValid, BuildValid, edges-towards, put-valid, build-valid, empty-valid}
@@ -57,12 +57,12 @@ parted p (e ∷ es) = go (p (e .target)) (parted p es)
 
 -- ---- a block: 1 for the starter's `set`, 8 for instructions, 3 for an ite, and 18 for each edge out of it, paid before it is joined or left
 
-join-count : (e : Edge) (p : Point) → length (e .values) ≤ maxRegisters → length (join e p .wires) ≤ length (p .wires) + 17
+join-count : (e : Edge) (p : BlockBuild) → length (e .values) ≤ maxRegisters → length (join e p .wires) ≤ length (p .wires) + 17
 unfolding join
 join-count e p h =
     omega (arith, length-append (p .wires) (or-wire (p .arrival) (e .taken) ∷ selects (e .taken) (e .values) (p .values)), selects-short (e .taken) (e .values) (p .values))
 
-joins-count : (es : List Edge) (p : Point) → Narrow es → length (joins es p .wires) ≤ length (p .wires) + 18 * length es
+joins-count : (es : List Edge) (p : BlockBuild) → Narrow es → length (joins es p .wires) ≤ length (p .wires) + 18 * length es
 unfolding joins
 joins-count [] p h = omega arith
 joins-count (e ∷ es) p h = omega (arith, join-count e p (h .0), joins-count es (join e p) (h .1))
@@ -72,19 +72,19 @@ unfolding arrive
 arrive-count R [] ws h = omega (arith, length-append ws (set-wire 0 ∷ []))
 arrive-count R (e ∷ es) ws h = omega (arith, joins-count es (record { arrival = e .taken; values = e .values; wires = ws }) (h .1))
 
-enter-count : (R : ℕ) (c : Bool) (x : ℕ) (b : Build) → Narrow (b .edges)
+enter-count : (R : ℕ) (c : Bool) (x : ℕ) (b : StateBuild) → Narrow (b .edges)
     → length (enter R c x b .wires) + 18 * length (towards (λ p. not (leadsTo x p)) (b .edges)) ≤ length (b .wires) + 18 * length (b .edges) + 1
-unfolding enter start
+unfolding enter startBlock
 enter-count R true x b h = omega (arith, length-append (b .wires) (set-wire 1 ∷ []), parted (leadsTo x) (b .edges))
 enter-count R false x b h =
     omega (arith, arrive-count R (towards (leadsTo x) (b .edges)) (b .wires) (narrow-towards (leadsTo x) (b .edges) h), parted (leadsTo x) (b .edges))
 
-assigns-count : (is : List Instruction) (p : Point) → length (assigns is p .wires) ≡ length (p .wires) + length is
+assigns-count : (is : List Instruction) (p : BlockBuild) → length (assigns is p .wires) ≡ length (p .wires) + length is
 unfolding assigns assign
 assigns-count [] p = omega arith
 assigns-count (i ∷ is) p = omega (arith, length-append (p .wires) (instructionWire (λ r. getD (p .values) r 0) i ∷ []), assigns-count is (assign i p))
 
-close-count : (e : Ending) (p : Point) → length (close e p .wires) + 18 * length (close e p .edges) ≤ length (p .wires) + 39
+close-count : (e : Ending) (p : BlockBuild) → length (close e p .wires) + 18 * length (close e p .edges) ≤ length (p .wires) + 39
 unfolding close
 close-count (Goto t) p = omega arith
 close-count (Ite c t f) p =
@@ -95,21 +95,21 @@ close-count (Ite c t f) p =
     )
 close-count Halt p = omega arith
 
-put-count : (g : CFG) (s : Groups) (x : ℕ) (b : Build) → length (codeOf (blockOf g x)) ≤ 8 → Narrow (b .edges)
+put-count : (g : CFG) (s : Groups) (x : ℕ) (b : StateBuild) → length (instructionsOf (blockOf g x)) ≤ 8 → Narrow (b .edges)
     → length (put g s x b .wires) + 18 * length (put g s x b .edges) ≤ length (b .wires) + 18 * length (b .edges) + 48
 unfolding put after
 put-count g s x b h n =
     let R = g .registers in
     let p = enter R (mem x (s .starters)) x b in
-    let q = assigns (codeOf (blockOf g x)) p in
+    let q = assigns (instructionsOf (blockOf g x)) p in
     let z = close (blockOf g x .ending) q in
     let rest = towards (λ p. not (leadsTo x p)) (b .edges) in
-    omega (arith, enter-count R (mem x (s .starters)) x b n, assigns-count (codeOf (blockOf g x)) p, close-count (blockOf g x .ending) q, length-append rest (z .edges))
+    omega (arith, enter-count R (mem x (s .starters)) x b n, assigns-count (instructionsOf (blockOf g x)) p, close-count (blockOf g x .ending) q, length-append rest (z .edges))
 
 -- ---- a state
 
 module _ (g : CFG) (s : Groups) (f : GraphFits g) where
-  build-count : (xs : List ℕ) (b : Build) → BuildValid (g .registers) b
+  build-count : (xs : List ℕ) (b : StateBuild) → BuildValid (g .registers) b
       → length (build g s xs b .wires) + 18 * length (build g s xs b .edges) ≤ length (b .wires) + 18 * length (b .edges) + 48 * length xs
   unfolding build
   build-count [] b v = omega arith
@@ -120,7 +120,7 @@ module _ (g : CFG) (s : Groups) (f : GraphFits g) where
         build-count xs (put g s x b) (put-valid g s x b (f .block x) v),
       )
 
-  exits-count : (es : List Edge) (p : Point) → Narrow es → length (exits s es p .wires) ≤ length (p .wires) + 18 * length es
+  exits-count : (es : List Edge) (p : BlockBuild) → Narrow es → length (exits s es p .wires) ≤ length (p .wires) + 18 * length es
   unfolding exits exit
   exits-count [] p h = omega arith
   exits-count (e ∷ es) p h =
@@ -139,17 +139,17 @@ module _ (g : CFG) (s : Groups) (f : GraphFits g) where
       let w = set-wire (nextStateOf s (e .target)) in
       omega (arith, length-append ws (w ∷ []), exits-count es (record { arrival = fresh ws; values = e .values; wires = ws ++ (w ∷ []) }) (h .1))
 
-  pub state-count : (k : ℕ) → length (stateOf g s k .wires) ≤ 48 * length (members g s k)
-  unfolding stateOf
+  pub state-count : (k : ℕ) → length (stateMade g s k .wires) ≤ 48 * length (members g s k)
+  unfolding stateMade
   state-count k =
       let R = g .registers in
-      let none : Build = record { wires = []; edges = [] } in
-      let b = build g s (order g s k) none in
-      let v = build-valid g s f (order g s k) none (empty-valid R) in
+      let absent : StateBuild = record { wires = []; edges = [] } in
+      let b = build g s (order g s k) absent in
+      let v = build-valid g s f (order g s k) absent (empty-valid R) in
       let out = towards (leaves s) (b .edges) in
       omega (
         arith,
-        build-count (order g s k) none (empty-valid R),
+        build-count (order g s k) absent (empty-valid R),
         parted (leaves s) (b .edges),
         order-length g s k,
         close-state-count out (b .wires) (narrow-valid R (length (b .wires)) out (f .fewRegisters) (edges-towards R (length (b .wires)) (leaves s) (b .edges) (v .joined))),
@@ -185,7 +185,7 @@ spread-count f l a zero = omega arith
 spread-count f l a (suc n) = omega (arith, spread-count f l (suc a) n, apart f a l)
 
 module _ (g : CFG) (s : Groups) (f : GraphFits g) where
-  count-from : (a n : ℕ) → wireCount (map (stateOf g s) (upFrom a n)) ≤ 48 * spread (λ x. getD (s .states) x none) (upFrom 0 (length (g .blocks))) a n
+  count-from : (a n : ℕ) → wireCount (map (stateMade g s) (upFrom a n)) ≤ 48 * spread (λ x. getD (s .states) x absent) (upFrom 0 (length (g .blocks))) a n
   unfolding wireCount spread members
   count-from a zero = omega arith
   count-from a (suc n) = omega (arith, state-count g s f a, count-from (suc a) n)
@@ -198,7 +198,7 @@ module _ (g : CFG) (s : Groups) (f : GraphFits g) where
       omega (
         arith,
         count-from 0 (length (s .starters)),
-        spread-count (λ x. getD (s .states) x none) (upFrom 0 (length (g .blocks))) 0 (length (s .starters)),
-        length-only (λ x. leb 0 (getD (s .states) x none)) (upFrom 0 (length (g .blocks))),
+        spread-count (λ x. getD (s .states) x absent) (upFrom 0 (length (g .blocks))) 0 (length (s .starters)),
+        length-only (λ x. leb 0 (getD (s .states) x absent)) (upFrom 0 (length (g .blocks))),
         length-upFrom 0 (length (g .blocks)),
       )

@@ -9,7 +9,7 @@ use mathlib.Core.List.{List, [], _∷_, _++_}
 use lib.ListN.{length, getD, set}
 use lib.Dec.{eqb, leb, ltb}
 use borrow.Author.Tests.{le-leb, lt-ltb, le-ltb, ne-eqb, ltb-false, eqb-false}
-use Rattle.word.specs.Word.{choose, arity, codeOf as comparisonCode}
+use Rattle.word.specs.Word.{choose, arity, comparisonCode}
 use Rattle.word.specs.declared.Comparison.{Comparison}
 use Rattle.word.specs.declared.Comparison.the-variants.{Eq, Ne, Lt, Ge, Ltu, Geu}
 use Rattle.runs.specs.Lists.{upFrom, every}

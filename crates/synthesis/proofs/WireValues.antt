@@ -10,7 +10,7 @@ use lib.Bits.{bitAnd, bitOr}
 use borrow.Author.Tests.{le-ltb, eqb-false}
 use Rattle.word.specs.declared.Comparison.{Comparison}
 use Rattle.word.specs.declared.Comparison.the-variants.{Eq, Ne, Lt, Ge, Ltu, Geu}
-use Rattle.word.specs.Word.{choose, truth, compareOf, codeOf, evalOf, andNotOf, arity}
+use Rattle.word.specs.Word.{choose, truth, compareOf, comparisonCode, evalOf, andNotOf, arity}
 use Rattle.word.proofs.WireLaws.{eval-uses, and-truth, or-truth, and-not-truth, select-truth}
 use Rattle.word.proofs.Laws.{eval-compare}
 use Rattle.cfg.specs.declared.Instruction.{Instruction}
@@ -44,7 +44,7 @@ unfolding wireValue evalOf
 select-value sampled at t v w s p = ap (λ (x : ℕ). choose (eqb x 0) (at w) (at v)) p ∙ select-truth sampled s (at v) (at w)
 
 -- no comparison is a set
-not-set : (q : Comparison) → eqb (codeOf q) 1 ≡ false
+not-set : (q : Comparison) → eqb (comparisonCode q) 1 ≡ false
 not-set Eq = refl
 not-set Ne = refl
 not-set Lt = refl
@@ -52,10 +52,10 @@ not-set Ge = refl
 not-set Ltu = refl
 not-set Geu = refl
 
-pub comparison-value : (sampled : ℕ) (at : ℕ → ℕ) (q : Comparison) (a b : ℕ) → wireValue sampled at (wire (codeOf q) a b 0) ≡ truth (compareOf q (at a) (at b))
+pub comparison-value : (sampled : ℕ) (at : ℕ → ℕ) (q : Comparison) (a b : ℕ) → wireValue sampled at (wire (comparisonCode q) a b 0) ≡ truth (compareOf q (at a) (at b))
 unfolding wireValue
 comparison-value sampled at q a b =
-    ap (λ (t : Bool). evalOf sampled (codeOf q) (choose t a (at a)) (at b) (at 0)) (not-set q) ∙ eval-compare sampled q (at a) (at b) (at 0)
+    ap (λ (t : Bool). evalOf sampled (comparisonCode q) (choose t a (at a)) (at b) (at 0)) (not-set q) ∙ eval-compare sampled q (at a) (at b) (at 0)
 
 -- ---- an instruction's wire
 

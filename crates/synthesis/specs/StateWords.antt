@@ -6,14 +6,14 @@ use mathlib.Core.List.{List, _++_, map}
 use lib.ListN.{length, take}
 use Rattle.runs.specs.Lists.{upFrom, mem, padded}
 use Rattle.cfg.specs.Graph.{successors}
-use Rattle.cfg.specs.Table.{graphOf, admitted}
+use Rattle.cfg.specs.Table.{graphOf, admittedGraph}
 use Rattle.fsmd.specs.Layout.{allRecordWords, allWireWords, recordsOffset, machineWords}
 use Rattle.fsmd.specs.Machine.{State, wireCount}
 use Rattle.fsmd.specs.Table.{recordsOf, wiresOf}
 use Rattle.grouping.specs.Grouping.{Groups}
 use Rattle.grouping.specs.Bytes.{edgesIn}
 use Rattle.placement.specs.PlacementBytes.{marked}
-use Rattle.state.specs.Wires.{stateOf}
+use Rattle.state.specs.Wires.{stateMade}
 
 -- a table whose words before the records are `head`, with the records and wires of the states qs and no others
 unfoldable pub withStates : List ℕ → List State → List ℕ
@@ -22,12 +22,12 @@ withStates head qs = head ++ (padded allRecordWords 0 (recordsOf 0 qs) ++ padded
 
 -- the first k states of the machine of a graph table whose grouping is s
 unfoldable pub firstStates : List ℕ → Groups → ℕ → List State
-unfolding graphOf stateOf
-firstStates t s k = map (stateOf (graphOf t) s) (upFrom 0 k)
+unfolding graphOf stateMade
+firstStates t s k = map (stateMade (graphOf t) s) (upFrom 0 k)
 
 -- what the code knows of a graph table t whose grouping is s: its successors, its starters marked, its starters and its blocks' states
 pub record Prepared (t : List ℕ) (s : Groups) (edges starts starters states : List ℕ) : Type 0 where
-  pub admits : admitted t ≡ true
+  pub admits : admittedGraph t ≡ true
   pub leading : (n : ℕ) → edgesIn edges n ≡ successors (graphOf t) n
   pub starting : (x : ℕ) → marked starts x ≡ mem x (s .starters)
   pub its-starters : starters ≡ s .starters

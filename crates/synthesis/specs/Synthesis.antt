@@ -8,24 +8,24 @@ use Rattle.word.specs.Word.{choose}
 use Rattle.runs.specs.Lists.{upFrom}
 use Rattle.cfg.specs.Layout.{graphWords}
 use Rattle.cfg.specs.Graph.{CFG}
-use Rattle.cfg.specs.Table.{graphOf, admitted}
+use Rattle.cfg.specs.Table.{graphOf, admittedGraph}
 use Rattle.fsmd.specs.Layout.{machineWords}
 use Rattle.fsmd.specs.Machine.{FSMD}
-use Rattle.fsmd.specs.Table.{tableOf}
+use Rattle.fsmd.specs.Table.{machineTableOf}
 use Rattle.grouping.specs.Grouping.{Groups, groups}
-use Rattle.state.specs.Wires.{stateOf}
+use Rattle.state.specs.Wires.{stateMade}
 use Rattle.synthesis.specs.declared.SynthesisAnswer.{SynthesisAnswer}
 use Rattle.synthesis.specs.declared.SynthesisAnswer.the-variants.{Refused, Made}
 
 -- the machine of a graph whose grouping is s
 unfoldable pub machineFor : CFG → Groups → FSMD
-unfolding stateOf
+unfolding stateMade
 machineFor g s =
     record {
       registers = g .registers;
       starters = s .starters;
       blockStates = s .states;
-      states = map (stateOf g s) (upFrom 0 (length (s .starters)));
+      states = map (stateMade g s) (upFrom 0 (length (s .starters)));
     }
 
 unfoldable pub machine : CFG → FSMD
@@ -34,10 +34,10 @@ machine g = machineFor g (groups g)
 
 -- 7 a short table, the graph's before the machine's; 6 a graph table that is not admitted
 unfoldable pub synthesisAnswer : List ℕ → List ℕ → SynthesisAnswer
-unfolding admitted
+unfolding admittedGraph
 synthesisAnswer t m =
     choose (ltb (length t) graphWords || ltb (length m) machineWords) (Refused 7)
-    (choose (not (admitted t)) (Refused 6) Made)
+    (choose (not (admittedGraph t)) (Refused 6) Made)
 
 abbrev pub made : SynthesisAnswer → List ℕ → List ℕ → List ℕ
 made (Refused n) new old = old
@@ -45,5 +45,5 @@ made Made new old = new
 
 -- the words from 13,634 up stay
 unfoldable pub synthesisWords : List ℕ → List ℕ → List ℕ
-unfolding synthesisAnswer machine graphOf tableOf
-synthesisWords t m = made (synthesisAnswer t m) (tableOf (machine (graphOf t)) ++ drop machineWords m) m
+unfolding synthesisAnswer machine graphOf machineTableOf
+synthesisWords t m = made (synthesisAnswer t m) (machineTableOf (machine (graphOf t)) ++ drop machineWords m) m

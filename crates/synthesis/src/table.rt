@@ -1,11 +1,11 @@
 // The machine table of an admitted graph: its head, then the wires and the record of one state after another.
 use crate::SynthesisAnswer;
-use cfg::Graph;
+use cfg::GraphTable;
 use cfg::admission;
-use fsmd::Machine;
+use fsmd::MachineTable;
 use fsmd::Wire;
 use grouping::edges;
-use state::Progress;
+use state::StateProgress;
 ghost use mathlib.Core.Path.{_≡_};
 ghost use mathlib.Core.Bool.{true};
 ghost use mathlib.Core.List.{[], _∷_, _++_};
@@ -13,10 +13,10 @@ ghost use Prim.Native.Nat.{ℕ, _+_, _<_, _≤_};
 ghost use lib.ListN.{length, getD, take};
 ghost use lib.Seq.{sets};
 ghost use Rattle.runs.specs.Lists.{mem};
-ghost use Rattle.cfg.specs.Table.{graphOf, admitted};
+ghost use Rattle.cfg.specs.Table.{graphOf, admittedGraph};
 ghost use Rattle.fsmd.specs.Layout.{maxBlocks, maxRegisters, maxWires, recordWords, recordsOffset, machineWords};
 ghost use Rattle.fsmd.specs.Machine.{wireCount};
-ghost use Rattle.fsmd.specs.Table.{tableOf};
+ghost use Rattle.fsmd.specs.Table.{machineTableOf};
 ghost use Rattle.grouping.specs.Grouping.{groups};
 ghost use Rattle.placement.specs.PlacementBytes.{marked};
 ghost use Rattle.state.specs.Making.{Edged};
@@ -29,10 +29,10 @@ fn write_head(table: &mut [u32], count: u32, registers: u32, starters: &[u8], st
     ensures { λ r. ⌜ now (table .exit) ≡ withStates (count ∷ registers ∷ (now (starters .entry) ++ now (states .entry))) [] ⌝ }
 {
     buffers::clear(table);
-    table[Machine::STATE_COUNT] = count;
-    table[Machine::REGISTER_COUNT] = registers;
-    buffers::widen_bytes(table, Machine::STARTERS, starters);
-    buffers::widen_bytes(table, Machine::BLOCK_STATES, states);
+    table[MachineTable::STATE_COUNT] = count;
+    table[MachineTable::REGISTER_COUNT] = registers;
+    buffers::widen_bytes(table, MachineTable::STARTERS, starters);
+    buffers::widen_bytes(table, MachineTable::BLOCK_STATES, states);
 }
 
 // A state's record at word `at`.
@@ -48,17 +48,17 @@ fn write_record(
     ensures { λ r. ⌜ now (words .exit) ≡ sets (now (words .entry)) at (first ∷ count ∷ next ∷ now (registers .entry)) ⌝ }
 {
     words[at] = first as u32;
-    words[at + Machine::WIRE_COUNT] = count as u32;
-    words[at + Machine::NEXT_STATE] = next;
-    buffers::copy_words(words, at + Machine::NEXT_REGISTERS, registers);
+    words[at + MachineTable::WIRE_COUNT] = count as u32;
+    words[at + MachineTable::NEXT_STATE] = next;
+    buffers::copy_words(words, at + MachineTable::NEXT_REGISTERS, registers);
 }
 
 // A mark at each starter.
-fn starter_marks(starters: &[u8]) -> [u8; Graph::BLOCKS]
+fn starter_marks(starters: &[u8]) -> [u8; GraphTable::BLOCKS]
     requires { ⌜ ((i : ℕ) → i < length (now starters) → getD (now starters) i 0 < maxBlocks) ⌝ }
     ensures { λ r. ⌜ ((x : ℕ) → marked r x ≡ mem x (now (starters .entry))) ⌝ }
 {
-    let mut marks = [0u8; Graph::BLOCKS];
+    let mut marks = [0u8; GraphTable::BLOCKS];
     let mut i = 0;
     while i < starters.len() {
         marks[buffers::byte_index(starters[i])] = 1;
@@ -85,11 +85,11 @@ fn one_state(
     requires { ⌜ Edged (now targets) (now rows) 0 ⌝ }
     ensures { λ r. ⌜ (now (table .exit) ≡ withStates (take recordsOffset (now (table .entry))) (firstStates (now (graph .entry)) (groups (graphOf (now (graph .entry)))) (k + 1))) × (r ≡ wireCount (firstStates (now (graph .entry)) (groups (graphOf (now (graph .entry)))) (k + 1))) ⌝ }
 {
-    let mut blocks = [0u8; Graph::BLOCKS];
+    let mut blocks = [0u8; GraphTable::BLOCKS];
     let count = placement::place(edges, states, starts, k as u8, &mut blocks);
-    let registers = graph[Graph::REGISTER_COUNT] as usize;
-    let mut values = [0u32; Machine::REGISTERS];
-    let at = Machine::WIRE_WORDS + Wire::WORDS * first;
+    let registers = graph[GraphTable::REGISTER_COUNT] as usize;
+    let mut values = [0u32; MachineTable::REGISTERS];
+    let at = MachineTable::WIRE_WORDS + Wire::WORDS * first;
     let made = state::make(
         graph,
         &blocks[..count],
@@ -102,7 +102,7 @@ fn one_state(
     );
     write_record(
         table,
-        Machine::RECORDS + Machine::RECORD * k,
+        MachineTable::RECORDS + MachineTable::RECORD * k,
         first,
         made.wires,
         made.next,
@@ -149,23 +149,23 @@ fn all_states(
 
 // The table of an admitted graph's machine.
 fn fill(graph: &[u32], table: &mut [u32])
-    requires { ⌜ (admitted (now graph) ≡ true) × (length (now table) ≡ machineWords) ⌝ }
-    ensures { λ r. ⌜ now (table .exit) ≡ tableOf (machine (graphOf (now (graph .entry)))) ⌝ }
+    requires { ⌜ (admittedGraph (now graph) ≡ true) × (length (now table) ≡ machineWords) ⌝ }
+    ensures { λ r. ⌜ now (table .exit) ≡ machineTableOf (machine (graphOf (now (graph .entry)))) ⌝ }
 {
     let grouping = grouping::group(graph);
     let count = grouping.count;
     let list = grouping.starters;
     let bytes = grouping.states;
-    let blocks = graph[Graph::BLOCK_COUNT] as usize;
+    let blocks = graph[GraphTable::BLOCK_COUNT] as usize;
     let edges = edges::edges_of(graph);
     let starts = starter_marks(&list[..count]);
     // Room for the edges of one state after another: to clear it for each would cost more than most states.
-    let mut targets = [0u32; Progress::EDGES];
-    let mut rows = [0u32; Progress::ROW * Progress::EDGES];
+    let mut targets = [0u32; StateProgress::EDGES];
+    let mut rows = [0u32; StateProgress::ROW * StateProgress::EDGES];
     write_head(
         table,
         count as u32,
-        graph[Graph::REGISTER_COUNT],
+        graph[GraphTable::REGISTER_COUNT],
         &list,
         &bytes,
     );
@@ -185,15 +185,15 @@ fn fill(graph: &[u32], table: &mut [u32])
 pub fn synthesise(graph: &[u32], machine: &mut [u32]) -> SynthesisAnswer
     ensures { λ r. ⌜ (r ≡ synthesisAnswer (now (graph .entry)) (now (machine .entry))) × (now (machine .exit) ≡ synthesisWords (now (graph .entry)) (now (machine .entry))) ⌝ }
 {
-    if graph.len() < Graph::WORDS {
+    if graph.len() < GraphTable::WORDS {
         return SynthesisAnswer::Refused(7);
     }
-    if machine.len() < Machine::WORDS {
+    if machine.len() < MachineTable::WORDS {
         return SynthesisAnswer::Refused(7);
     }
     if !admission::is_admitted(graph) {
         return SynthesisAnswer::Refused(6);
     }
-    fill(graph, &mut machine[..Machine::WORDS]);
+    fill(graph, &mut machine[..MachineTable::WORDS]);
     SynthesisAnswer::Made
 }

@@ -66,16 +66,16 @@ compareOf Ltu a b = ltb a b
 compareOf Geu a b = leb b a
 
 -- a comparison's code
-abbrev pub codeOf : Comparison → ℕ
-codeOf Eq = 12
-codeOf Ne = 13
-codeOf Lt = 14
-codeOf Ge = 15
-codeOf Ltu = 16
-codeOf Geu = 17
+abbrev pub comparisonCode : Comparison → ℕ
+comparisonCode Eq = 12
+comparisonCode Ne = 13
+comparisonCode Lt = 14
+comparisonCode Ge = 15
+comparisonCode Ltu = 16
+comparisonCode Geu = 17
 
 abbrev pub firstComparison : ℕ
-firstComparison = codeOf Eq
+firstComparison = comparisonCode Eq
 
 -- the comparison of a code; what a code that is none stands for is of no matter
 abbrev pub comparisonAt : ℕ → Comparison

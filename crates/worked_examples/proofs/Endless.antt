@@ -13,16 +13,16 @@ use Rattle.runs.specs.Runs.{standing, Configuration, standsAt, startAt, unread,
 use Rattle.runs.specs.declared.RunAnswer.the-variants.{Spent}
 use Rattle.runs.proofs.OperationLaws.{accepted}
 use Rattle.cfg.specs.Layout.{graphWords}
-use Rattle.cfg.specs.Graph.{runBlock, graphRunner, wordless}
-use Rattle.cfg.specs.Table.{tableOf as graphTable, graphOf, admitted}
-use Rattle.cfg.specs.Run.{refusal as graphRefusal, runAnswer as runGraph}
+use Rattle.cfg.specs.Graph.{runBlock, graphRunner, wordlessGraph}
+use Rattle.cfg.specs.Table.{graphTableOf, graphOf, admittedGraph}
+use Rattle.cfg.specs.Run.{graphRefusal, graphAnswer}
 use Rattle.cfg.proofs.Admitted.{admitted-facts}
 use Rattle.cfg.proofs.Running.{none-refused}
 use Rattle.cfg_text.specs.Read.{readWords}
 use Rattle.fsmd.specs.Layout.{maxRegisters, machineWords}
-use Rattle.fsmd.specs.Machine.{clock, machineRunner, wordless as wordlessMachine}
-use Rattle.fsmd.specs.Table.{tableOf as machineTable, machineOf, admitted as machineAdmitted}
-use Rattle.fsmd.specs.Run.{refusal as machineRefusal, runAnswer as runMachine}
+use Rattle.fsmd.specs.Machine.{clock, machineRunner, wordlessMachine}
+use Rattle.fsmd.specs.Table.{machineTableOf, machineOf, admittedMachine}
+use Rattle.fsmd.specs.Run.{machineRefusal, machineAnswer}
 use Rattle.fsmd.proofs.Steps.{refuse-none}
 use Rattle.fsmd.proofs.WrittenTable.{table-length}
 use Rattle.synthesis.specs.Synthesis.{machine, synthesisWords}
@@ -62,52 +62,52 @@ machine-endless rs size =
 
 module _ (rest : List ℕ) where
   abbrev graphWith : List ℕ
-  graphWith = graphTable P11 ++ rest
+  graphWith = graphTableOf P11 ++ rest
 
   abbrev machineWith : List ℕ
-  machineWith = machineTable (machine P11) ++ rest
+  machineWith = machineTableOf (machine P11) ++ rest
 
-  graph-admitted : admitted graphWith ≡ true
-  unfolding admitted graphTable concatMap P11
+  graph-admitted : admittedGraph graphWith ≡ true
+  unfolding admittedGraph graphTableOf concatMap P11
   graph-admitted = refl
 
   machine-long : machineWords ≤ length machineWith
-  machine-long = omega (arith, table-length (machine P11), length-append (machineTable (machine P11)) rest)
+  machine-long = omega (arith, table-length (machine P11), length-append (machineTableOf (machine P11)) rest)
 
-  machine-admitted : machineAdmitted machineWith ≡ true
-  unfolding machineAdmitted machineTable concatMap machine P11
+  machine-admitted : admittedMachine machineWith ≡ true
+  unfolding admittedMachine machineTableOf concatMap machine P11
   machine-admitted = refl
 
   module _ (buffer : List ℕ) (full : maxRegisters ≤ length buffer) (k : ℕ) where
-    graph-spent : runGraph graphWith buffer 0 k ≡ Spent k 0
-    unfolding graphOf graphTable concatMap wordless P11
+    graph-spent : graphAnswer graphWith buffer 0 k ≡ Spent k 0
+    unfolding graphOf graphTableOf concatMap wordlessGraph P11
     graph-spent =
         accepted (graphRunner (graphOf graphWith) []) unread buffer 0 k (graphRefusal graphWith buffer 0)
         (none-refused graphWith buffer 0 (admitted-facts graphWith graph-admitted .long) full graph-admitted refl (omega arith))
         ∙ graph-endless (take maxRegisters buffer) k
 
-    machine-spent : runMachine machineWith buffer 0 k ≡ Spent k 0
-    unfolding machineOf machineTable concatMap wordlessMachine machine clock P11
+    machine-spent : machineAnswer machineWith buffer 0 k ≡ Spent k 0
+    unfolding machineOf machineTableOf concatMap wordlessMachine machine clock P11
     machine-spent =
         accepted (machineRunner (machineOf machineWith)) unread buffer 0 k (machineRefusal machineWith buffer 0)
         (refuse-none machineWith buffer 0 machine-long full machine-admitted refl (omega arith))
         ∙ machine-endless (take maxRegisters buffer) (length-take-le maxRegisters buffer full) k
 
 module _ (graph : List ℕ) (long : graphWords ≤ length graph) where
-  text-read : readWords p11Text graph ≡ graphTable P11 ++ drop graphWords graph
+  text-read : readWords p11Text graph ≡ graphTableOf P11 ++ drop graphWords graph
   unfolding readWords p11Text P11
   text-read = rw (le-ltb (length graph) graphWords long)
 
-  pub run-graph-endless : (buffer : List ℕ) → maxRegisters ≤ length buffer → (k : ℕ) → runGraph (readWords p11Text graph) buffer 0 k ≡ Spent k 0
+  pub run-graph-endless : (buffer : List ℕ) → maxRegisters ≤ length buffer → (k : ℕ) → graphAnswer (readWords p11Text graph) buffer 0 k ≡ Spent k 0
   run-graph-endless buffer full k = rw text-read (graph-spent (drop graphWords graph) buffer full k)
 
   module _ (made : List ℕ) (room : machineWords ≤ length made) where
-    table-made : synthesisWords (readWords p11Text graph) made ≡ machineTable (machine P11) ++ drop machineWords made
-    unfolding graphOf graphTable concatMap P11
+    table-made : synthesisWords (readWords p11Text graph) made ≡ machineTableOf (machine P11) ++ drop machineWords made
+    unfolding graphOf graphTableOf concatMap P11
     table-made =
-        let t = graphTable P11 ++ drop graphWords graph in
+        let t = graphTableOf P11 ++ drop graphWords graph in
         rw text-read (made-words t made (admitted-made t made (graph-admitted (drop graphWords graph)) room))
 
     pub run-machine-endless : (buffer : List ℕ) → maxRegisters ≤ length buffer → (k : ℕ)
-        → runMachine (synthesisWords (readWords p11Text graph) made) buffer 0 k ≡ Spent k 0
+        → machineAnswer (synthesisWords (readWords p11Text graph) made) buffer 0 k ≡ Spent k 0
     run-machine-endless buffer full k = rw table-made (machine-spent (drop machineWords made) buffer full k)

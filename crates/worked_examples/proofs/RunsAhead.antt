@@ -10,10 +10,10 @@ use Rattle.runs.specs.Lists.{concatMap}
 use Rattle.runs.specs.Runs.{halted, Configuration, standsAt, startAt, unread, Runner, step, times, stepsRun}
 use Rattle.runs.proofs.RunLaws.{halted-ends, times-ended, place-of, registers-of}
 use Rattle.cfg.specs.Graph.{runBlock, graphRunner}
-use Rattle.cfg.specs.Table.{tableOf as graphTable, graphOf}
+use Rattle.cfg.specs.Table.{graphTableOf, graphOf}
 use Rattle.fsmd.specs.Layout.{maxRegisters}
 use Rattle.fsmd.specs.Machine.{clock, machineRunner}
-use Rattle.fsmd.specs.Table.{tableOf as machineTable, machineOf, admitted}
+use Rattle.fsmd.specs.Table.{machineTableOf, machineOf, admittedMachine}
 use Rattle.grouping.specs.Grouping.{groups}
 use Rattle.synthesis.specs.Synthesis.{machine, synthesisAnswer, synthesisWords}
 use Rattle.synthesis.specs.declared.SynthesisAnswer.the-variants.{Made}
@@ -27,21 +27,21 @@ use Rattle.worked_examples.proofs.ByWord.{ByWord, by-word}
 -- ---- the refutation
 
 -- sixteen zeros to begin with: after cycle 1 a right machine stands in state 1, with 1 in r0 and still 0 in r1
-after-one : (m : List ℕ) → AgreementWithoutWords (graphTable Twice) m → cyclesOn m (replicate 16 0) 1 ≡ standsAt 1 1 (1 ∷ replicate 15 0)
-unfolding graphTable graphOf concatMap groups step times stepsRun runBlock evalOf Twice
+after-one : (m : List ℕ) → AgreementWithoutWords (graphTableOf Twice) m → cyclesOn m (replicate 16 0) 1 ≡ standsAt 1 1 (1 ∷ replicate 15 0)
+unfolding graphTableOf graphOf concatMap groups step times stepsRun runBlock evalOf Twice
 after-one m a =
     a .agree (replicate 16 0) refl 1 .stands 1 (1 ∷ replicate 15 0) refl .1
     (1, record { run = refl; stands = refl; starter = refl })
 
 -- demand 3 as paper 01 has it, and so demand 3 on equal words
-pub runs-ahead-refuted-without-words : (m : List ℕ) → RunsAhead m → AgreementWithoutWords (graphTable Twice) m → ⊥
+pub runs-ahead-refuted-without-words : (m : List ℕ) → RunsAhead m → AgreementWithoutWords (graphTableOf Twice) m → ⊥
 unfolding groups times step runBlock evalOf Twice
 runs-ahead-refuted-without-words m h a =
     let e : _≡_ {A = ℕ} 0 2 = ap (λ (l : List ℕ). getD l 1 0) (sym (registers-of (after-one m a)) ∙ h .early (replicate 16 0) refl) in
     omega arith
 
-pub runs-ahead-refuted : (m : List ℕ) → RunsAhead m → Agreement (graphTable Twice) m → ⊥
-runs-ahead-refuted m h a = runs-ahead-refuted-without-words m h (without-words (graphTable Twice) m a)
+pub runs-ahead-refuted : (m : List ℕ) → RunsAhead m → Agreement (graphTableOf Twice) m → ⊥
+runs-ahead-refuted m h a = runs-ahead-refuted-without-words m h (without-words (graphTableOf Twice) m a)
 
 -- ---- the two tables run ahead
 
@@ -71,7 +71,7 @@ module _ (m : List ℕ) where
         registers = registers-of p ∙ e .registers ∙ sym (registers-of q);
       }
 
-  runs-ahead : admitted m ≡ true → ByWord maxRegisters Early → ByWord maxRegisters Ends → RunsAhead m
+  runs-ahead : admittedMachine m ≡ true → ByWord maxRegisters Early → ByWord maxRegisters Ends → RunsAhead m
   runs-ahead ok a e =
       record {
         accepted = ok;
@@ -80,31 +80,31 @@ module _ (m : List ℕ) where
       }
 
 pub idling-runs-ahead : RunsAhead idling
-unfolding idling admitted machineOf machineTable machine groups concatMap clock times step runBlock evalOf Twice
+unfolding idling admittedMachine machineOf machineTableOf machine groups concatMap clock times step runBlock evalOf Twice
 idling-runs-ahead =
     runs-ahead idling refl
     (λ a b c d e f g h i j k l m n o p. refl)
     (λ a b c d e f g h i j k l m n o p. record { first = refl; second = refl; registers = refl })
 
 pub halting-runs-ahead : RunsAhead halting
-unfolding halting admitted machineOf machineTable machine groups concatMap clock times step runBlock evalOf Twice
+unfolding halting admittedMachine machineOf machineTableOf machine groups concatMap clock times step runBlock evalOf Twice
 halting-runs-ahead =
     runs-ahead halting refl
     (λ a b c d e f g h i j k l m n o p. refl)
     (λ a b c d e f g h i j k l m n o p. record { first = refl; second = refl; registers = refl })
 
 -- so both are refuted
-pub idling-refuted : Agreement (graphTable Twice) idling → ⊥
+pub idling-refuted : Agreement (graphTableOf Twice) idling → ⊥
 idling-refuted = runs-ahead-refuted idling idling-runs-ahead
 
-pub halting-refuted : Agreement (graphTable Twice) halting → ⊥
+pub halting-refuted : Agreement (graphTableOf Twice) halting → ⊥
 halting-refuted = runs-ahead-refuted halting halting-runs-ahead
 
 -- ---- and the machine that Synthesise makes is not refuted
 
-twice-made : synthesisAnswer (graphTable Twice) noMachine ≡ Made
-unfolding synthesisAnswer graphTable concatMap Twice
+twice-made : synthesisAnswer (graphTableOf Twice) noMachine ≡ Made
+unfolding synthesisAnswer graphTableOf concatMap Twice
 twice-made = refl
 
-pub twice-agrees : Agreement (graphTable Twice) (synthesisWords (graphTable Twice) noMachine)
-twice-agrees = synthesised-agrees (graphTable Twice) noMachine twice-made
+pub twice-agrees : Agreement (graphTableOf Twice) (synthesisWords (graphTableOf Twice) noMachine)
+twice-agrees = synthesised-agrees (graphTableOf Twice) noMachine twice-made

@@ -8,8 +8,8 @@ use Rattle.runs.specs.Lists.{same, padded}
 use Rattle.runs.specs.Operations.{answered, registersLeft}
 use Rattle.fsmd.specs.Layout.{maxRegisters, allRecordWords, allWireWords, recordsOffset}
 use Rattle.fsmd.specs.Machine.{clock}
-use Rattle.fsmd.specs.Table.{machineOf, admitted}
-use Rattle.fsmd.specs.Run.{refusal, runAnswer as runMachine, runRegisters, wordsRefusal, wordsAnswer as runMachineOn}
+use Rattle.fsmd.specs.Table.{machineOf, admittedMachine}
+use Rattle.fsmd.specs.Run.{machineRefusal, machineAnswer, machineRegisters, machineWordsRefusal, machineWordsAnswer}
 use Rattle.worked_examples.specs.Rows.{Row, row, fields, refusedWith, regs}
 
 -- N, R, no starters, no block states, the words of records and of wires
@@ -30,14 +30,14 @@ with count x wires = byHand 1 1 (state 0 count x (0 ∷ [])) wires
 
 -- one cycle from state 0 with r0 = 0 is refused with 10
 abbrev ten : List ℕ → Bool
-ten t = refusedWith 10 (runMachine t (regs 0 7) 0 1)
+ten t = refusedWith 10 (machineAnswer t (regs 0 7) 0 1)
 
 -- or it is run, and the next state is 0
 abbrev runs : List ℕ → Bool
-runs t = same (fields (runMachine t (regs 0 7) 0 1)) (0 ∷ 0 ∷ 1 ∷ 0 ∷ [])
+runs t = same (fields (machineAnswer t (regs 0 7) 0 1)) (0 ∷ 0 ∷ 1 ∷ 0 ∷ [])
 
 unfoldable pub admission : List Row
-unfolding evalOf answered registersLeft refusal wordsRefusal machineOf admitted clock
+unfolding evalOf answered registersLeft machineRefusal machineWordsRefusal machineOf admittedMachine clock
 admission =
     row "N = 0: 10" (ten (byHand 0 1 [] []))
     ∷ row "N = 64" (runs (byHand 64 1 [] []))
@@ -61,9 +61,9 @@ admission =
     -- codes
     ∷ row "code 0: 10" (ten (with 1 0 []))
     ∷ row "code 19" (runs (with 1 0 (19 ∷ [])))
-    ∷ row "code 20, with words" (same (fields (runMachineOn (with 1 0 (20 ∷ [])) (regs 0 7) 0 1 (5 ∷ []))) (0 ∷ 0 ∷ 1 ∷ 0 ∷ []))
+    ∷ row "code 20, with words" (same (fields (machineWordsAnswer (with 1 0 (20 ∷ [])) (regs 0 7) 0 1 (5 ∷ []))) (0 ∷ 0 ∷ 1 ∷ 0 ∷ []))
     ∷ row "code 21: 10" (ten (with 1 0 (21 ∷ [])))
-    ∷ row "code 21, with words: 10" (refusedWith 10 (runMachineOn (with 1 0 (21 ∷ [])) (regs 0 7) 0 1 (5 ∷ [])))
+    ∷ row "code 21, with words: 10" (refusedWith 10 (machineWordsAnswer (with 1 0 (21 ∷ [])) (regs 0 7) 0 1 (5 ∷ [])))
     -- references
     ∷ row "a register at R: 10" (ten (with 1 0 (2 ∷ 1 ∷ [])))
     ∷ row "a wire that reads itself: 10" (ten (with 1 0 (2 ∷ 16 ∷ [])))
@@ -81,6 +81,6 @@ admission =
     ∷ row "wires of no state" (runs (with 1 0 (1 ∷ 0 ∷ 0 ∷ 0 ∷ 99 ∷ 99 ∷ 99 ∷ 99 ∷ [])))
     ∷ row "words that a code does not use" (runs (with 2 0 (1 ∷ 5 ∷ 99 ∷ 99 ∷ 2 ∷ 0 ∷ 99 ∷ 99 ∷ [])))
     -- a next state not below N halts, and the registers are taken all the same
-    ∷ row "a next state at N" (same (fields (runMachine (with 1 16 (1 ∷ 1 ∷ [])) (regs 0 7) 0 9)) (0 ∷ 1 ∷ 1 ∷ 255 ∷ []))
-    ∷ row "its registers" (same (runRegisters (byHand 1 1 (state 0 1 16 (16 ∷ [])) (1 ∷ 5 ∷ [])) (regs 0 7) 0 9) (regs 5 7))
+    ∷ row "a next state at N" (same (fields (machineAnswer (with 1 16 (1 ∷ 1 ∷ [])) (regs 0 7) 0 9)) (0 ∷ 1 ∷ 1 ∷ 255 ∷ []))
+    ∷ row "its registers" (same (machineRegisters (byHand 1 1 (state 0 1 16 (16 ∷ [])) (1 ∷ 5 ∷ [])) (regs 0 7) 0 9) (regs 5 7))
     ∷ []

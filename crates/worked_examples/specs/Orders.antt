@@ -8,14 +8,14 @@ use lib.ListN.{replicate, set, take}
 use lib.Dec.{eqb}
 use Rattle.runs.specs.Lists.{same, concatMap}
 use Rattle.runs.specs.Operations.{answered}
-use Rattle.cfg.specs.Table.{tableOf as graphTable, graphOf, admitted as graphAdmitted}
-use Rattle.cfg.specs.Run.{refusal as graphRefusal, runAnswer as runGraph, wordsRefusal as graphWordsRefusal, wordsAnswer as runGraphOn}
+use Rattle.cfg.specs.Table.{graphTableOf, graphOf, admittedGraph}
+use Rattle.cfg.specs.Run.{graphRefusal, graphAnswer, graphWordsRefusal, graphWordsAnswer}
 use Rattle.capture.specs.Capture.{compareCaptures}
 use Rattle.delimited.specs.Parts.{bytes}
 use Rattle.cfg_text.specs.Read.{readAnswer}
-use Rattle.cfg_write.specs.Write.{writeAnswer, numberOf as writeNumber, lengthOf}
-use Rattle.fsmd.specs.Table.{tableOf as machineTable, machineOf, admitted as machineAdmitted}
-use Rattle.fsmd.specs.Run.{refusal as machineRefusal, runAnswer as runMachine, wordsRefusal as machineWordsRefusal, wordsAnswer as runMachineOn}
+use Rattle.cfg_write.specs.Write.{writeAnswer, writeNumber, writeLength}
+use Rattle.fsmd.specs.Table.{machineTableOf, machineOf, admittedMachine}
+use Rattle.fsmd.specs.Run.{machineRefusal, machineAnswer, machineWordsRefusal, machineWordsAnswer}
 use Rattle.grouping.specs.Grouping.{groups}
 use Rattle.synthesis.specs.Synthesis.{machine, synthesisAnswer}
 use Rattle.worked_examples.specs.Graphs.{P11, Rates}
@@ -40,26 +40,26 @@ registers = regs 0 0
 
 -- P11's, whose blocks and states are 0 alone; and the same with no register, which is not admitted
 abbrev loop : List ℕ
-loop = graphTable P11
+loop = graphTableOf P11
 
 abbrev badLoop : List ℕ
 badLoop = set loop 1 0
 
 abbrev loopMachine : List ℕ
-loopMachine = machineTable (machine P11)
+loopMachine = machineTableOf (machine P11)
 
 abbrev badMachine : List ℕ
 badMachine = set loopMachine 1 0
 
 -- with code 20, admitted and not; their blocks are 0 and 1, their state is 0
 abbrev sampling : List ℕ
-sampling = graphTable Rates
+sampling = graphTableOf Rates
 
 abbrev badSampling : List ℕ
 badSampling = set sampling 1 0
 
 abbrev samplingMachine : List ℕ
-samplingMachine = machineTable (machine Rates)
+samplingMachine = machineTableOf (machine Rates)
 
 abbrev badSamplingMachine : List ℕ
 badSamplingMachine = set samplingMachine 1 0
@@ -85,27 +85,27 @@ below7 k n text = same (reading text) (k ∷ n ∷ []) && same (readingInto shor
 -- ---- the other operations; each refused with a number
 
 abbrev writing : ℕ → ℕ → List ℕ → List ℕ → Bool
-writing k n table out = let a = writeAnswer table out in eqb (writeNumber a) k && eqb (lengthOf a) n
+writing k n table out = let a = writeAnswer table out in eqb (writeNumber a) k && eqb (writeLength a) n
 
 abbrev synthesising : ℕ → List ℕ → List ℕ → Bool
 synthesising k graph made = eqb (synthesisNumber (synthesisAnswer graph made)) k
 
 -- from a start, with a budget of 5
 abbrev graphRun : ℕ → List ℕ → List ℕ → ℕ → Bool
-graphRun k t rs start = refusedWith k (runGraph t rs start 5)
+graphRun k t rs start = refusedWith k (graphAnswer t rs start 5)
 
 abbrev machineRun : ℕ → List ℕ → List ℕ → ℕ → Bool
-machineRun k t rs start = refusedWith k (runMachine t rs start 5)
+machineRun k t rs start = refusedWith k (machineAnswer t rs start 5)
 
 -- with words, and for a graph a list of starters
 abbrev graphOnWords : ℕ → List ℕ → List ℕ → ℕ → List ℕ → Bool
-graphOnWords k t rs start starters = refusedWith k (runGraphOn t rs start 5 (1 ∷ 1 ∷ []) starters)
+graphOnWords k t rs start starters = refusedWith k (graphWordsAnswer t rs start 5 (1 ∷ 1 ∷ []) starters)
 
 abbrev machineOnWords : ℕ → List ℕ → List ℕ → ℕ → Bool
-machineOnWords k t rs start = refusedWith k (runMachineOn t rs start 5 (1 ∷ 1 ∷ []))
+machineOnWords k t rs start = refusedWith k (machineWordsAnswer t rs start 5 (1 ∷ 1 ∷ []))
 
 unfoldable pub orders : List Row
-unfolding compareCaptures concatMap groups machine answered graphRefusal graphWordsRefusal graphOf machineRefusal machineWordsRefusal machineOf graphTable machineTable graphAdmitted machineAdmitted readAnswer writeAnswer synthesisAnswer P11 Rates gotoTwo
+unfolding compareCaptures concatMap groups machine answered graphRefusal graphWordsRefusal graphOf machineRefusal machineWordsRefusal machineOf graphTableOf machineTableOf admittedGraph admittedMachine readAnswer writeAnswer synthesisAnswer P11 Rates gotoTwo
 orders =
     -- reading: 1; 7; the first faulty line with 2, 3, 4 or 5
     row "read: 1 before 7" (same (readingInto shortGraph long) (1 ∷ 0 ∷ []))
@@ -166,7 +166,7 @@ orders =
     ∷ row "graph: 12" (graphRun 12 sampling registers 1)
     ∷ row "graph: 12 before 9" (graphRun 12 sampling registers 2)
     ∷ row "graph: 9" (graphRun 9 loop registers 1)
-    ∷ row "graph: 9 also with budget 0" (refusedWith 9 (runGraph loop registers 1 0))
+    ∷ row "graph: 9 also with budget 0" (refusedWith 9 (graphAnswer loop registers 1 0))
     -- run machine: 7 of the table, 7 of the registers, 10, 12, 9
     ∷ row "machine: 7 and 7" (machineRun 7 (take 13633 loopMachine) shortRegisters 0)
     ∷ row "machine: 7 of the table" (machineRun 7 (take 13633 loopMachine) registers 0)
@@ -183,7 +183,7 @@ orders =
     ∷ row "machine: 12" (machineRun 12 samplingMachine registers 0)
     ∷ row "machine: 12 before 9" (machineRun 12 samplingMachine registers 1)
     ∷ row "machine: 9" (machineRun 9 loopMachine registers 1)
-    ∷ row "machine: 9 also with budget 0" (refusedWith 9 (runMachine loopMachine registers 1 0))
+    ∷ row "machine: 9 also with budget 0" (refusedWith 9 (machineAnswer loopMachine registers 1 0))
     -- run graph with words: 7 of the table, 7 of the registers, 6, 9, 11
     ∷ row "graph with words: 7 and 7" (graphOnWords 7 (take 2561 loop) shortRegisters 0 (0 ∷ []))
     ∷ row "graph with words: 7 of the table before 6" (graphOnWords 7 shortGraph registers 0 (0 ∷ []))

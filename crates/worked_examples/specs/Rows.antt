@@ -5,11 +5,11 @@ use mathlib.Core.Bool.{Bool}
 use mathlib.Core.List.{List, [], _∷_}
 use lib.ListN.{replicate}
 use Rattle.runs.specs.Lists.{same}
-use Rattle.runs.specs.Runs.{numberOf, outcomeOf, countOf, nextOf}
+use Rattle.runs.specs.Runs.{runNumber, runOutcome, runCount, runNext}
 use Rattle.runs.specs.declared.RunAnswer.{RunAnswer}
 use Rattle.cfg.specs.Layout.{graphWords}
 use Rattle.capture.specs.Capture.{compareCaptures, refusalNumber, faultyRecording, faultyLine, sharedCount, differsFlag, differingCycle}
-use Rattle.cfg_text.specs.Read.{readAnswer, numberOf as readNumber, lineOf as readLine}
+use Rattle.cfg_text.specs.Read.{readAnswer, readNumber, readLine}
 use Rattle.fsmd.specs.Layout.{machineWords}
 use Rattle.synthesis.specs.declared.SynthesisAnswer.{SynthesisAnswer}
 use Rattle.synthesis.specs.declared.SynthesisAnswer.the-variants.{Refused, Made}
@@ -39,7 +39,7 @@ reading text = readingInto noGraph text
 
 -- number, outcome, count and next of a run
 abbrev pub fields : RunAnswer → List ℕ
-fields r = numberOf r ∷ outcomeOf r ∷ countOf r ∷ nextOf r ∷ []
+fields r = runNumber r ∷ runOutcome r ∷ runCount r ∷ runNext r ∷ []
 
 -- a run that is refused with number n: zero in every other field
 abbrev pub refusedWith : ℕ → RunAnswer → Bool

@@ -10,12 +10,12 @@ use Rattle.runs.specs.Lists.{upFrom, same, every, concatMap}
 use Rattle.runs.specs.Runs.{halted, Configuration, unread}
 use Rattle.runs.specs.Operations.{answered, registersLeft}
 use Rattle.cfg.specs.Graph.{runBlock}
-use Rattle.cfg.specs.Table.{tableOf as graphTable, graphOf, admitted as graphAdmitted}
-use Rattle.cfg.specs.Run.{refusal as graphRefusal, runAnswer as runGraph}
+use Rattle.cfg.specs.Table.{graphTableOf, graphOf, admittedGraph}
+use Rattle.cfg.specs.Run.{graphRefusal, graphAnswer}
 use Rattle.fsmd.specs.Layout.{maxRegisters}
 use Rattle.fsmd.specs.Machine.{State, FSMD, machineRunner, clock}
-use Rattle.fsmd.specs.Table.{tableOf, machineOf, admitted}
-use Rattle.fsmd.specs.Run.{refusal, runAnswer as runMachine, runRegisters}
+use Rattle.fsmd.specs.Table.{machineTableOf, machineOf, admittedMachine}
+use Rattle.fsmd.specs.Run.{machineRefusal, machineAnswer, machineRegisters}
 use Rattle.grouping.specs.Grouping.{groups}
 use Rattle.state.specs.Wires.{set-wire}
 use Rattle.synthesis.specs.Synthesis.{machine, synthesisWords}
@@ -38,7 +38,7 @@ pub record SameHalt (c d : Configuration) : Type 0 where
 
 -- A machine table that runs ahead of Twice, on all registers.
 pub record RunsAhead (m : List ℕ) : Type 0 where
-  pub accepted : admitted m ≡ true
+  pub accepted : admittedMachine m ≡ true
   -- its first cycle leaves the registers of the whole run, which takes three blocks
   pub early : (rs : List ℕ) → length rs ≡ maxRegisters → cyclesOn m rs 1 .registers ≡ blocksOn rs 3 .registers
   -- where the run has ended, with cycle 2 and block 3, nothing tells it from a right one
@@ -57,31 +57,31 @@ with q =
 
 -- this one goes on to state 1, where its second cycle finds all done, and halts when the graph does
 unfoldable pub idling : List ℕ
-unfolding tableOf machine Twice
-idling = tableOf (with (atOnce 1))
+unfolding machineTableOf machine Twice
+idling = machineTableOf (with (atOnce 1))
 
 -- this one halts at once
 unfoldable pub halting : List ℕ
-unfolding tableOf machine Twice
-halting = tableOf (with (atOnce 255))
+unfolding machineTableOf machine Twice
+halting = machineTableOf (with (atOnce 255))
 
 -- ---- the three machines through the operations, from registers 0 and 0
 
 abbrev right : List ℕ
-right = synthesisWords (graphTable Twice) noMachine
+right = synthesisWords (graphTableOf Twice) noMachine
 
 abbrev answersAt : List ℕ → ℕ → List ℕ
-answersAt m k = fields (runMachine m (regs 0 0) 0 k)
+answersAt m k = fields (machineAnswer m (regs 0 0) 0 k)
 
 abbrev leftAt : List ℕ → ℕ → List ℕ
-leftAt m k = runRegisters m (regs 0 0) 0 k
+leftAt m k = machineRegisters m (regs 0 0) 0 k
 
 unfoldable pub ahead : List Row
-unfolding idling halting concatMap evalOf groups machine answered registersLeft graphRefusal graphOf graphAdmitted runBlock refusal machineOf admitted clock graphTable tableOf synthesisWords Twice
+unfolding idling halting concatMap evalOf groups machine answered registersLeft graphRefusal graphOf admittedGraph runBlock machineRefusal machineOf admittedMachine clock graphTableOf machineTableOf synthesisWords Twice
 ahead =
     row "Twice: starters" (same (groups Twice .starters) (0 ∷ 1 ∷ []))
     ∷ row "Twice: blocks by state" (same (groups Twice .states) (0 ∷ 1 ∷ 1 ∷ []))
-    ∷ row "Twice: three blocks" (same (fields (runGraph (graphTable Twice) (regs 0 0) 0 9)) (0 ∷ 1 ∷ 3 ∷ 255 ∷ []))
+    ∷ row "Twice: three blocks" (same (fields (graphAnswer (graphTableOf Twice) (regs 0 0) 0 9)) (0 ∷ 1 ∷ 3 ∷ 255 ∷ []))
     ∷ row "its machine: two cycles" (same (answersAt right 9) (0 ∷ 1 ∷ 2 ∷ 255 ∷ []))
     ∷ row "its machine: registers after cycle 1" (same (leftAt right 1) (regs 1 0))
     ∷ row "its machine: registers after cycle 2" (same (leftAt right 2) (regs 1 2))

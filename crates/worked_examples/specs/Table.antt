@@ -13,16 +13,16 @@ use Rattle.runs.specs.Operations.{answered, registersLeft}
 use Rattle.runs.specs.declared.RunAnswer.the-variants.{Spent}
 use Rattle.cfg.specs.Layout.{graphWords}
 use Rattle.cfg.specs.Graph.{CFG, runBlock, graphRunner}
-use Rattle.cfg.specs.Table.{tableOf as graphTable, graphOf, admitted as graphAdmitted}
-use Rattle.cfg.specs.Run.{refusal as graphRefusal, runAnswer as runGraph, runRegisters as graphRegisters, wordsRefusal as graphWordsRefusal, wordsAnswer as runGraphOn, wordsRegisters as graphRegistersOn}
+use Rattle.cfg.specs.Table.{graphTableOf, graphOf, admittedGraph}
+use Rattle.cfg.specs.Run.{graphRefusal, graphAnswer, graphRegisters, graphWordsRefusal, graphWordsAnswer, graphWordsRegisters}
 use Rattle.capture.specs.Capture.{compareCaptures}
 use Rattle.cfg_text.specs.Read.{readAnswer, readWords}
 use Rattle.fsmd.specs.Layout.{maxRegisters, machineWords}
 use Rattle.fsmd.specs.Machine.{State, clock, machineRunner}
-use Rattle.fsmd.specs.Table.{tableOf as machineTable, machineOf, admitted as machineAdmitted}
-use Rattle.fsmd.specs.Run.{refusal as machineRefusal, runAnswer as runMachine, runRegisters as machineRegisters, wordsRefusal as machineWordsRefusal, wordsAnswer as runMachineOn, wordsRegisters as machineRegistersOn}
+use Rattle.fsmd.specs.Table.{machineTableOf, machineOf, admittedMachine}
+use Rattle.fsmd.specs.Run.{machineRefusal, machineAnswer, machineRegisters, machineWordsRefusal, machineWordsAnswer, machineWordsRegisters}
 use Rattle.grouping.specs.Grouping.{groups}
-use Rattle.placement.specs.Counts.{lowered, Choice, Edge, blocksOf, choicesOf, lowerings}
+use Rattle.placement.specs.Counts.{lowered, Choice, BlockEdge, blocksOf, choicesOf, lowerings}
 use Rattle.synthesis.specs.Synthesis.{machine, synthesisWords}
 use Rattle.worked_examples.specs.Graphs.{P7, P9, P10, P11, P12, Figure5, Rates, Twins}
 use Rattle.worked_examples.specs.Rows.{Row, row, reading, fields, regs, agree, differ, refused}
@@ -52,10 +52,10 @@ abbrev countsBefore : CFG → ℕ → List (List ℕ)
 countsBefore g k = map (λ (c : Choice). map (c .counts) (c .unplaced)) (choicesOf g (groups g) k)
 
 abbrev loweredBy : CFG → ℕ → List ℕ
-loweredBy g k = concatMap (λ (e : Edge). e .source ∷ e .way ∷ e .target ∷ []) (lowerings g (groups g) k)
+loweredBy g k = concatMap (λ (e : BlockEdge). e .source ∷ e .way ∷ e .target ∷ []) (lowerings g (groups g) k)
 
 unfoldable pub rows : List Row
-unfolding compareCaptures recorded sixteen choicesOf lowered lowerings concatMap Twins evalOf groups machine answered registersLeft graphRefusal graphWordsRefusal graphOf runBlock machineRefusal machineWordsRefusal machineOf clock graphTable machineTable graphAdmitted machineAdmitted readAnswer readWords P7 P9 P10 P11 P12 Figure5 Rates gotoTwo gotoOne eight nine p7Text
+unfolding compareCaptures recorded sixteen choicesOf lowered lowerings concatMap Twins evalOf groups machine answered registersLeft graphRefusal graphWordsRefusal graphOf runBlock machineRefusal machineWordsRefusal machineOf clock graphTableOf machineTableOf admittedGraph admittedMachine readAnswer readWords P7 P9 P10 P11 P12 Figure5 Rates gotoTwo gotoOne eight nine p7Text
 rows =
     row "P1 the empty text: 3, line 1" (same (reading []) (3 ∷ 1 ∷ []))
     ∷ row "P2 graph,65,1: 2, line 1" (same (reading (lines ("graph,65,1" ∷ []))) (2 ∷ 1 ∷ []))
@@ -67,30 +67,30 @@ rows =
     ∷ row "P5 -200 lt 0" (eqb (evalOf 0 14 4294967096 0 0) 1)
     ∷ row "P5 4294967096 ltu 0" (eqb (evalOf 0 16 4294967096 0 0) 0)
     ∷ row "P6 0 sub 1" (eqb (evalOf 0 4 0 1 0) 4294967295)
-    ∷ row "P7 its text is read" (same (readWords p7Text (replicate graphWords 0)) (graphTable P7))
+    ∷ row "P7 its text is read" (same (readWords p7Text (replicate graphWords 0)) (graphTableOf P7))
     ∷ row "P7 starters" (same (groups P7 .starters) (0 ∷ 1 ∷ []))
     ∷ row "P7 blocks by state" (same (groups P7 .states) (0 ∷ 1 ∷ 1 ∷ 1 ∷ 1 ∷ 1 ∷ []))
     ∷ row "P7 wires by state" (same (wireCounts P7) (2 ∷ 18 ∷ []))
-    ∷ row "P7 words of the graph" (eqb (length (graphTable P7)) 2562)
-    ∷ row "P7 words of the machine" (eqb (length (machineTable (machine P7))) 13634)
-    ∷ row "P7 its tables are admitted" (graphAdmitted (graphTable P7) && machineAdmitted (machineTable (machine P7)))
-    ∷ row "P8 blocks" (same (fields (runGraph (graphTable P7) (regs 12 18) 0 1000)) (0 ∷ 1 ∷ 9 ∷ 255 ∷ []))
-    ∷ row "P8 registers of the graph" (same (graphRegisters (graphTable P7) (regs 12 18) 0 1000) (regs 6 6))
-    ∷ row "P8 cycles" (same (fields (runMachine (machineTable (machine P7)) (regs 12 18) 0 1000)) (0 ∷ 1 ∷ 4 ∷ 255 ∷ []))
-    ∷ row "P8 registers of the machine" (same (machineRegisters (machineTable (machine P7)) (regs 12 18) 0 1000) (regs 6 6))
+    ∷ row "P7 words of the graph" (eqb (length (graphTableOf P7)) 2562)
+    ∷ row "P7 words of the machine" (eqb (length (machineTableOf (machine P7))) 13634)
+    ∷ row "P7 its tables are admitted" (admittedGraph (graphTableOf P7) && admittedMachine (machineTableOf (machine P7)))
+    ∷ row "P8 blocks" (same (fields (graphAnswer (graphTableOf P7) (regs 12 18) 0 1000)) (0 ∷ 1 ∷ 9 ∷ 255 ∷ []))
+    ∷ row "P8 registers of the graph" (same (graphRegisters (graphTableOf P7) (regs 12 18) 0 1000) (regs 6 6))
+    ∷ row "P8 cycles" (same (fields (machineAnswer (machineTableOf (machine P7)) (regs 12 18) 0 1000)) (0 ∷ 1 ∷ 4 ∷ 255 ∷ []))
+    ∷ row "P8 registers of the machine" (same (machineRegisters (machineTableOf (machine P7)) (regs 12 18) 0 1000) (regs 6 6))
     ∷ row "P9 starters" (same (groups P9 .starters) (0 ∷ 1 ∷ 3 ∷ 4 ∷ []))
     ∷ row "P10 starters" (same (groups P10 .starters) (0 ∷ 1 ∷ 2 ∷ []))
     ∷ row "P11 one state" (same (groups P11 .starters) (0 ∷ []))
-    ∷ row "P11 not halted after 100 cycles" (same (fields (runMachine (machineTable (machine P11)) (regs 1 2) 0 100)) (0 ∷ 0 ∷ 100 ∷ 0 ∷ []))
+    ∷ row "P11 not halted after 100 cycles" (same (fields (machineAnswer (machineTableOf (machine P11)) (regs 1 2) 0 100)) (0 ∷ 0 ∷ 100 ∷ 0 ∷ []))
     ∷ row "P12 one state" (same (groups P12 .starters) (0 ∷ []))
     ∷ row "P12 block 2 has none" (same (groups P12 .states) (0 ∷ 0 ∷ 255 ∷ []))
-    ∷ row "P13 budget 0, the graph" (same (fields (runGraph (graphTable P7) (regs 12 18) 3 0)) (0 ∷ 0 ∷ 0 ∷ 3 ∷ []))
-    ∷ row "P13 budget 0, the machine" (same (fields (runMachine (machineTable (machine P7)) (regs 12 18) 1 0)) (0 ∷ 0 ∷ 0 ∷ 1 ∷ []))
+    ∷ row "P13 budget 0, the graph" (same (fields (graphAnswer (graphTableOf P7) (regs 12 18) 3 0)) (0 ∷ 0 ∷ 0 ∷ 3 ∷ []))
+    ∷ row "P13 budget 0, the machine" (same (fields (machineAnswer (machineTableOf (machine P7)) (regs 12 18) 1 0)) (0 ∷ 0 ∷ 0 ∷ 1 ∷ []))
     -- run only
     ∷ row "eight instructions" (same (reading eight) (0 ∷ 0 ∷ []))
     ∷ row "a ninth instruction: 3" (same (reading nine) (3 ∷ 11 ∷ []))
-    ∷ row "P7 on 0, 5 is spent" (same (fields (runGraph (graphTable P7) (regs 0 5) 0 300)) (0 ∷ 0 ∷ 300 ∷ 3 ∷ []))
-    -- wrong turns: P9 does not enter block 4 mid-state; an unreachable predecessor is no join; a wire reads the start of the cycle;
+    ∷ row "P7 on 0, 5 is spent" (same (fields (graphAnswer (graphTableOf P7) (regs 0 5) 0 300)) (0 ∷ 0 ∷ 300 ∷ 3 ∷ []))
+    -- known mistakes: P9 does not enter block 4 mid-state; an unreachable predecessor is no join; a wire reads the start of the cycle;
     -- an edge back to the own starter leaves the cycle
     ∷ row "P9 block 4 starts a state" (same (groups P9 .states) (0 ∷ 1 ∷ 0 ∷ 2 ∷ 3 ∷ []))
     ∷ row "P12 no join" (same (wireCounts P12) (2 ∷ []))
@@ -103,26 +103,26 @@ rows =
     ∷ row "in,1 with R = 1: 4" (same (reading (lines ("graph,1,1" ∷ "block,0" ∷ "in,1" ∷ "halt" ∷ []))) (4 ∷ 3 ∷ []))
     ∷ row "in,0,0: 2" (same (reading (lines ("graph,1,1" ∷ "block,0" ∷ "in,0,0" ∷ "halt" ∷ []))) (2 ∷ 3 ∷ []))
     -- R-1: runs with words
-    ∷ row "in: the graph is spent before it is dry" (same (fields (runGraphOn (graphTable Rates) (regs 0 0) 0 4 (5 ∷ 7 ∷ []) (0 ∷ []))) (0 ∷ 0 ∷ 4 ∷ 0 ∷ []))
-    ∷ row "in: the graph is dry" (same (fields (runGraphOn (graphTable Rates) (regs 0 0) 0 9 (5 ∷ 7 ∷ []) (0 ∷ []))) (0 ∷ 2 ∷ 4 ∷ 0 ∷ []))
-    ∷ row "in: registers of the graph" (same (graphRegistersOn (graphTable Rates) (regs 0 0) 0 9 (5 ∷ 7 ∷ []) (0 ∷ [])) (regs 7 14))
-    ∷ row "in: every block an arrival" (same (graphRegistersOn (graphTable Rates) (regs 0 0) 0 2 (5 ∷ 7 ∷ []) (1 ∷ 0 ∷ [])) (regs 5 12))
-    ∷ row "in: the machine is spent before it is dry" (same (fields (runMachineOn (machineTable (machine Rates)) (regs 0 0) 0 2 (5 ∷ 7 ∷ []))) (0 ∷ 0 ∷ 2 ∷ 0 ∷ []))
-    ∷ row "in: the machine is dry" (same (fields (runMachineOn (machineTable (machine Rates)) (regs 0 0) 0 3 (5 ∷ 7 ∷ []))) (0 ∷ 2 ∷ 2 ∷ 0 ∷ []))
-    ∷ row "in: registers of the machine" (same (machineRegistersOn (machineTable (machine Rates)) (regs 0 0) 0 3 (5 ∷ 7 ∷ [])) (regs 7 14))
-    ∷ row "no words: dry at once" (same (fields (runGraphOn (graphTable Rates) (regs 0 0) 0 1 [] (0 ∷ []))) (0 ∷ 2 ∷ 0 ∷ 0 ∷ []))
-    ∷ row "no words, no budget: spent" (same (fields (runGraphOn (graphTable Rates) (regs 0 0) 0 0 [] (0 ∷ []))) (0 ∷ 0 ∷ 0 ∷ 0 ∷ []))
-    ∷ row "dry at a word that nothing reads" (same (fields (runMachineOn (machineTable (machine P7)) (regs 12 18) 0 9 (1 ∷ 1 ∷ []))) (0 ∷ 2 ∷ 2 ∷ 1 ∷ []))
-    ∷ row "halted on the last unit" (same (fields (runMachineOn (machineTable (machine P7)) (regs 12 18) 0 4 (1 ∷ 1 ∷ 1 ∷ 1 ∷ []))) (0 ∷ 1 ∷ 4 ∷ 255 ∷ []))
-    ∷ row "a starter that leads to itself is an arrival each time" (same (fields (runGraphOn (graphTable P11) (regs 0 0) 0 9 (1 ∷ 1 ∷ 1 ∷ []) (0 ∷ []))) (0 ∷ 2 ∷ 3 ∷ 0 ∷ []))
+    ∷ row "in: the graph is spent before it is dry" (same (fields (graphWordsAnswer (graphTableOf Rates) (regs 0 0) 0 4 (5 ∷ 7 ∷ []) (0 ∷ []))) (0 ∷ 0 ∷ 4 ∷ 0 ∷ []))
+    ∷ row "in: the graph is dry" (same (fields (graphWordsAnswer (graphTableOf Rates) (regs 0 0) 0 9 (5 ∷ 7 ∷ []) (0 ∷ []))) (0 ∷ 2 ∷ 4 ∷ 0 ∷ []))
+    ∷ row "in: registers of the graph" (same (graphWordsRegisters (graphTableOf Rates) (regs 0 0) 0 9 (5 ∷ 7 ∷ []) (0 ∷ [])) (regs 7 14))
+    ∷ row "in: every block an arrival" (same (graphWordsRegisters (graphTableOf Rates) (regs 0 0) 0 2 (5 ∷ 7 ∷ []) (1 ∷ 0 ∷ [])) (regs 5 12))
+    ∷ row "in: the machine is spent before it is dry" (same (fields (machineWordsAnswer (machineTableOf (machine Rates)) (regs 0 0) 0 2 (5 ∷ 7 ∷ []))) (0 ∷ 0 ∷ 2 ∷ 0 ∷ []))
+    ∷ row "in: the machine is dry" (same (fields (machineWordsAnswer (machineTableOf (machine Rates)) (regs 0 0) 0 3 (5 ∷ 7 ∷ []))) (0 ∷ 2 ∷ 2 ∷ 0 ∷ []))
+    ∷ row "in: registers of the machine" (same (machineWordsRegisters (machineTableOf (machine Rates)) (regs 0 0) 0 3 (5 ∷ 7 ∷ [])) (regs 7 14))
+    ∷ row "no words: dry at once" (same (fields (graphWordsAnswer (graphTableOf Rates) (regs 0 0) 0 1 [] (0 ∷ []))) (0 ∷ 2 ∷ 0 ∷ 0 ∷ []))
+    ∷ row "no words, no budget: spent" (same (fields (graphWordsAnswer (graphTableOf Rates) (regs 0 0) 0 0 [] (0 ∷ []))) (0 ∷ 0 ∷ 0 ∷ 0 ∷ []))
+    ∷ row "dry at a word that nothing reads" (same (fields (machineWordsAnswer (machineTableOf (machine P7)) (regs 12 18) 0 9 (1 ∷ 1 ∷ []))) (0 ∷ 2 ∷ 2 ∷ 1 ∷ []))
+    ∷ row "halted on the last unit" (same (fields (machineWordsAnswer (machineTableOf (machine P7)) (regs 12 18) 0 4 (1 ∷ 1 ∷ 1 ∷ 1 ∷ []))) (0 ∷ 1 ∷ 4 ∷ 255 ∷ []))
+    ∷ row "a starter that leads to itself is an arrival each time" (same (fields (graphWordsAnswer (graphTableOf P11) (regs 0 0) 0 9 (1 ∷ 1 ∷ 1 ∷ []) (0 ∷ []))) (0 ∷ 2 ∷ 3 ∷ 0 ∷ []))
     -- R-1: refusals
-    ∷ row "a list without the start: 11" (same (fields (runGraphOn (graphTable Rates) (regs 0 0) 1 1 [] (0 ∷ []))) (11 ∷ 0 ∷ 0 ∷ 0 ∷ []))
-    ∷ row "a list without block 0: 11" (same (fields (runGraphOn (graphTable Rates) (regs 0 0) 1 1 [] (1 ∷ []))) (11 ∷ 0 ∷ 0 ∷ 0 ∷ []))
-    ∷ row "a list with a block that is none: 11" (same (fields (runGraphOn (graphTable Rates) (regs 0 0) 0 1 [] (0 ∷ 2 ∷ []))) (11 ∷ 0 ∷ 0 ∷ 0 ∷ []))
-    ∷ row "the empty list: 11" (same (fields (runGraphOn (graphTable Rates) (regs 0 0) 0 1 [] [])) (11 ∷ 0 ∷ 0 ∷ 0 ∷ []))
-    ∷ row "9 before 11" (same (fields (runGraphOn (graphTable Rates) (regs 0 0) 2 1 [] [])) (9 ∷ 0 ∷ 0 ∷ 0 ∷ []))
-    ∷ row "a graph that reads words, run without: 12" (same (fields (runGraph (graphTable Rates) (regs 0 0) 2 1)) (12 ∷ 0 ∷ 0 ∷ 0 ∷ []))
-    ∷ row "a machine that reads words, run without: 12" (same (fields (runMachine (machineTable (machine Rates)) (regs 0 0) 1 1)) (12 ∷ 0 ∷ 0 ∷ 0 ∷ []))
+    ∷ row "a list without the start: 11" (same (fields (graphWordsAnswer (graphTableOf Rates) (regs 0 0) 1 1 [] (0 ∷ []))) (11 ∷ 0 ∷ 0 ∷ 0 ∷ []))
+    ∷ row "a list without block 0: 11" (same (fields (graphWordsAnswer (graphTableOf Rates) (regs 0 0) 1 1 [] (1 ∷ []))) (11 ∷ 0 ∷ 0 ∷ 0 ∷ []))
+    ∷ row "a list with a block that is none: 11" (same (fields (graphWordsAnswer (graphTableOf Rates) (regs 0 0) 0 1 [] (0 ∷ 2 ∷ []))) (11 ∷ 0 ∷ 0 ∷ 0 ∷ []))
+    ∷ row "the empty list: 11" (same (fields (graphWordsAnswer (graphTableOf Rates) (regs 0 0) 0 1 [] [])) (11 ∷ 0 ∷ 0 ∷ 0 ∷ []))
+    ∷ row "9 before 11" (same (fields (graphWordsAnswer (graphTableOf Rates) (regs 0 0) 2 1 [] [])) (9 ∷ 0 ∷ 0 ∷ 0 ∷ []))
+    ∷ row "a graph that reads words, run without: 12" (same (fields (graphAnswer (graphTableOf Rates) (regs 0 0) 2 1)) (12 ∷ 0 ∷ 0 ∷ 0 ∷ []))
+    ∷ row "a machine that reads words, run without: 12" (same (fields (machineAnswer (machineTableOf (machine Rates)) (regs 0 0) 1 1)) (12 ∷ 0 ∷ 0 ∷ 0 ∷ []))
     -- R-3: placing by counts
     ∷ row "an ite with two edges to one block: the order" (same (placed Twins 0) (0 ∷ 3 ∷ 2 ∷ 1 ∷ []))
     ∷ row "it has two edges waiting" (alike (countsBefore Twins 0) ((0 ∷ 2 ∷ 1 ∷ 2 ∷ []) ∷ (2 ∷ 1 ∷ 0 ∷ []) ∷ (1 ∷ 0 ∷ []) ∷ (0 ∷ []) ∷ []))
@@ -180,6 +180,6 @@ pub record WorkedExamples : Type 0 where
   pub machine-endless : (rs : List ℕ) → length rs ≡ maxRegisters → (k : ℕ) → answer (machineRunner (machine P11)) unread k (startAt 0 rs) ≡ Spent k 0
   -- and so the operations answer, from its text on, whatever the tables and the register buffer held
   pub run-graph-endless : (graph : List ℕ) → graphWords ≤ length graph
-      → (buffer : List ℕ) → maxRegisters ≤ length buffer → (k : ℕ) → runGraph (readWords p11Text graph) buffer 0 k ≡ Spent k 0
+      → (buffer : List ℕ) → maxRegisters ≤ length buffer → (k : ℕ) → graphAnswer (readWords p11Text graph) buffer 0 k ≡ Spent k 0
   pub run-machine-endless : (graph : List ℕ) → graphWords ≤ length graph → (made : List ℕ) → machineWords ≤ length made
-      → (buffer : List ℕ) → maxRegisters ≤ length buffer → (k : ℕ) → runMachine (synthesisWords (readWords p11Text graph) made) buffer 0 k ≡ Spent k 0
+      → (buffer : List ℕ) → maxRegisters ≤ length buffer → (k : ℕ) → machineAnswer (synthesisWords (readWords p11Text graph) made) buffer 0 k ≡ Spent k 0

@@ -7,13 +7,13 @@ use Rattle.word.specs.Word.{evalOf}
 use Rattle.runs.specs.Lists.{same, padded, concatMap}
 use Rattle.runs.specs.Operations.{answered}
 use Rattle.cfg.specs.Graph.{runBlock}
-use Rattle.cfg.specs.Table.{tableOf as graphTable, graphOf, admitted as graphAdmitted}
-use Rattle.cfg.specs.Run.{refusal as graphRefusal, runAnswer as runGraph}
+use Rattle.cfg.specs.Table.{graphTableOf, graphOf, admittedGraph}
+use Rattle.cfg.specs.Run.{graphRefusal, graphAnswer}
 use Rattle.cfg_text.specs.Read.{readAnswer, readWords}
-use Rattle.fsmd.specs.Layout.{maxStates, maxBlocks, recordWords, allRecordWords, allWireWords, recordsOffset, none}
+use Rattle.fsmd.specs.Layout.{maxStates, maxBlocks, recordWords, allRecordWords, allWireWords, recordsOffset, absent}
 use Rattle.fsmd.specs.Machine.{clock}
-use Rattle.fsmd.specs.Table.{tableOf as machineTable, machineOf, admitted as machineAdmitted}
-use Rattle.fsmd.specs.Run.{refusal as machineRefusal, runAnswer as runMachine}
+use Rattle.fsmd.specs.Table.{machineTableOf, machineOf, admittedMachine}
+use Rattle.fsmd.specs.Run.{machineRefusal, machineAnswer}
 use Rattle.grouping.specs.Grouping.{groups}
 use Rattle.synthesis.specs.Synthesis.{machine, synthesisAnswer, synthesisWords}
 use Rattle.worked_examples.specs.Graphs.{P9, P10, P11, P12}
@@ -32,7 +32,7 @@ abbrev headOf : List ℕ → List ℕ
 headOf m = take recordsOffset m
 
 abbrev head : ℕ → ℕ → List ℕ → List ℕ → List ℕ
-head n r starters states = n ∷ r ∷ (padded maxStates 0 starters ++ padded maxBlocks none states)
+head n r starters states = n ∷ r ∷ (padded maxStates 0 starters ++ padded maxBlocks absent states)
 
 -- first wire and wire count of the first n records
 abbrev firstAndCount : ℕ → List ℕ → List ℕ
@@ -44,16 +44,16 @@ wiresOf n m = firstAndCount n (drop recordsOffset m)
 
 -- number, outcome, count and next of Run graph and of Run machine, from block 0 and state 0
 abbrev graphRun : List ℕ → List ℕ → ℕ → List ℕ
-graphRun text registers budget = fields (runGraph (readFrom text) registers 0 budget)
+graphRun text registers budget = fields (graphAnswer (readFrom text) registers 0 budget)
 
 abbrev machineRun : List ℕ → List ℕ → ℕ → List ℕ
-machineRun text registers budget = fields (runMachine (madeFrom text) registers 0 budget)
+machineRun text registers budget = fields (machineAnswer (madeFrom text) registers 0 budget)
 
 unfoldable pub throughTables : List Row
-unfolding concatMap evalOf groups machine answered graphRefusal graphOf runBlock machineRefusal machineOf clock graphTable machineTable graphAdmitted machineAdmitted readAnswer readWords synthesisAnswer synthesisWords P9 P10 P11 P12 p9Text p10Text p11Text p12Text
+unfolding concatMap evalOf groups machine answered graphRefusal graphOf runBlock machineRefusal machineOf clock graphTableOf machineTableOf admittedGraph admittedMachine readAnswer readWords synthesisAnswer synthesisWords P9 P10 P11 P12 p9Text p10Text p11Text p12Text
 throughTables =
     row "P9 its text is read" (same (reading p9Text) (0 ∷ 0 ∷ []))
-    ∷ row "P9 the table it leaves" (same (readFrom p9Text) (graphTable P9))
+    ∷ row "P9 the table it leaves" (same (readFrom p9Text) (graphTableOf P9))
     ∷ row "P9 is synthesised" (eqb (synthesisNumber (synthesisAnswer (readFrom p9Text) noMachine)) 0)
     ∷ row "P9 states, starters, block states" (same (headOf (madeFrom p9Text)) (head 4 2 (0 ∷ 1 ∷ 3 ∷ 4 ∷ []) (0 ∷ 1 ∷ 0 ∷ 2 ∷ 3 ∷ [])))
     ∷ row "P9 wires" (same (wiresOf 5 (madeFrom p9Text)) (0 ∷ 16 ∷ 16 ∷ 9 ∷ 25 ∷ 2 ∷ 27 ∷ 2 ∷ 0 ∷ 0 ∷ []))
@@ -63,7 +63,7 @@ throughTables =
     ∷ row "P9 on 1, 1: block 1 for ever" (same (graphRun p9Text (regs 1 1) 9) (0 ∷ 0 ∷ 9 ∷ 1 ∷ []))
     ∷ row "P9 on 1, 1: its state for ever" (same (machineRun p9Text (regs 1 1) 9) (0 ∷ 0 ∷ 9 ∷ 1 ∷ []))
     ∷ row "P10 its text is read" (same (reading p10Text) (0 ∷ 0 ∷ []))
-    ∷ row "P10 the table it leaves" (same (readFrom p10Text) (graphTable P10))
+    ∷ row "P10 the table it leaves" (same (readFrom p10Text) (graphTableOf P10))
     ∷ row "P10 is synthesised" (eqb (synthesisNumber (synthesisAnswer (readFrom p10Text) noMachine)) 0)
     ∷ row "P10 states, starters, block states" (same (headOf (madeFrom p10Text)) (head 3 2 (0 ∷ 1 ∷ 2 ∷ []) (0 ∷ 1 ∷ 2 ∷ 1 ∷ [])))
     ∷ row "P10 wires" (same (wiresOf 4 (madeFrom p10Text)) (0 ∷ 9 ∷ 9 ∷ 9 ∷ 18 ∷ 2 ∷ 0 ∷ 0 ∷ []))
@@ -72,18 +72,18 @@ throughTables =
     ∷ row "P10 on 1, 1: blocks 1 and 2 for ever" (same (graphRun p10Text (regs 1 1) 9) (0 ∷ 0 ∷ 9 ∷ 1 ∷ []))
     ∷ row "P10 on 1, 1: their states for ever" (same (machineRun p10Text (regs 1 1) 8) (0 ∷ 0 ∷ 8 ∷ 2 ∷ []))
     ∷ row "P11 its text is read" (same (reading p11Text) (0 ∷ 0 ∷ []))
-    ∷ row "P11 the table it leaves" (same (readFrom p11Text) (graphTable P11))
+    ∷ row "P11 the table it leaves" (same (readFrom p11Text) (graphTableOf P11))
     ∷ row "P11 is synthesised" (eqb (synthesisNumber (synthesisAnswer (readFrom p11Text) noMachine)) 0)
     ∷ row "P11 states, starters, block states" (same (headOf (madeFrom p11Text)) (head 1 1 (0 ∷ []) (0 ∷ [])))
     ∷ row "P11 wires" (same (wiresOf 2 (madeFrom p11Text)) (0 ∷ 2 ∷ 0 ∷ 0 ∷ []))
     ∷ row "P11 its words behind the block states" (same (drop recordsOffset (madeFrom p11Text)) (padded allRecordWords 0 (0 ∷ 2 ∷ 17 ∷ []) ++ padded allWireWords 0 (1 ∷ 1 ∷ 0 ∷ 0 ∷ 1 ∷ [])))
     ∷ row "P12 its text is read" (same (reading p12Text) (0 ∷ 0 ∷ []))
-    ∷ row "P12 the table it leaves" (same (readFrom p12Text) (graphTable P12))
+    ∷ row "P12 the table it leaves" (same (readFrom p12Text) (graphTableOf P12))
     ∷ row "P12 is synthesised" (eqb (synthesisNumber (synthesisAnswer (readFrom p12Text) noMachine)) 0)
     ∷ row "P12 states, starters, block states" (same (headOf (madeFrom p12Text)) (head 1 1 (0 ∷ []) (0 ∷ 0 ∷ 255 ∷ [])))
     ∷ row "P12 wires" (same (wiresOf 2 (madeFrom p12Text)) (0 ∷ 2 ∷ 0 ∷ 0 ∷ []))
     ∷ row "P12 its words behind the block states" (same (drop recordsOffset (madeFrom p12Text)) (padded allRecordWords 0 (0 ∷ 2 ∷ 17 ∷ []) ++ padded allWireWords 0 (1 ∷ 1 ∷ 0 ∷ 0 ∷ 1 ∷ 255 ∷ [])))
     ∷ row "P12 from block 0: two blocks" (same (graphRun p12Text (regs 1 2) 9) (0 ∷ 1 ∷ 2 ∷ 255 ∷ []))
     ∷ row "P12 one cycle" (same (machineRun p12Text (regs 1 2) 9) (0 ∷ 1 ∷ 1 ∷ 255 ∷ []))
-    ∷ row "P12 from block 2: two blocks" (same (fields (runGraph (readFrom p12Text) (regs 1 2) 2 9)) (0 ∷ 1 ∷ 2 ∷ 255 ∷ []))
+    ∷ row "P12 from block 2: two blocks" (same (fields (graphAnswer (readFrom p12Text) (regs 1 2) 2 9)) (0 ∷ 1 ∷ 2 ∷ 255 ∷ []))
     ∷ []

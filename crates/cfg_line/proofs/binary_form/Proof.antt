@@ -2,7 +2,7 @@
 use mathlib.Core.Path.{_∙_, refl, sym}
 use lib.ListN.{drop}
 use denote.Ref.{now}
-use Rattle.cfg_line.specs.Number.{numberOf}
+use Rattle.cfg_line.specs.Number.{smallNumber}
 use Rattle.cfg_line.specs.Form.{number, end, instruction, formOf}
 use Rattle.cfg_line.proofs.Forms.{on, last, not-on, not-last}
 use borrow.Author.Needs.{needs}
@@ -15,7 +15,7 @@ returns c =
     let a = c .before .before .before .before .before .args in
     let t = now (a .text) in
     let k = a .code in
-    c .no-form .ensures ∙ sym (not-on numberOf (a .at) (drop (a .at) t) (λ d. number (λ x. number (λ y. end (instruction k d x y)))) (λ v. refl) (sym (c .before .before .before .number .ensures) ∙ c .before .enum-told .given .1))
+    c .no-form .ensures ∙ sym (not-on smallNumber (a .at) (drop (a .at) t) (λ d. number (λ x. number (λ y. end (instruction k d x y)))) (λ v. refl) (sym (c .before .before .before .number .ensures) ∙ c .before .enum-told .given .1))
 
 returns-2 : tie.Need-returns-2
 unfolding formOf
@@ -25,8 +25,8 @@ returns-2 c =
     let k = a .code in
     let d = c .before .before .before .before .before .d .given .0 .0 in
     let p = c .before .before .before .before .before .d .given .0 .1 .0 in
-    let e = on numberOf t (a .at) (λ d. number (λ x. number (λ y. end (instruction k d x y)))) (sym (c .before .before .before .before .before .before .before .number .ensures) ∙ c .before .before .before .before .before .d .given .1) in
-    c .no-form2 .ensures ∙ sym (e ∙ not-on numberOf p (drop p t) (λ x. number (λ y. end (instruction k d x y))) (λ v. refl) (sym (c .before .before .before .number2 .ensures) ∙ c .before .enum-told2 .given .1))
+    let e = on smallNumber t (a .at) (λ d. number (λ x. number (λ y. end (instruction k d x y)))) (sym (c .before .before .before .before .before .before .before .number .ensures) ∙ c .before .before .before .before .before .d .given .1) in
+    c .no-form2 .ensures ∙ sym (e ∙ not-on smallNumber p (drop p t) (λ x. number (λ y. end (instruction k d x y))) (λ v. refl) (sym (c .before .before .before .number2 .ensures) ∙ c .before .enum-told2 .given .1))
 
 returns-3 : tie.Need-returns-3
 unfolding formOf
@@ -36,11 +36,11 @@ returns-3 c =
     let k = a .code in
     let d = c .before .before .before .before .before .before .before .before .before .d .given .0 .0 in
     let p = c .before .before .before .before .before .before .before .before .before .d .given .0 .1 .0 in
-    let e = on numberOf t (a .at) (λ d. number (λ x. number (λ y. end (instruction k d x y)))) (sym (c .before .before .before .before .before .before .before .before .before .before .before .number .ensures) ∙ c .before .before .before .before .before .before .before .before .before .d .given .1) in
+    let e = on smallNumber t (a .at) (λ d. number (λ x. number (λ y. end (instruction k d x y)))) (sym (c .before .before .before .before .before .before .before .before .before .before .before .number .ensures) ∙ c .before .before .before .before .before .before .before .before .before .d .given .1) in
     let x = c .before .before .before .before .before .a .given .0 .0 in
     let q = c .before .before .before .before .before .a .given .0 .1 .0 in
-    let f = on numberOf t p (λ x. number (λ y. end (instruction k d x y))) (sym (c .before .before .before .before .before .before .before .number2 .ensures) ∙ c .before .before .before .before .before .a .given .1) in
-    c .no-form3 .ensures ∙ sym (e ∙ f ∙ not-last numberOf q (drop q t) (λ y. instruction k d x y) (sym (c .before .before .before .number3 .ensures) ∙ c .before .enum-told3 .given .1))
+    let f = on smallNumber t p (λ x. number (λ y. end (instruction k d x y))) (sym (c .before .before .before .before .before .before .before .number2 .ensures) ∙ c .before .before .before .before .before .a .given .1) in
+    c .no-form3 .ensures ∙ sym (e ∙ f ∙ not-last smallNumber q (drop q t) (λ y. instruction k d x y) (sym (c .before .before .before .number3 .ensures) ∙ c .before .enum-told3 .given .1))
 
 returns-4 : tie.Need-returns-4
 unfolding formOf
@@ -50,11 +50,11 @@ returns-4 c =
     let k = a .code in
     let d = c .before .before .before .before .before .before .before .before .before .d .given .0 .0 in
     let p = c .before .before .before .before .before .before .before .before .before .d .given .0 .1 .0 in
-    let e = on numberOf t (a .at) (λ d. number (λ x. number (λ y. end (instruction k d x y)))) (sym (c .before .before .before .before .before .before .before .before .before .before .before .number .ensures) ∙ c .before .before .before .before .before .before .before .before .before .d .given .1) in
+    let e = on smallNumber t (a .at) (λ d. number (λ x. number (λ y. end (instruction k d x y)))) (sym (c .before .before .before .before .before .before .before .before .before .before .before .number .ensures) ∙ c .before .before .before .before .before .before .before .before .before .d .given .1) in
     let x = c .before .before .before .before .before .a .given .0 .0 in
     let q = c .before .before .before .before .before .a .given .0 .1 .0 in
-    let f = on numberOf t p (λ x. number (λ y. end (instruction k d x y))) (sym (c .before .before .before .before .before .before .before .number2 .ensures) ∙ c .before .before .before .before .before .a .given .1) in
-    sym (e ∙ f ∙ last numberOf t q (λ y. instruction k d x y) (sym (c .before .before .before .number3 .ensures) ∙ c .before .b .given .1))
+    let f = on smallNumber t p (λ x. number (λ y. end (instruction k d x y))) (sym (c .before .before .before .before .before .before .before .number2 .ensures) ∙ c .before .before .before .before .before .a .given .1) in
+    sym (e ∙ f ∙ last smallNumber t q (λ y. instruction k d x y) (sym (c .before .before .before .number3 .ensures) ∙ c .before .b .given .1))
 
 pub binary-form-spec : {M : Type 1} → statement M
 binary-form-spec =

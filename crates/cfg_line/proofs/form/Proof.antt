@@ -2,7 +2,7 @@
 use mathlib.Core.Path.{_∙_, refl, sym}
 use lib.ListN.{drop}
 use denote.Ref.{now}
-use Rattle.cfg_line.specs.Number.{numberOf}
+use Rattle.cfg_line.specs.Number.{smallNumber}
 use Rattle.cfg_line.specs.Form.{number, formOf}
 use Rattle.cfg_line.specs.declared.Line.the-variants as line
 use Rattle.cfg_line.proofs.Forms.{last, not-last}
@@ -17,14 +17,14 @@ unfolding formOf
 returns c =
     let a = c .before .before .before .before .before .before .before .args in
     let t = now (a .text) in
-    rw (c .before .before .before .before .enum-told2 .given .1) (c .no-form .ensures ∙ sym (not-last numberOf (a .at) (drop (a .at) t) line.Block (sym (c .before .before .before .number .ensures) ∙ c .before .enum-told3 .given .1)))
+    rw (c .before .before .before .before .enum-told2 .given .1) (c .no-form .ensures ∙ sym (not-last smallNumber (a .at) (drop (a .at) t) line.Block (sym (c .before .before .before .number .ensures) ∙ c .before .enum-told3 .given .1)))
 
 returns-2 : tie.Need-returns-2
 unfolding formOf
 returns-2 c =
     let a = c .before .before .before .before .before .before .before .args in
     let t = now (a .text) in
-    rw (c .before .before .before .before .enum-told4 .given .1) (c .no-form2 .ensures ∙ sym (not-last numberOf (a .at) (drop (a .at) t) line.Goto (sym (c .before .before .before .number2 .ensures) ∙ c .before .enum-told5 .given .1)))
+    rw (c .before .before .before .before .enum-told4 .given .1) (c .no-form2 .ensures ∙ sym (not-last smallNumber (a .at) (drop (a .at) t) line.Goto (sym (c .before .before .before .number2 .ensures) ∙ c .before .enum-told5 .given .1)))
 
 returns-3 : tie.Need-returns-3
 returns-3 c = rw (c .before .enum-told .given .1) (c .graph-form .ensures)
@@ -34,14 +34,14 @@ unfolding formOf
 returns-4 c =
     let a = c .before .before .before .before .before .before .before .args in
     let t = now (a .text) in
-    rw (c .before .before .before .before .enum-told2 .given .1) (sym (last numberOf t (a .at) line.Block (sym (c .before .before .before .number .ensures) ∙ c .before .n .given .1)))
+    rw (c .before .before .before .before .enum-told2 .given .1) (sym (last smallNumber t (a .at) line.Block (sym (c .before .before .before .number .ensures) ∙ c .before .n .given .1)))
 
 returns-5 : tie.Need-returns-5
 unfolding formOf
 returns-5 c =
     let a = c .before .before .before .before .before .before .before .args in
     let t = now (a .text) in
-    rw (c .before .before .before .before .enum-told4 .given .1) (sym (last numberOf t (a .at) line.Goto (sym (c .before .before .before .number2 .ensures) ∙ c .before .t .given .1)))
+    rw (c .before .before .before .before .enum-told4 .given .1) (sym (last smallNumber t (a .at) line.Goto (sym (c .before .before .before .number2 .ensures) ∙ c .before .t .given .1)))
 
 returns-6 : tie.Need-returns-6
 returns-6 c = rw (c .before .enum-told6 .given .1) (c .ite-form .ensures)

@@ -2,7 +2,7 @@
 use mathlib.Core.Path.{_∙_, sym}
 use lib.ListN.{drop}
 use denote.Ref.{now}
-use Rattle.cfg_line.specs.Number.{numberOf}
+use Rattle.cfg_line.specs.Number.{smallNumber}
 use Rattle.cfg_line.specs.Form.{instruction, formOf}
 use Rattle.cfg_line.proofs.Forms.{last, not-last}
 use borrow.Author.Needs.{needs}
@@ -14,14 +14,14 @@ unfolding formOf
 returns c =
     let a = c .before .before .before .before .before .args in
     let t = now (a .text) in
-    c .no-form .ensures ∙ sym (not-last numberOf (a .at) (drop (a .at) t) (λ d. instruction 20 d 0 0) (sym (c .before .before .before .number .ensures) ∙ c .before .enum-told .given .1))
+    c .no-form .ensures ∙ sym (not-last smallNumber (a .at) (drop (a .at) t) (λ d. instruction 20 d 0 0) (sym (c .before .before .before .number .ensures) ∙ c .before .enum-told .given .1))
 
 returns-2 : tie.Need-returns-2
 unfolding formOf
 returns-2 c =
     let a = c .before .before .before .before .before .args in
     let t = now (a .text) in
-    sym (last numberOf t (a .at) (λ d. instruction 20 d 0 0) (sym (c .before .before .before .number .ensures) ∙ c .before .d .given .1))
+    sym (last smallNumber t (a .at) (λ d. instruction 20 d 0 0) (sym (c .before .before .before .number .ensures) ∙ c .before .d .given .1))
 
 pub in-form-spec : {M : Type 1} → statement M
 in-form-spec =

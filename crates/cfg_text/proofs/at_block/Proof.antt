@@ -11,7 +11,7 @@ use borrow.Author.Tests.{eq-eqb, ne-eqb, lt-ltb, le-ltb}
 use Rattle.cfg_line.specs.declared.Line.the-variants as line
 use Rattle.cfg_text.specs.declared.ReadAnswer.the-variants.{Refused}
 use Rattle.cfg_text.specs.Walk.{Progress, start, between, inside, next}
-use Rattle.cfg_text.specs.Place.{Stands, Agrees, Answers}
+use Rattle.cfg_text.specs.ReadSteps.{StandsAfter, Advances, AnswersReading}
 use Rattle.cfg_text.proofs.Otherwise.{not-block}
 use Rattle.cfg_text.proofs.Steps.{not-next, past-last, begins}
 use borrow.Author.Needs.{needs}

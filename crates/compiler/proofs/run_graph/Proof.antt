@@ -9,7 +9,7 @@ use Rattle.runs.specs.Operations.{RunValues}
 use Rattle.runs.proofs.OperationLaws.{operation-values}
 use Rattle.cfg.specs.Graph.{graphRunner}
 use Rattle.cfg.specs.Table.{graphOf}
-use Rattle.cfg.specs.Run.{refusal}
+use Rattle.cfg.specs.Run.{graphRefusal}
 use Rattle.compiler.proofs.run_graph.Statement.{statement}
 use Rattle.compiler.proofs.run_graph.Tie as tie
 
@@ -23,7 +23,7 @@ returns : tie.Need-returns
 returns c =
     let a = c .before .before .before .before .before .before .args in
     let u = c .before .before .run-graph in
-    let n = refusal (a .graph .now) (a .registers .now) (a .start) in
+    let n = graphRefusal (a .graph .now) (a .registers .now) (a .start) in
     let r = graphRunner (graphOf (a .graph .now)) [] in
     (u .ensures .0, (u .ensures .1, subst (RunValues n r unread (a .budget) (startAt (a .start) (take fileWords (a .registers .now)))) (sym (u .ensures .0)) (operation-values r unread (a .registers .now) (a .start) (a .budget) n)))
 

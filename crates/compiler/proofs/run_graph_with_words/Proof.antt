@@ -8,7 +8,7 @@ use Rattle.runs.specs.Operations.{RunValues}
 use Rattle.runs.proofs.OperationLaws.{operation-values}
 use Rattle.cfg.specs.Graph.{graphRunner}
 use Rattle.cfg.specs.Table.{graphOf}
-use Rattle.cfg.specs.Run.{wordsRefusal}
+use Rattle.cfg.specs.Run.{graphWordsRefusal}
 use Rattle.compiler.proofs.run_graph_with_words.Statement.{statement}
 use Rattle.compiler.proofs.run_graph_with_words.Tie as tie
 
@@ -22,7 +22,7 @@ returns : tie.Need-returns
 returns c =
     let a = c .before .before .before .before .before .before .before .before .args in
     let u = c .before .before .run-graph-with-words in
-    let n = wordsRefusal (a .graph .now) (a .registers .now) (a .start) (a .starters .now) in
+    let n = graphWordsRefusal (a .graph .now) (a .registers .now) (a .start) (a .starters .now) in
     let r = graphRunner (graphOf (a .graph .now)) (a .starters .now) in
     (u .ensures .0, (u .ensures .1, subst (RunValues n r (listed (a .words .now)) (a .budget) (startAt (a .start) (take fileWords (a .registers .now)))) (sym (u .ensures .0)) (operation-values r (listed (a .words .now)) (a .registers .now) (a .start) (a .budget) n)))
 

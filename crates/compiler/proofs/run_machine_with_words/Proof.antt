@@ -8,7 +8,7 @@ use Rattle.runs.specs.Operations.{RunValues}
 use Rattle.runs.proofs.OperationLaws.{operation-values}
 use Rattle.fsmd.specs.Machine.{machineRunner}
 use Rattle.fsmd.specs.Table.{machineOf}
-use Rattle.fsmd.specs.Run.{wordsRefusal}
+use Rattle.fsmd.specs.Run.{machineWordsRefusal}
 use Rattle.compiler.proofs.run_machine_with_words.Statement.{statement}
 use Rattle.compiler.proofs.run_machine_with_words.Tie as tie
 
@@ -22,7 +22,7 @@ returns : tie.Need-returns
 returns c =
     let a = c .before .before .before .before .before .before .before .args in
     let u = c .before .before .run-machine-with-words in
-    let n = wordsRefusal (a .machine .now) (a .registers .now) (a .start) in
+    let n = machineWordsRefusal (a .machine .now) (a .registers .now) (a .start) in
     let r = machineRunner (machineOf (a .machine .now)) in
     (u .ensures .0, (u .ensures .1, subst (RunValues n r (listed (a .words .now)) (a .budget) (startAt (a .start) (take fileWords (a .registers .now)))) (sym (u .ensures .0)) (operation-values r (listed (a .words .now)) (a .registers .now) (a .start) (a .budget) n)))
 

@@ -1,4 +1,4 @@
--- `grouping::group` meets its contract: each turn of its loop is a round of `GroupingRounds`. Assumes nothing.
+-- `grouping::group` meets its contract: each pass of its loop is a round of `GroupingRounds`. Assumes nothing.
 use mathlib.Core.Path.{_≡_, sym, _∙_}
 use Prim.Native.Nat.{_-_, _<_}
 use native.Mathlib.Omega.{arith}

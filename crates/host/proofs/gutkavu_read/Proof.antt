@@ -1,6 +1,6 @@
 -- `host::gutkavu_read` meets its contract: the fields are those of the operation's answer. Assumes nothing.
 use mathlib.Core.Path.{ap, _∙_}
-use Rattle.cfg_text.specs.Read.{numberOf, lineOf}
+use Rattle.cfg_text.specs.Read.{readNumber, readLine}
 use borrow.Author.Needs.{needs}
 use Rattle.host.proofs.gutkavu_read.Statement.{statement}
 use Rattle.host.proofs.gutkavu_read.Tie as tie
@@ -8,7 +8,7 @@ use Rattle.host.proofs.gutkavu_read.Tie as tie
 returns : tie.Need-returns
 returns c =
     let done = c .before .before .before .before .read-text .ensures in
-    (c .read-number .ensures ∙ ap numberOf (done .0), (c .before .read-line .ensures ∙ ap lineOf (done .0), done .1 .0))
+    (c .read-number .ensures ∙ ap readNumber (done .0), (c .before .read-line .ensures ∙ ap readLine (done .0), done .1 .0))
 
 pub gutkavu-read-spec : {M : Type 1} → statement M
 gutkavu-read-spec =

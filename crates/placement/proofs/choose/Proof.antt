@@ -28,7 +28,7 @@ returns c =
     record {
       within = l .inv .0;
       block = λ h. l .inv .1 ∙ first-here (λ x. eqb (countsIn (now (a .waits)) x) 0) (now (a .left)) (l .i) below e;
-      none = λ h. absurd (omega arith);
+      all-wait = λ h. absurd (omega arith);
     }
 
 loop-again : tie.Need-loop-again Inv-loop μ-loop
@@ -47,7 +47,7 @@ returns-2 c =
     record {
       within = l .inv .0;
       block = λ h. absurd (omega arith);
-      none = λ h. l .inv .1 ∙ first-done (λ x. eqb (countsIn (now (a .waits)) x) 0) (now (a .left)) (l .i) h;
+      all-wait = λ h. l .inv .1 ∙ first-done (λ x. eqb (countsIn (now (a .waits)) x) 0) (now (a .left)) (l .i) h;
     }
 
 pub choose-spec : {M : Type 1} → statement M

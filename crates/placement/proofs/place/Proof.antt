@@ -65,7 +65,7 @@ returns c =
 returns-2 : tie.Need-returns-2 Inv-loop μ-loop
 returns-2 c =
     let l = c .before .before .before .before .before .before .loop in
-    (omega (arith, l .inv .within, l .inv .few), stops-in (l .inv) (c .before .choose .ensures .none (omega (arith, c .if1 .taken, left-length (l .inv)))))
+    (omega (arith, l .inv .within, l .inv .few), stops-in (l .inv) (c .before .choose .ensures .all-wait (omega (arith, c .if1 .taken, left-length (l .inv)))))
 
 pub place-spec : {M : Type 1} → statement M
 place-spec =

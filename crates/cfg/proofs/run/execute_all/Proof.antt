@@ -7,7 +7,7 @@ use lib.ListN.{getD, set, drop}
 use borrow.Author.Needs.{needs}
 use Rattle.word.specs.declared.Registers.{Registers}
 use Rattle.cfg.specs.declared.Instruction.{Instruction}
-use Rattle.cfg.specs.Graph.{noInstruction, codeOf, execute, executeAll}
+use Rattle.cfg.specs.Graph.{noInstruction, instructionsOf, execute, executeAll}
 use Rattle.cfg.specs.Steps.{Within}
 use Rattle.cfg.specs.Table.{blockAt}
 use Rattle.cfg.proofs.Blocks.{count-at, instruction-of}
@@ -17,7 +17,7 @@ use Rattle.cfg.proofs.run.execute_all.Tie as tie
 
 abbrev Inv-loop : tie.InvT-loop
 Inv-loop table n sampled start count current₀ i₀ current i =
-    (i ≤ blockAt table n .count) × (executeAll sampled (codeOf (blockAt table n)) (current₀ .words) ≡ executeAll sampled (drop i (codeOf (blockAt table n))) (current .words))
+    (i ≤ blockAt table n .count) × (executeAll sampled (instructionsOf (blockAt table n)) (current₀ .words) ≡ executeAll sampled (drop i (instructionsOf (blockAt table n))) (current .words))
 
 abbrev μ-loop : tie.MeasureT-loop
 μ-loop table n sampled start count current₀ i₀ current i = blockAt table n .count - i
@@ -61,7 +61,7 @@ loop-again c =
     let same : i ≡ getD (b .instructions) (l .i) noInstruction = at .ensures ∙ sym (instruction-of t n (l .i) (omega arith)) in
     let written = ap (λ (f : Registers). f .words) (c .put .ensures) ∙ ap (set rs (i .d)) (c .before .before .value-of .ensures) in
     let run = ap (λ (x : Instruction). execute s x rs) (sym same) ∙ execute-is s i rs (subst Within (sym same) (k .pre .2 .each (l .i) below)) ∙ sym written in
-    (omega arith, l .inv .1 ∙ code-next s b (k .pre .2 .fits) (l .i) rs below ∙ ap (executeAll s (drop (l .i + 1) (codeOf b))) run)
+    (omega arith, l .inv .1 ∙ code-next s b (k .pre .2 .fits) (l .i) rs below ∙ ap (executeAll s (drop (l .i + 1) (instructionsOf b))) run)
 
 returns : tie.Need-returns Inv-loop μ-loop
 returns c =

@@ -13,7 +13,7 @@ use Rattle.word.specs.Word.{choose}
 use Rattle.runs.specs.Runs.{Place, standing, halted, Configuration, standsAt, startAt, Supply, upTo, moved}
 use Rattle.cfg.specs.Steps.{placeOf, markedRunner}
 use Rattle.cfg.specs.Table.{blockAt, graphOf}
-use Rattle.cfg.specs.Graph.{codeOf, executeAll, leave}
+use Rattle.cfg.specs.Graph.{instructionsOf, executeAll, leave}
 use Rattle.cfg.proofs.Running.{block-within, ending-within, next-below, turn, moved-stands}
 use Rattle.cfg.proofs.Admitted.{admitted-facts}
 use Rattle.cfg.proofs.run.run_blocks.Statement.{statement}
@@ -109,7 +109,7 @@ module _ (d : tie.After-next-of Inv-loop μ-loop) where
       (omega (arith, d .before .before .before .before .before .loop-test .taken))
       (lt-ltb (l .arrivals) (k .args .limit) (omega (arith, d .before .before .before .before .if1 .left)))
       (l .inv .2)
-      (d .before .execute-all .ensures ∙ ap (λ s. executeAll s (codeOf (blockAt t (l .at))) (l .current .words)) (d .before .before .sampled .ensures))
+      (d .before .execute-all .ensures ∙ ap (λ s. executeAll s (instructionsOf (blockAt t (l .at))) (l .current .words)) (d .before .before .sampled .ensures))
       (leads p e)
 
   -- the next block is one, and standing there is an arrival where its mark is 1

@@ -10,10 +10,10 @@ use Rattle.runs.proofs.ListLaws.{and-left, and-right}
 use Rattle.runs.proofs.OperationLaws.{refuses, accepted, accepted-left}
 use Rattle.runs.proofs.SupplyLaws.{unread-alike}
 use Rattle.runs.specs.Runs.{upTo, unread}
-use Rattle.cfg.specs.Graph.{graphRunner, wordless}
+use Rattle.cfg.specs.Graph.{graphRunner, wordlessGraph}
 use Rattle.cfg.specs.Layout.{maxBlocks, maxRegisters}
-use Rattle.cfg.specs.Run.{refusal}
-use Rattle.cfg.specs.Table.{graphOf, admitted}
+use Rattle.cfg.specs.Run.{graphRefusal}
+use Rattle.cfg.specs.Table.{graphOf, admittedGraph}
 use Rattle.cfg.proofs.Marking.{marked-answer, marked-registers, unmarked-marks}
 use Rattle.cfg.proofs.Running.{short-table, short-registers, not-admitted, words-needed, no-start, none-refused}
 use Rattle.cfg.proofs.run.run_graph.Statement.{statement}
@@ -26,7 +26,7 @@ returns c =
     let rs = now (k .registers) in
     let g = graphRunner (graphOf t) [] in
     let ws = unread in
-    let n = refusal t rs (k .start) in
+    let n = graphRefusal t rs (k .start) in
     let h = short-table t rs (k .start) (c .if1 .taken) in
     refuses g ws rs (k .start) (k .budget) n 6 h
 
@@ -37,7 +37,7 @@ returns-2 c =
     let rs = now (k .registers) in
     let g = graphRunner (graphOf t) [] in
     let ws = unread in
-    let n = refusal t rs (k .start) in
+    let n = graphRefusal t rs (k .start) in
     let h = short-registers t rs (k .start) (c .before .if1 .left) (c .if2 .taken) in
     refuses g ws rs (k .start) (k .budget) n 6 h
 
@@ -48,7 +48,7 @@ returns-3 c =
     let rs = now (k .registers) in
     let g = graphRunner (graphOf t) [] in
     let ws = unread in
-    let n = refusal t rs (k .start) in
+    let n = graphRefusal t rs (k .start) in
     let ok = sym (c .before .is-admitted .ensures) ∙ c .if4 .taken in
     let e = rw ok at (sym (c .before .before .before .passes-with .ensures) ∙ not-true (c .before .before .before .passes-with .result) (c .before .before .if3 .taken)) in
     let h = words-needed t rs (k .start) (c .before .before .before .before .before .if1 .left) (c .before .before .before .before .if2 .left) ok e in
@@ -61,7 +61,7 @@ returns-4 c =
     let rs = now (k .registers) in
     let g = graphRunner (graphOf t) [] in
     let ws = unread in
-    let n = refusal t rs (k .start) in
+    let n = graphRefusal t rs (k .start) in
     let h = not-admitted t rs (k .start) (c .before .before .before .before .before .if1 .left) (c .before .before .before .before .if2 .left) (sym (c .before .is-admitted .ensures) ∙ c .if4 .left) in
     refuses g ws rs (k .start) (k .budget) n 5 h
 
@@ -72,10 +72,10 @@ returns-5 c =
     let rs = now (k .registers) in
     let g = graphRunner (graphOf t) [] in
     let ws = unread in
-    let n = refusal t rs (k .start) in
+    let n = graphRefusal t rs (k .start) in
     let pass = sym (c .before .before .before .passes-with .ensures) ∙ not-false (c .before .before .before .passes-with .result) (c .before .before .if3 .left) in
-    let ok = and-left (admitted t) (wordless (graphOf t)) pass in
-    let w = and-right (admitted t) (wordless (graphOf t)) pass in
+    let ok = and-left (admittedGraph t) (wordlessGraph (graphOf t)) pass in
+    let w = and-right (admittedGraph t) (wordlessGraph (graphOf t)) pass in
     let h = no-start t rs (k .start) (c .before .before .before .before .before .if1 .left) (c .before .before .before .before .if2 .left) ok w (omega (arith, c .if5 .taken)) in
     refuses g ws rs (k .start) (k .budget) n 8 h
 
@@ -83,7 +83,7 @@ run-from-requires : tie.Need-run-from-requires
 run-from-requires c κs =
     let t = now (c .before .before .before .before .before .before .before .before .before .before .before .args .table) in
     let pass = sym (c .before .before .before .before .before .before .passes-with .ensures) ∙ not-false (c .before .before .before .before .before .before .passes-with .result) (c .before .before .before .before .before .if3 .left) in
-    ((and-left (admitted t) (wordless (graphOf t)) pass, omega (arith, c .before .before .before .if5 .left), refl), c .before .before .before .before .before .before .before .if2 .left)
+    ((and-left (admittedGraph t) (wordlessGraph (graphOf t)) pass, omega (arith, c .before .before .before .if5 .left), refl), c .before .before .before .before .before .before .before .if2 .left)
 
 returns-6 : tie.Need-returns-6
 returns-6 c =
@@ -92,10 +92,10 @@ returns-6 c =
     let rs = now (k .registers) in
     let g = graphRunner (graphOf t) [] in
     let ws = unread in
-    let n = refusal t rs (k .start) in
+    let n = graphRefusal t rs (k .start) in
     let pass = sym (c .before .before .before .before .before .before .before .before .before .passes-with .ensures) ∙ not-false (c .before .before .before .before .before .before .before .before .before .passes-with .result) (c .before .before .before .before .before .before .before .before .if3 .left) in
-    let ok = and-left (admitted t) (wordless (graphOf t)) pass in
-    let w = and-right (admitted t) (wordless (graphOf t)) pass in
+    let ok = and-left (admittedGraph t) (wordlessGraph (graphOf t)) pass in
+    let w = and-right (admittedGraph t) (wordlessGraph (graphOf t)) pass in
     let h = none-refused t rs (k .start) (c .before .before .before .before .before .before .before .before .before .before .before .if1 .left) (c .before .before .before .before .before .before .before .before .before .before .if2 .left) ok w (omega (arith, c .before .before .before .before .before .before .if5 .left)) in
     let e = c .before .before .run-from .ensures in
     let m = unread-alike (k .budget) in

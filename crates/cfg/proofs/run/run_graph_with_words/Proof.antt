@@ -11,7 +11,7 @@ use Rattle.runs.proofs.SupplyLaws.{cut-alike}
 use Rattle.runs.specs.Runs.{upTo, listed}
 use Rattle.cfg.specs.Graph.{graphRunner}
 use Rattle.cfg.specs.Layout.{maxRegisters}
-use Rattle.cfg.specs.Run.{wordsRefusal}
+use Rattle.cfg.specs.Run.{graphWordsRefusal}
 use Rattle.cfg.specs.Table.{graphOf}
 use Rattle.cfg.proofs.Admitted.{admitted-facts}
 use Rattle.cfg.proofs.Marking.{marked-answer, marked-registers}
@@ -26,7 +26,7 @@ returns c =
     let rs = now (k .registers) in
     let g = graphRunner (graphOf t) (now (k .starters)) in
     let ws = listed (now (k .words)) in
-    let n = wordsRefusal t rs (k .start) (now (k .starters)) in
+    let n = graphWordsRefusal t rs (k .start) (now (k .starters)) in
     let h = words-short-table t rs (k .start) (now (k .starters)) (c .if1 .taken) in
     refuses g ws rs (k .start) (k .budget) n 6 h
 
@@ -37,7 +37,7 @@ returns-2 c =
     let rs = now (k .registers) in
     let g = graphRunner (graphOf t) (now (k .starters)) in
     let ws = listed (now (k .words)) in
-    let n = wordsRefusal t rs (k .start) (now (k .starters)) in
+    let n = graphWordsRefusal t rs (k .start) (now (k .starters)) in
     let h = words-short-registers t rs (k .start) (now (k .starters)) (c .before .if1 .left) (c .if2 .taken) in
     refuses g ws rs (k .start) (k .budget) n 6 h
 
@@ -48,7 +48,7 @@ returns-3 c =
     let rs = now (k .registers) in
     let g = graphRunner (graphOf t) (now (k .starters)) in
     let ws = listed (now (k .words)) in
-    let n = wordsRefusal t rs (k .start) (now (k .starters)) in
+    let n = graphWordsRefusal t rs (k .start) (now (k .starters)) in
     let h = words-not-admitted t rs (k .start) (now (k .starters)) (c .before .before .before .if1 .left) (c .before .before .if2 .left) (sym (c .before .is-admitted .ensures) ∙ not-true (c .before .is-admitted .result) (c .if3 .taken)) in
     refuses g ws rs (k .start) (k .budget) n 5 h
 
@@ -59,7 +59,7 @@ returns-4 c =
     let rs = now (k .registers) in
     let g = graphRunner (graphOf t) (now (k .starters)) in
     let ws = listed (now (k .words)) in
-    let n = wordsRefusal t rs (k .start) (now (k .starters)) in
+    let n = graphWordsRefusal t rs (k .start) (now (k .starters)) in
     let ok = sym (c .before .before .before .is-admitted .ensures) ∙ not-false (c .before .before .before .is-admitted .result) (c .before .before .if3 .left) in
     let h = words-no-start t rs (k .start) (now (k .starters)) (c .before .before .before .before .before .if1 .left) (c .before .before .before .before .if2 .left) ok (c .if4 .taken) in
     refuses g ws rs (k .start) (k .budget) n 8 h
@@ -77,7 +77,7 @@ returns-5 c =
     let rs = now (k .registers) in
     let g = graphRunner (graphOf t) (now (k .starters)) in
     let ws = listed (now (k .words)) in
-    let n = wordsRefusal t rs (k .start) (now (k .starters)) in
+    let n = graphWordsRefusal t rs (k .start) (now (k .starters)) in
     let ok = sym (c .before .before .before .before .before .before .before .is-admitted .ensures) ∙ not-false (c .before .before .before .before .before .before .before .is-admitted .result) (c .before .before .before .before .before .before .if3 .left) in
     let u = sym (c .before .before .marked .ensures .0) ∙ not-true (c .before .before .marked .result) (c .if5 .taken) in
     let h = words-unfit t rs (k .start) (now (k .starters)) (c .before .before .before .before .before .before .before .before .before .if1 .left) (c .before .before .before .before .before .before .before .before .if2 .left) ok (c .before .before .before .before .if4 .left) u in
@@ -97,7 +97,7 @@ returns-6 c =
     let words = now (k .words) in
     let g = graphRunner (graphOf t) (now (k .starters)) in
     let ws = listed (now (k .words)) in
-    let n = wordsRefusal t rs (k .start) (now (k .starters)) in
+    let n = graphWordsRefusal t rs (k .start) (now (k .starters)) in
     let ok = sym (c .before .before .before .before .before .before .before .before .before .before .before .before .before .is-admitted .ensures) ∙ not-false (c .before .before .before .before .before .before .before .before .before .before .before .before .before .is-admitted .result) (c .before .before .before .before .before .before .before .before .before .before .before .before .if3 .left) in
     let fit = not-false (c .before .before .before .before .before .before .before .before .marked .result) (c .before .before .before .before .before .before .if5 .left) in
     let h = words-none-refused t rs (k .start) (now (k .starters)) (c .before .before .before .before .before .before .before .before .before .before .before .before .before .before .before .if1 .left) (c .before .before .before .before .before .before .before .before .before .before .before .before .before .before .if2 .left) ok (c .before .before .before .before .before .before .before .before .before .before .if4 .left) (sym (c .before .before .before .before .before .before .before .before .marked .ensures .0) ∙ fit) in

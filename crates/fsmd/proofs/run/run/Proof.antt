@@ -10,7 +10,7 @@ use borrow.Author.Tests.{lt-ltb, le-ltb}
 use Rattle.runs.proofs.RunLaws.{Reached, reached-start, reached-spent, registers-spent, reached-halted, reached-dry, registers-ended, halted-ends, dry-ends}
 use Rattle.runs.specs.Runs.{Configuration, standsAt, startAt, upTo, moved}
 use Rattle.fsmd.specs.Layout.{roomWords}
-use Rattle.fsmd.specs.Clock.{after}
+use Rattle.fsmd.specs.Clock.{afterCycle}
 use Rattle.fsmd.specs.Machine.{clock, machineRunner}
 use Rattle.fsmd.specs.Table.{machineOf, stateAt}
 use Rattle.fsmd.proofs.Machines.{admitted-facts}
@@ -64,8 +64,8 @@ returns c =
     let c₀ = startAt (a .start) (a .registers .words) in
     let r = d .cycle .result in
     let e = d .cycle .ensures ∙ ap₂ (λ (w k : ℕ). clock (machineOf t) w (stateAt t k) (b .loop .file .words)) (d .before .before .before .sampled .ensures) (d .before .before .word-index .ensures .0) in
-    let s = cycle-step t ws (a .budget) c₀ (b .loop .count) (b .loop .state) (b .loop .file .words) (after t r) (b .loop .inv .2) (b .loop .inv .0) (omega arith) (lt-ltb (b .loop .count) (a .limit) (omega arith)) e in
-    let end = moved (λ k. true) (b .loop .count) (after t r) in
+    let s = cycle-step t ws (a .budget) c₀ (b .loop .count) (b .loop .state) (b .loop .file .words) (afterCycle t r) (b .loop .inv .2) (b .loop .inv .0) (omega arith) (lt-ltb (b .loop .count) (a .limit) (omega arith)) e in
+    let end = moved (λ k. true) (b .loop .count) (afterCycle t r) in
     let h = after-halted t r (b .loop .count) (c .if1 .taken) in
     (sym (reached-halted m ws (a .budget) c₀ (b .loop .count + 1) end s (halted-ends ws end h) h), sym (registers-ended m ws (a .budget) c₀ (b .loop .count + 1) end s (halted-ends ws end h)))
 
@@ -83,7 +83,7 @@ loop-again c =
     let c₀ = startAt (a .start) (a .registers .words) in
     let r = d .cycle .result in
     let e = d .cycle .ensures ∙ ap₂ (λ (w k : ℕ). clock (machineOf t) w (stateAt t k) (b .loop .file .words)) (d .before .before .before .sampled .ensures) (d .before .before .word-index .ensures .0) in
-    let s = cycle-step t ws (a .budget) c₀ (b .loop .count) (b .loop .state) (b .loop .file .words) (after t r) (b .loop .inv .2) (b .loop .inv .0) (omega arith) (lt-ltb (b .loop .count) (a .limit) (omega arith)) e in (
+    let s = cycle-step t ws (a .budget) c₀ (b .loop .count) (b .loop .state) (b .loop .file .words) (afterCycle t r) (b .loop .inv .2) (b .loop .inv .0) (omega arith) (lt-ltb (b .loop .count) (a .limit) (omega arith)) e in (
       c .if1 .left,
       search needs,
       subst (λ (x : Configuration). Reached m ws (a .budget) c₀ (b .loop .count + 1) x) (after-standing t r (b .loop .count) (c .if1 .left)) s,

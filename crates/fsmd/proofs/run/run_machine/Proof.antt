@@ -9,7 +9,7 @@ use Rattle.runs.proofs.OperationLaws.{refuses, accepts}
 use Rattle.runs.proofs.SupplyLaws.{unread-alike}
 use Rattle.runs.specs.Runs.{unread, upTo}
 use Rattle.fsmd.specs.Machine.{machineRunner}
-use Rattle.fsmd.specs.Run.{refusal}
+use Rattle.fsmd.specs.Run.{machineRefusal}
 use Rattle.fsmd.specs.Table.{machineOf}
 use Rattle.fsmd.proofs.Steps.{refuse-table, refuse-registers, refuse-machine, refuse-wordless, refuse-start, refuse-none}
 use Rattle.fsmd.proofs.run.run_machine.Statement.{statement}
@@ -21,7 +21,7 @@ returns c =
     let t = now (a .table) in
     let rs = now (a .registers) in
     let e = refuse-table t rs (a .start) (c .if1 .taken) in
-    refuses (machineRunner (machineOf t)) unread rs (a .start) (a .budget) (refusal t rs (a .start)) 6 e
+    refuses (machineRunner (machineOf t)) unread rs (a .start) (a .budget) (machineRefusal t rs (a .start)) 6 e
 
 returns-2 : tie.Need-returns-2
 returns-2 c =
@@ -29,7 +29,7 @@ returns-2 c =
     let t = now (a .table) in
     let rs = now (a .registers) in
     let e = refuse-registers t rs (a .start) (c .before .if1 .left) (c .if2 .taken) in
-    refuses (machineRunner (machineOf t)) unread rs (a .start) (a .budget) (refusal t rs (a .start)) 6 e
+    refuses (machineRunner (machineOf t)) unread rs (a .start) (a .budget) (machineRefusal t rs (a .start)) 6 e
 
 returns-3 : tie.Need-returns-3
 returns-3 c =
@@ -38,7 +38,7 @@ returns-3 c =
     let t = now (a .table) in
     let rs = now (a .registers) in
     let e = refuse-machine t rs (a .start) (g .before .before .if1 .left) (g .before .if2 .left) (sym (g .admitted .ensures) ∙ not-true _ (c .if3 .taken)) in
-    refuses (machineRunner (machineOf t)) unread rs (a .start) (a .budget) (refusal t rs (a .start)) 9 e
+    refuses (machineRunner (machineOf t)) unread rs (a .start) (a .budget) (machineRefusal t rs (a .start)) 9 e
 
 is-wordless-requires : tie.Need-is-wordless-requires
 is-wordless-requires c κs = let g = c .before in (g .before .before .if1 .left, sym (g .admitted .ensures) ∙ not-false _ (c .if3 .left))
@@ -51,7 +51,7 @@ returns-4 c =
     let t = now (a .table) in
     let rs = now (a .registers) in
     let e = refuse-wordless t rs (a .start) (g .before .before .if1 .left) (g .before .if2 .left) (sym (g .admitted .ensures) ∙ not-false _ (w .before .if3 .left)) (sym (w .is-wordless .ensures) ∙ not-true _ (c .if4 .taken)) in
-    refuses (machineRunner (machineOf t)) unread rs (a .start) (a .budget) (refusal t rs (a .start)) 11 e
+    refuses (machineRunner (machineOf t)) unread rs (a .start) (a .budget) (machineRefusal t rs (a .start)) 11 e
 
 returns-5 : tie.Need-returns-5
 returns-5 c =
@@ -61,7 +61,7 @@ returns-5 c =
     let t = now (a .table) in
     let rs = now (a .registers) in
     let e = refuse-start t rs (a .start) (g .before .before .if1 .left) (g .before .if2 .left) (sym (g .admitted .ensures) ∙ not-false _ (w .before .if3 .left)) (sym (w .is-wordless .ensures) ∙ not-false _ (c .before .before .if4 .left)) (c .if5 .taken) in
-    refuses (machineRunner (machineOf t)) unread rs (a .start) (a .budget) (refusal t rs (a .start)) 8 e
+    refuses (machineRunner (machineOf t)) unread rs (a .start) (a .budget) (machineRefusal t rs (a .start)) 8 e
 
 run-from-requires : tie.Need-run-from-requires
 run-from-requires c κs =
@@ -80,7 +80,7 @@ returns-6 c =
     let t = now (a .table) in
     let rs = now (a .registers) in
     let e = refuse-none t rs (a .start) (g .before .before .if1 .left) (g .before .if2 .left) (sym (g .admitted .ensures) ∙ not-false _ (w .before .if3 .left)) (sym (w .is-wordless .ensures) ∙ not-false _ (s .before .before .if4 .left)) (s .if5 .left) in
-    accepts (machineRunner (machineOf t)) unread rs (a .start) (a .budget) (refusal t rs (a .start)) (upTo (a .budget) []) (unread-alike (a .budget)) e (r .result) (r .last .1 .0) (r .ensures .0) (r .ensures .1)
+    accepts (machineRunner (machineOf t)) unread rs (a .start) (a .budget) (machineRefusal t rs (a .start)) (upTo (a .budget) []) (unread-alike (a .budget)) e (r .result) (r .last .1 .0) (r .ensures .0) (r .ensures .1)
 
 pub run-machine-spec : {M : Type 1} → statement M
 run-machine-spec =

@@ -8,7 +8,7 @@ use Rattle.runs.proofs.OperationLaws.{refuses, accepts}
 use Rattle.runs.proofs.SupplyLaws.{Alike, cut-alike, cut-within}
 use Rattle.runs.specs.Runs.{listed, upTo}
 use Rattle.fsmd.specs.Machine.{machineRunner}
-use Rattle.fsmd.specs.Run.{wordsRefusal}
+use Rattle.fsmd.specs.Run.{machineWordsRefusal}
 use Rattle.fsmd.specs.Table.{machineOf}
 use Rattle.fsmd.proofs.Steps.{words-refuse-table, words-refuse-registers, words-refuse-machine, words-refuse-start, words-refuse-none}
 use Rattle.fsmd.proofs.run.run_machine_with_words.Statement.{statement}
@@ -20,7 +20,7 @@ returns c =
     let t = now (a .table) in
     let rs = now (a .registers) in
     let e = words-refuse-table t rs (a .start) (c .if1 .taken) in
-    refuses (machineRunner (machineOf t)) (listed (now (a .words))) rs (a .start) (a .budget) (wordsRefusal t rs (a .start)) 6 e
+    refuses (machineRunner (machineOf t)) (listed (now (a .words))) rs (a .start) (a .budget) (machineWordsRefusal t rs (a .start)) 6 e
 
 returns-2 : tie.Need-returns-2
 returns-2 c =
@@ -28,7 +28,7 @@ returns-2 c =
     let t = now (a .table) in
     let rs = now (a .registers) in
     let e = words-refuse-registers t rs (a .start) (c .before .if1 .left) (c .if2 .taken) in
-    refuses (machineRunner (machineOf t)) (listed (now (a .words))) rs (a .start) (a .budget) (wordsRefusal t rs (a .start)) 6 e
+    refuses (machineRunner (machineOf t)) (listed (now (a .words))) rs (a .start) (a .budget) (machineWordsRefusal t rs (a .start)) 6 e
 
 returns-3 : tie.Need-returns-3
 returns-3 c =
@@ -37,7 +37,7 @@ returns-3 c =
     let t = now (a .table) in
     let rs = now (a .registers) in
     let e = words-refuse-machine t rs (a .start) (g .before .before .if1 .left) (g .before .if2 .left) (sym (g .admitted .ensures) ∙ not-true _ (c .if3 .taken)) in
-    refuses (machineRunner (machineOf t)) (listed (now (a .words))) rs (a .start) (a .budget) (wordsRefusal t rs (a .start)) 9 e
+    refuses (machineRunner (machineOf t)) (listed (now (a .words))) rs (a .start) (a .budget) (machineWordsRefusal t rs (a .start)) 9 e
 
 returns-4 : tie.Need-returns-4
 returns-4 c =
@@ -46,7 +46,7 @@ returns-4 c =
     let t = now (a .table) in
     let rs = now (a .registers) in
     let e = words-refuse-start t rs (a .start) (g .before .before .if1 .left) (g .before .if2 .left) (sym (g .admitted .ensures) ∙ not-false _ (c .before .before .if3 .left)) (c .if4 .taken) in
-    refuses (machineRunner (machineOf t)) (listed (now (a .words))) rs (a .start) (a .budget) (wordsRefusal t rs (a .start)) 8 e
+    refuses (machineRunner (machineOf t)) (listed (now (a .words))) rs (a .start) (a .budget) (machineWordsRefusal t rs (a .start)) 8 e
 
 run-from-requires : tie.Need-run-from-requires
 run-from-requires c κs =
@@ -69,7 +69,7 @@ returns-5 c =
     let ws = now (a .words) in
     let e = words-refuse-none t rs (a .start) (g .before .before .if1 .left) (g .before .if2 .left) (sym (g .admitted .ensures) ∙ not-false _ (s .before .before .if3 .left)) (s .if4 .left) in
     let h = subst (λ (n : ℕ). Alike (a .budget) (upTo n ws) (listed ws)) (sym (n .ensures)) (cut-alike ws (a .budget)) in
-    accepts (machineRunner (machineOf t)) (listed ws) rs (a .start) (a .budget) (wordsRefusal t rs (a .start)) (upTo (n .result) ws) h e (r .result) (r .last .1 .0) (r .ensures .0) (r .ensures .1)
+    accepts (machineRunner (machineOf t)) (listed ws) rs (a .start) (a .budget) (machineWordsRefusal t rs (a .start)) (upTo (n .result) ws) h e (r .result) (r .last .1 .0) (r .ensures .0) (r .ensures .1)
 
 pub run-machine-with-words-spec : {M : Type 1} → statement M
 run-machine-with-words-spec =

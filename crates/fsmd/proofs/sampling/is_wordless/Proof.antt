@@ -8,14 +8,14 @@ use borrow.Author.Needs.{needs}
 use Rattle.runs.proofs.Every.{below-fails, below-passes, below-done}
 use Rattle.runs.specs.Lists.{upFrom, every}
 use Rattle.fsmd.specs.Layout.{maxStates}
-use Rattle.fsmd.specs.Machine.{wordless}
+use Rattle.fsmd.specs.Machine.{wordlessMachine}
 use Rattle.fsmd.specs.Table.{machineOf}
 use Rattle.fsmd.proofs.Machines.{wordlessWires, wordlessState, wordless-is, admitted-facts}
 use Rattle.fsmd.proofs.sampling.is_wordless.Statement.{statement}
 use Rattle.fsmd.proofs.sampling.is_wordless.Tie as tie
 
 abbrev Inv-loop : tie.InvT-loop
-Inv-loop table states k₀ k = (k ≤ states) × (states ≤ maxStates) × (wordless (machineOf table) ≡ every (wordlessState table) (drop k (upFrom 0 states)))
+Inv-loop table states k₀ k = (k ≤ states) × (states ≤ maxStates) × (wordlessMachine (machineOf table) ≡ every (wordlessState table) (drop k (upFrom 0 states)))
 
 abbrev μ-loop : tie.MeasureT-loop
 μ-loop table states k₀ k = states - k

@@ -4,22 +4,22 @@ use denote.Ref.{now}
 use lib.ListN.{getD}
 use borrow.Author.Tests.{eq-eqb, ne-eqb}
 use borrow.Author.Needs.{needs}
-use Rattle.fsmd.specs.Layout.{none}
+use Rattle.fsmd.specs.Layout.{absent}
 use Rattle.grouping.proofs.detection.illegal.Statement.{statement}
 use Rattle.grouping.proofs.detection.illegal.Tie as tie
 
 returns : tie.Need-returns
 returns c =
     let a = c .before .before .before .before .before .args in
-    let own = getD (now (a .states)) (a .block) none in
-    let other = getD (now (a .states)) (a .target) none in
+    let own = getD (now (a .states)) (a .block) absent in
+    let other = getD (now (a .states)) (a .target) absent in
     rw (eq-eqb own other (sym (c .before .before .at .ensures) ∙ c .if1 .taken ∙ c .before .at2 .ensures)) refl
 
 returns-2 : tie.Need-returns-2
 returns-2 c =
     let a = c .before .before .before .before .before .before .args in
-    let own = getD (now (a .states)) (a .block) none in
-    let other = getD (now (a .states)) (a .target) none in
+    let own = getD (now (a .states)) (a .block) absent in
+    let other = getD (now (a .states)) (a .target) absent in
     rw (ne-eqb own other (λ h. c .before .if1 .left (c .before .before .before .at .ensures ∙ h ∙ sym (c .before .before .at2 .ensures)))) refl
 
 pub illegal-spec : {M : Type 1} → statement M

@@ -5,7 +5,7 @@ use native.Mathlib.Omega.{arith}
 use denote.Ref.{now}
 use lib.Dec.{lit<}
 use lib.ListN.{getD}
-use Rattle.fsmd.specs.Layout.{none}
+use Rattle.fsmd.specs.Layout.{absent}
 use Rattle.grouping.specs.Bytes.{used, taken}
 use Rattle.grouping.proofs.ByteStack.{shallow}
 use Rattle.grouping.proofs.PopulationSearch.{takeRest, TakeVisit, TakeEdges, take-nothing, take-begins, take-whole, take-ends, take-onward, take-enters, take-pops, take-none, take-known, take-starter, take-room, take-falls, take-pushes}
@@ -26,7 +26,7 @@ Inv-visit edges starters marks k states₀ number first root stack₀ passed₀ 
     TakeVisit edges starters marks root k (takeRest edges starters root k states₀ stack₀ passed₀ depth₀) states stack passed depth
 
 abbrev μ-visit : tie.MeasureT-visit
-μ-visit edges starters marks k states₀ number first root stack₀ passed₀ depth₀ states stack passed depth = 2 * (maxBlocks - used none states) + depth
+μ-visit edges starters marks k states₀ number first root stack₀ passed₀ depth₀ states stack passed depth = 2 * (maxBlocks - used absent states) + depth
 
 few : (c : tie.After-byte-index Inv-edges μ-edges Inv-visit μ-visit) → c .before .before .before .before .before .args .k < maxBlocks
 few c = let a = c .before .before .before .before .before in omega (arith, a .pre .1, a .pre .0 .few)
@@ -64,7 +64,7 @@ array-write-stack c = lit< tt
 visit-holds : tie.Need-visit-holds Inv-edges μ-edges Inv-visit μ-visit
 visit-holds c =
     let a = c .before .before .before .before .before .before .before .before .before in
-    let k-low : a .args .k < none = omega (arith, few (c .before .before .before .before)) in
+    let k-low : a .args .k < absent = omega (arith, few (c .before .before .before .before)) in
     take-begins (now (a .args .edges)) (now (a .args .starters)) (now (a .args .marks)) (getD (now (a .args .starters)) (c .before .before .before .before .byte-index .result) 0) (c .before .before .byte-index2 .result) (a .args .k) (c .before .before .byte-index2 .ensures .0) (now (a .args .states)) (a .pre .2) (root-low (c .before .before)) k-low (c .if1 .left) (a .pre .0)
 
 sub-byte-index : tie.Need-sub-byte-index Inv-edges μ-edges Inv-visit μ-visit
@@ -177,7 +177,7 @@ returns-2 : tie.Need-returns-2 Inv-edges μ-edges Inv-visit μ-visit
 returns-2 c =
     let a = c .before .before .before .before .before .before .before .before .before .before .before in
     let w = c .before .before .before .before in
-    let k-low : a .args .k < none = omega (arith, few (c .before .before .before .before .before .before)) in
+    let k-low : a .args .k < absent = omega (arith, few (c .before .before .before .before .before .before)) in
     take-ends (c .before .visit .inv) (omega (arith, c .visit-test .left))
     ∙ take-whole (now (a .args .edges)) (now (a .args .starters)) (now (a .args .marks)) (getD (now (a .args .starters)) (c .before .before .before .before .before .before .byte-index .result) 0) (w .byte-index2 .result) (a .args .k) (w .byte-index2 .ensures .0) (now (a .args .states)) (a .pre .2) (root-low w) k-low (c .before .before .if1 .left)
     ∙ ap (λ (n : ℕ). taken (now (a .args .edges)) (now (a .args .starters)) (getD (now (a .args .starters)) n 0) (a .args .k) (now (a .args .states))) (c .before .before .before .before .before .before .byte-index .ensures .0)

@@ -3,7 +3,7 @@ use native.Mathlib.Omega.{arith}
 use mathlib.Core.List.{[], _∷_}
 use Rattle.decimal.specs.Decimal.{decimalOf}
 use Rattle.cfg_write.proofs.PutLaws.{put-then, put-as}
-use Rattle.listing.specs.Listing.{lineOf}
+use Rattle.listing.specs.Listing.{listingLine}
 use Rattle.listing.proofs.Puts.{line-of-three}
 use borrow.Author.Needs.{needs}
 use Rattle.listing.proofs.lines.put_named.Statement.{statement}
@@ -13,7 +13,7 @@ returns : tie.Need-returns
 returns c =
     let args = c .before .before .before .before .before .before .before .before .before .before .before .before .before .before .before .before .before .before .args in
     let name = args .name .now in
-    put-as 31 (lineOf (name ∷ decimalOf (args .first) ∷ decimalOf (args .second) ∷ [])) (omega arith) (line-of-three name (decimalOf (args .first)) (decimalOf (args .second)))
+    put-as 31 (listingLine (name ∷ decimalOf (args .first) ∷ decimalOf (args .second) ∷ [])) (omega arith) (line-of-three name (decimalOf (args .first)) (decimalOf (args .second)))
     (put-then (c .before .before .before .before .before .before .before .before .before .before .before .before .before .before .put-bytes .ensures) (put-then (c .before .before .before .before .before .before .before .before .before .before .put-number .ensures) (put-then (c .before .before .before .before .before .before .put-number2 .ensures) (c .before .before .put-line-feed .ensures))))
 
 pub put-named-spec : {M : Type 1} → statement M

@@ -5,7 +5,7 @@ use mathlib.Core.List.{[], _∷_}
 use Rattle.decimal.specs.Decimal.{decimalOf}
 use Rattle.decimal.proofs.Laws.{decimal-word}
 use Rattle.cfg_write.proofs.PutLaws.{put-digits, put-then, put-as}
-use Rattle.listing.specs.Listing.{lineOf}
+use Rattle.listing.specs.Listing.{listingLine}
 use Rattle.listing.proofs.Puts.{line-of-four}
 use borrow.Author.Needs.{needs}
 use Rattle.listing.proofs.lines.put_state.Statement.{statement}
@@ -35,7 +35,7 @@ returns c =
     let args = start .args in
     let digits = c .before .before .before .before .before .before .before .before .before .before .before .before .before .before .before .before .before .before .put-decimal in
     let one = put-digits (args .out .now) (digits .last .0) (args .at) (args .state) (digits .result) (start .fits .state .fits) (digits .ensures) in
-    put-as 44 (lineOf (decimalOf (args .state) ∷ decimalOf (args .starter) ∷ decimalOf (args .blocks) ∷ decimalOf (args .wires) ∷ [])) (omega arith)
+    put-as 44 (listingLine (decimalOf (args .state) ∷ decimalOf (args .starter) ∷ decimalOf (args .blocks) ∷ decimalOf (args .wires) ∷ [])) (omega arith)
     (line-of-four (decimalOf (args .state)) (decimalOf (args .starter)) (decimalOf (args .blocks)) (decimalOf (args .wires)))
     (put-then one (put-then (c .before .before .before .before .before .before .before .before .before .before .before .before .before .before .put-number .ensures) (put-then (c .before .before .before .before .before .before .before .before .before .before .put-number2 .ensures) (put-then (c .before .before .before .before .before .before .put-number3 .ensures) (c .before .before .put-line-feed .ensures)))))
 

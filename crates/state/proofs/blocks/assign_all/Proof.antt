@@ -4,10 +4,10 @@ use native.Mathlib.Omega.{arith}
 use mathlib.Core.Path.{_≡_, refl, _∙_}
 use denote.Ref.{now}
 use lib.ListN.{length, drop}
-use Rattle.cfg.specs.Graph.{codeOf}
+use Rattle.cfg.specs.Graph.{instructionsOf}
 use Rattle.cfg.specs.Table.{blockAt}
 use Rattle.state.specs.Wires.{assign, assigns}
-use Rattle.state.specs.Making.{pointIn}
+use Rattle.state.specs.Making.{blockBuildIn}
 use Rattle.state.proofs.Folds.{Folding}
 use Rattle.state.proofs.AssignLaws.{assigning-start, assigning-room, assigning-next, assigning-done}
 use borrow.Author.Needs.{needs}
@@ -16,7 +16,7 @@ use Rattle.state.proofs.blocks.assign_all.Tie as tie
 
 abbrev Inv-loop : tie.InvT-loop
 Inv-loop graph x wires₀ values₀ start count made₀ i₀ wires values made i =
-    Folding assign (drop i (codeOf (blockAt graph x))) (assigns (codeOf (blockAt graph x)) (pointIn (made₀ .arrival) values₀ (made₀ .wires) wires₀)) (made₀ .wires) wires₀ (made .arrival) values (made .wires) wires
+    Folding assign (drop i (instructionsOf (blockAt graph x))) (assigns (instructionsOf (blockAt graph x)) (blockBuildIn (made₀ .arrival) values₀ (made₀ .wires) wires₀)) (made₀ .wires) wires₀ (made .arrival) values (made .wires) wires
     × (length values ≡ length values₀)
 
 abbrev μ-loop : tie.MeasureT-loop

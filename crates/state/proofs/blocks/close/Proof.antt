@@ -7,7 +7,7 @@ use lib.ListN.{length}
 use Rattle.cfg.specs.declared.Ending.the-variants.{Goto, Ite, Halt}
 use Rattle.cfg.specs.Table.{blockAt}
 use Rattle.state.specs.Wires.{close}
-use Rattle.state.specs.Making.{Aims, Room, pointIn}
+use Rattle.state.specs.Making.{Aims, Room, blockBuildIn}
 use Rattle.state.proofs.CloseLaws.{ending-of, close-goto, close-halt, close-ite, length-ite}
 use borrow.Author.Needs.{needs}
 use Rattle.state.proofs.blocks.close.Statement.{statement}
@@ -24,7 +24,7 @@ forked c =
     let a = c .before .before .before .before .before .before .before .before .args in
     let p = c .before .before .before .before .before .before .before .before .pre in
     let g = c .ending2 .given in
-    let e : length (close (blockAt (now (a .graph)) (a .x) .ending) (pointIn (a .front .arrival) (now (a .values)) (a .front .wires) (now (a .wires))) .wires) ≡ a .front .wires + 3 =
+    let e : length (close (blockAt (now (a .graph)) (a .x) .ending) (blockBuildIn (a .front .arrival) (now (a .values)) (a .front .wires) (now (a .wires))) .wires) ≡ a .front .wires + 3 =
     length-ite (length (now (a .values))) (now (a .targets)) (now (a .rows)) (now (a .targets)) (now (a .rows)) (a .count) (a .front .arrival) (now (a .values)) (a .front .wires) (now (a .wires)) (p .1 .1 .0 .fits)
     (blockAt (now (a .graph)) (a .x) .ending) (g .0 .0) (g .0 .1 .0) (g .0 .1 .1 .0) (ite c) in
     subst (λ (k : ℕ). Room k (now (a .wires))) e (p .1 .1 .1)

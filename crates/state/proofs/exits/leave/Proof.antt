@@ -12,8 +12,8 @@ use lib.ListN.{length, take, drop}
 use lib.Seq.{take-length}
 use Rattle.fsmd.specs.Layout.{maxRegisters}
 use Rattle.fsmd.specs.declared.Wire.{Wire}
-use Rattle.state.specs.Wires.{Point, closeState, exits, leaves, towards}
-use Rattle.state.specs.Making.{Room, wiresIn, pointIn, Held, pending, rowWords, appended, groupsIn}
+use Rattle.state.specs.Wires.{BlockBuild, closeState, exits, leaves, towards}
+use Rattle.state.specs.Making.{Room, wiresIn, blockBuildIn, Held, pending, rowWords, appended, groupsIn}
 use Rattle.state.proofs.EnterLaws.{source-length}
 use Rattle.buffers.proofs.Copies.{sets-whole}
 use Rattle.state.proofs.StarterLaws.{used-no-starter}
@@ -39,7 +39,7 @@ further : (c : tie.After-reference)
     → closeState (groupsIn (now (c .before .before .before .before .before .before .before .before .before .before .before .before .before .before .before .before .before .before .before .before .before .args .starters)) (now (c .before .before .before .before .before .before .before .before .before .before .before .before .before .before .before .before .before .before .before .before .before .args .states))) (towards (leaves (groupsIn (now (c .before .before .before .before .before .before .before .before .before .before .before .before .before .before .before .before .before .before .before .before .before .args .starters)) (now (c .before .before .before .before .before .before .before .before .before .before .before .before .before .before .before .before .before .before .before .before .before .args .states)))) (pending (length (now (c .before .before .before .before .before .before .before .before .before .before .before .before .before .before .before .before .before .before .before .before .before .args .values))) (now (c .before .before .before .before .before .before .before .before .before .before .before .before .before .before .before .before .before .before .before .before .before .args .targets)) (now (c .before .before .before .before .before .before .before .before .before .before .before .before .before .before .before .before .before .before .before .before .before .args .rows)) (c .before .before .before .before .before .before .before .before .before .before .before .before .before .before .before .before .before .before .before .before .before .args .made .edges))) (wiresIn (c .before .before .before .before .before .before .before .before .before .before .before .before .before .before .before .before .before .before .before .before .before .args .made .wires) (now (c .before .before .before .before .before .before .before .before .before .before .before .before .before .before .before .before .before .before .before .before .before .args .wires)))
     ≡ exits (groupsIn (now (c .before .before .before .before .before .before .before .before .before .before .before .before .before .before .before .before .before .before .before .before .before .args .starters)) (now (c .before .before .before .before .before .before .before .before .before .before .before .before .before .before .before .before .before .before .before .before .before .args .states)))
     (onward (length (c .before .before .before .before .before .before .before .before .before .before .copy-words .last .0)) (now (c .before .before .before .before .before .before .before .before .before .before .before .before .before .before .before .before .before .before .before .before .before .args .targets)) (now (c .before .before .before .before .before .before .before .before .before .before .before .before .before .before .before .before .before .before .before .before .before .args .rows)) (leaves (groupsIn (now (c .before .before .before .before .before .before .before .before .before .before .before .before .before .before .before .before .before .before .before .before .before .args .starters)) (now (c .before .before .before .before .before .before .before .before .before .before .before .before .before .before .before .before .before .before .before .before .before .args .states)))) (c .before .before .before .before .before .before .before .before .before .before .before .before .before .before .before .before .before .before .before .before .before .args .made .edges) (c .before .before .before .before .before .before .before .before .before .before .before .before .before .before .next-exit .result + 1))
-    (pointIn (c .reference .result) (c .before .before .before .before .before .before .before .before .before .before .copy-words .last .0) (c .before .before .before .before .before .before .before .before .before .before .before .before .before .before .before .before .before .before .before .before .before .args .made .wires + 1) (c .before .before .before .emit .last .0))
+    (blockBuildIn (c .reference .result) (c .before .before .before .before .before .before .before .before .before .before .copy-words .last .0) (c .before .before .before .before .before .before .before .before .before .before .before .before .before .before .before .before .before .before .before .before .before .args .made .wires + 1) (c .before .before .before .emit .last .0))
 further c =
     let a = c .before .before .before .before .before .before .before .before .before .before .before .before .before .before .before .before .before .before .before .before .before .args in
     let p = c .before .before .before .before .before .before .before .before .before .before .before .before .before .before .before .before .before .before .before .before .before .pre in
@@ -88,7 +88,7 @@ exit-all-requires c κs =
     let high = c .before .before .before .before .before .before .before .before .before .before .before .before .before .before .before .before .next-exit .ensures .high in
     let lt : c .before .before .before .before .before .before .before .before .before .before .before .before .before .before .before .before .next-exit .result + 1 ≤ a .made .edges = omega (arith, c .before .before .before .before .before .before .before .before .before .before .before .before .before .before .before .if1 .left) in
     let few : length (c .before .before .before .before .before .before .before .before .before .before .before .before .copy-words .last .0) ≤ maxRegisters = omega (arith, c .before .before .before .before .before .before .before .before .before .before .before .before .copy-words .kept .0, p .1 .1 .0 .0) in
-    let room = subst (λ (q : Point). Room (length (q .wires)) (now (a .wires))) e (p .1 .1 .1) in
+    let room = subst (λ (q : BlockBuild). Room (length (q .wires)) (now (a .wires))) e (p .1 .1 .1) in
     (p .0, (p .1 .0, ((lt, few, record { fits = omega (arith, r .fits); few = r .few }), record { fits = omega (arith, room .fits); few = room .few })))
 
 returns-2 : tie.Need-returns-2
@@ -101,14 +101,14 @@ returns-2 c =
     let vs = c .before .before .before .before .before .before .before .before .before .before .before .before .before .before .before .before .before .copy-words .last .0 in
     let ref = c .before .before .before .before .before .before .before .reference .result in
     let k = o .ensures in
-    let g : Held (pointIn ref vs (n + 1) t₁) (now (a .wires)) ref vs (n + 1) t₁ =
+    let g : Held (blockBuildIn ref vs (n + 1) t₁) (now (a .wires)) ref vs (n + 1) t₁ =
     record { point = refl; rest = appended-rest n (c .before .before .before .before .before .before .before .before .before .before .before .set-wire .result ∷ []) (now (a .wires)) t₁ (c .before .before .before .before .before .before .before .before .before .before .emit .ensures) } in
     let le : n + 1 ≤ o .result .wires = omega (
       arith,
       held-count k,
       length-wiresIn (n + 1) t₁,
       grow-exits (groupsIn (now (a .starters)) (now (a .states)))
-          (onward (length vs) (now (a .targets)) (now (a .rows)) (leaves (groupsIn (now (a .starters)) (now (a .states)))) (a .made .edges) (c .before .before .before .before .before .before .before .before .before .before .before .before .before .before .before .before .before .before .before .before .before .next-exit .result + 1)) (pointIn ref vs (n + 1) t₁),
+          (onward (length vs) (now (a .targets)) (now (a .rows)) (leaves (groupsIn (now (a .starters)) (now (a .states)))) (a .made .edges) (c .before .before .before .before .before .before .before .before .before .before .before .before .before .before .before .before .before .before .before .before .before .next-exit .result + 1)) (blockBuildIn ref vs (n + 1) t₁),
     ) in
     (rw (further (c .before .before .before .before .before .before .before), take-length (o .last .1 .0)) (held-on g le k), omega (arith, o .kept .1 .0, c .before .before .before .before .before .before .before .before .before .before .before .before .before .before .before .before .before .copy-words .kept .0))
 

@@ -8,7 +8,7 @@ use mathlib.Core.Bool.{true, false}
 use denote.Ref.{now}
 use lib.ListN.{length, getD, take, drop}
 use Rattle.state.specs.Wires.{enter}
-use Rattle.state.specs.Making.{Room, pointIn, rowWords, buildIn}
+use Rattle.state.specs.Making.{Room, blockBuildIn, rowWords, stateBuildIn}
 use Rattle.state.proofs.EnterLaws.{enter-start, enter-start-length, enter-none, enter-none-length, enter-first, source-length}
 use Rattle.buffers.proofs.Copies.{sets-whole}
 use borrow.Author.Needs.{needs}
@@ -17,9 +17,9 @@ use Rattle.state.proofs.joins.enter.Tie as tie
 
 -- what is entered by a first edge and further ones
 further : (c : tie.After-copy-words)
-    → enter (length (now (c .before .before .before .before .before .before .before .before .before .before .args .values))) false (c .before .before .before .before .before .before .before .before .before .before .args .x) (buildIn (length (now (c .before .before .before .before .before .before .before .before .before .before .args .values))) (now (c .before .before .before .before .before .before .before .before .before .before .args .targets)) (now (c .before .before .before .before .before .before .before .before .before .before .args .rows)) (c .before .before .before .before .before .before .before .before .before .before .args .made .edges) (c .before .before .before .before .before .before .before .before .before .before .args .made .wires) (now (c .before .before .before .before .before .before .before .before .before .before .args .wires)))
+    → enter (length (now (c .before .before .before .before .before .before .before .before .before .before .args .values))) false (c .before .before .before .before .before .before .before .before .before .before .args .x) (stateBuildIn (length (now (c .before .before .before .before .before .before .before .before .before .before .args .values))) (now (c .before .before .before .before .before .before .before .before .before .before .args .targets)) (now (c .before .before .before .before .before .before .before .before .before .before .args .rows)) (c .before .before .before .before .before .before .before .before .before .before .args .made .edges) (c .before .before .before .before .before .before .before .before .before .before .args .made .wires) (now (c .before .before .before .before .before .before .before .before .before .before .args .wires)))
     ≡ joins (incoming (length (c .copy-words .last .0)) (now (c .before .before .before .before .before .before .before .before .before .before .args .targets)) (now (c .before .before .before .before .before .before .before .before .before .before .args .rows)) (c .before .before .before .before .before .before .before .before .before .before .args .x) (c .before .before .before .before .before .before .before .before .before .before .args .made .edges) (c .before .before .before .before .next-edge .result + 1))
-    (pointIn (getD (now (c .before .before .before .before .before .before .before .before .before .before .args .rows)) (rowWords * c .before .before .before .before .next-edge .result) 0) (c .copy-words .last .0) (c .before .before .before .before .before .before .before .before .before .before .args .made .wires) (now (c .before .before .before .before .before .before .before .before .before .before .args .wires)))
+    (blockBuildIn (getD (now (c .before .before .before .before .before .before .before .before .before .before .args .rows)) (rowWords * c .before .before .before .before .next-edge .result) 0) (c .copy-words .last .0) (c .before .before .before .before .before .before .before .before .before .before .args .made .wires) (now (c .before .before .before .before .before .before .before .before .before .before .args .wires)))
 further c =
     let a = c .before .before .before .before .before .before .before .before .before .before .args in
     let p = c .before .before .before .before .before .before .before .before .before .before .pre in
@@ -41,7 +41,7 @@ begin-requires c κs =
     let a = c .before .before .before .before .before .before .before .args in
     let p = c .before .before .before .before .before .before .before .pre in
     let r = length (now (a .values)) in
-    let room : Room (length (enter r true (a .x) (buildIn r (now (a .targets)) (now (a .rows)) (a .made .edges) (a .made .wires) (now (a .wires))) .wires)) (now (a .wires)) =
+    let room : Room (length (enter r true (a .x) (stateBuildIn r (now (a .targets)) (now (a .rows)) (a .made .edges) (a .made .wires) (now (a .wires))) .wires)) (now (a .wires)) =
     rw (c .before .before .if1 .taken) at (p .1 .1 .1) in
     let e = enter-start-length r (now (a .targets)) (now (a .rows)) (a .made .edges) (a .x) (a .made .wires) (now (a .wires)) in
     (rw e at room, p .1 .0 .0)
@@ -60,7 +60,7 @@ begin-requires-2 c κs =
     let a = c .before .before .before .before .before .before .before .before .before .args in
     let p = c .before .before .before .before .before .before .before .before .before .pre in
     let r = length (now (a .values)) in
-    let room : Room (length (enter r false (a .x) (buildIn r (now (a .targets)) (now (a .rows)) (a .made .edges) (a .made .wires) (now (a .wires))) .wires)) (now (a .wires)) =
+    let room : Room (length (enter r false (a .x) (stateBuildIn r (now (a .targets)) (now (a .rows)) (a .made .edges) (a .made .wires) (now (a .wires))) .wires)) (now (a .wires)) =
     rw (c .before .before .before .before .if1 .left) at (p .1 .1 .1) in
     let e = enter-none-length r (now (a .targets)) (now (a .rows)) (a .made .edges) (a .x) (a .made .wires) (now (a .wires)) (c .before .before .before .next-edge .result) (p .1 .0 .1) (c .before .before .before .next-edge .ensures) (c .before .before .if2 .taken) in
     (rw e at room, p .1 .0 .0)
@@ -80,7 +80,7 @@ join-all-requires c κs =
     let a = c .before .before .before .before .before .before .before .before .before .before .before .before .before .before .before .args in
     let p = c .before .before .before .before .before .before .before .before .before .before .before .before .before .before .before .pre in
     let r = length (now (a .values)) in
-    let room : Room (length (enter r false (a .x) (buildIn r (now (a .targets)) (now (a .rows)) (a .made .edges) (a .made .wires) (now (a .wires))) .wires)) (now (a .wires)) =
+    let room : Room (length (enter r false (a .x) (stateBuildIn r (now (a .targets)) (now (a .rows)) (a .made .edges) (a .made .wires) (now (a .wires))) .wires)) (now (a .wires)) =
     rw (c .before .before .before .before .before .before .before .before .before .before .if1 .left) at (p .1 .1 .1) in
     let i = c .before .before .before .before .before .before .before .before .before .next-edge in
     let lt : i .result < a .made .edges = omega (arith, i .ensures .high, c .before .before .before .before .before .before .before .before .if2 .left) in

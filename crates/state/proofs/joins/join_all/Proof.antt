@@ -8,7 +8,7 @@ use mathlib.Core.Path.{_≡_, refl, ap, _∙_}
 use denote.Ref.{now}
 use lib.ListN.{length, getD, take, drop}
 use Rattle.state.specs.Wires.{join, joins, leadsTo, towards}
-use Rattle.state.specs.Making.{pointIn, edgesIn, rowWords}
+use Rattle.state.specs.Making.{blockBuildIn, edgesIn, rowWords}
 use Rattle.state.proofs.JoinLaws.{length-join, grow-join, joins-walk}
 use Rattle.state.proofs.WalkLaws.{Walking, walking-start, walking-room, walking-next, walking-done}
 use borrow.Author.Needs.{needs}
@@ -18,7 +18,7 @@ use Rattle.state.proofs.joins.join_all.Tie as tie
 abbrev Inv-loop : tie.InvT-loop
 Inv-loop wires₀ values₀ targets rows from count x made₀ i₀ wires values made i =
     Walking (length values₀) targets rows (leadsTo x) count join
-    (joins (towards (leadsTo x) (edgesIn (length values₀) targets rows from (count - from))) (pointIn (made₀ .arrival) values₀ (made₀ .wires) wires₀))
+    (joins (towards (leadsTo x) (edgesIn (length values₀) targets rows from (count - from))) (blockBuildIn (made₀ .arrival) values₀ (made₀ .wires) wires₀))
     (made₀ .wires) wires₀ (made .arrival) values (made .wires) wires i
 
 abbrev μ-loop : tie.MeasureT-loop
@@ -29,7 +29,7 @@ loop-holds c =
     let a = c .before .before .before .before .before .args in
     let p = c .before .before .before .before .before .pre in
     let r = length (now (a .values)) in
-    rw (← joins-walk r (now (a .targets)) (now (a .rows)) (a .x) (a .count) (a .from) (pointIn (a .front .arrival) (now (a .values)) (a .front .wires) (now (a .wires))))
+    rw (← joins-walk r (now (a .targets)) (now (a .rows)) (a .x) (a .count) (a .from) (blockBuildIn (a .front .arrival) (now (a .values)) (a .front .wires) (now (a .wires))))
     (walking-start r (now (a .targets)) (now (a .rows)) (leadsTo (a .x)) (a .count) (p .1 .0 .1) (omega arith) join 1 length-join grow-join
     (a .front .arrival) (now (a .values)) (a .front .wires) (now (a .wires)) (a .from) (c .next-edge .result) (c .next-edge .ensures) refl (p .1 .1 .0 .fits))
 
@@ -56,7 +56,7 @@ loop-again c =
     let rows = now (a .rows) in
     let r = length (now (a .values)) in
     let e : rowWords * l .i + 1 + length (l .values) - (rowWords * l .i + 1) ≡ r = omega (arith, l .inv .sized) in
-    let k : Held (join (edgeTo (getD (now (a .targets)) (l .i) 0) (getD rows (rowWords * l .i) 0) (take r (drop (rowWords * l .i + 1) rows))) (pointIn (l .made .arrival) (l .values) (l .made .wires) (l .wires))) (l .wires) (j .result .arrival) (j .last .1 .0) (j .result .wires) (j .last .0) =
+    let k : Held (join (edgeTo (getD (now (a .targets)) (l .i) 0) (getD rows (rowWords * l .i) 0) (take r (drop (rowWords * l .i + 1) rows))) (blockBuildIn (l .made .arrival) (l .values) (l .made .wires) (l .wires))) (l .wires) (j .result .arrival) (j .last .1 .0) (j .result .wires) (j .last .0) =
     rw e at (j .ensures) in
     walking-next r (now (a .targets)) rows (leadsTo (a .x)) (a .count) (p .1 .0 .1) (omega (arith, p .0, p .1 .0)) join 1 length-join grow-join (l .inv)
     (j .result .arrival) (j .last .1 .0) (j .result .wires) (j .last .0) (c .next-edge2 .result)

@@ -9,7 +9,7 @@ use lib.Seq.{length-take-le}
 use borrow.Author.Needs.{needs}
 use Rattle.runs.specs.Lists.{mem}
 use Rattle.cfg.specs.Table.{graphOf}
-use Rattle.fsmd.specs.Table.{tableOf}
+use Rattle.fsmd.specs.Table.{machineTableOf}
 use Rattle.synthesis.proofs.SynthesisedMachine.{machine-is}
 use Rattle.synthesis.proofs.MachineTable.{its, finished, grouping-is}
 use Rattle.synthesis.proofs.TableFilled.{GroupsListed, groups-listed, begun, table-filled}
@@ -83,7 +83,7 @@ returns c =
     let r = c .before .before .before .before .before .before .before .before .before .before .before .before .before .before .before .before .before .before .before .before .before .before .before .before .before .group in
     let w = c .before .before .before .before .before .before .before .before .before .before .before .before .before .before .write-head in
     table-filled (now (a .graph)) (p .0) (its (now (a .graph))) (finished (now (a .graph)) (p .0)) (r .result) (r .ensures ∙ grouping-is (now (a .graph))) (w .last .0) (c .before .before .before .before .all-states .last .1 .1 .1 .1 .1 .0) (w .kept .0 ∙ p .1) (w .ensures) (c .before .before .before .before .all-states .ensures)
-    ∙ ap tableOf (sym (machine-is (graphOf (now (a .graph)))))
+    ∙ ap machineTableOf (sym (machine-is (graphOf (now (a .graph)))))
 
 pub fill-spec : {M : Type 1} → statement M
 fill-spec =

@@ -14,7 +14,7 @@ use Rattle.cfg.specs.Table.{graphOf}
 use Rattle.grouping.specs.Grouping.{groups}
 use Rattle.grouping.proofs.Reach.{admitted-closed}
 use Rattle.placement.specs.Placement.{order}
-use Rattle.state.specs.Wires.{Point}
+use Rattle.state.specs.Wires.{BlockBuild}
 use Rattle.placement.specs.PlacementBytes.{membersIn, placeIn}
 use Rattle.state.specs.BlocksMaking.{stateBlocks}
 use Rattle.placement.proofs.PlacedOrder.{placed-order}
@@ -60,7 +60,7 @@ ordered c =
 blocks-length : (c : tie.After-place) → c .place .result ≡ length (take (c .place .result) (c .place .last .1 .1 .1 .1 .0))
 blocks-length c = sym (length-take-le (c .place .result) (c .place .last .1 .1 .1 .1 .0) (omega (arith, c .place .ensures .0, c .place .kept .1 .1 .1 .1 .0)))
 
-abbrev end : tie.After-place → Point
+abbrev end : tie.After-place → BlockBuild
 end c =
     let a = c .before .before .before .before .before .before .before .before .before .before .args in
     stateBlocks (length (take (getD (now (a .graph)) 1 0) (replicate {A = ℕ} maxRegisters 0))) (now (a .graph)) (now (a .starters)) (now (a .states)) (take (c .place .result) (c .place .last .1 .1 .1 .1 .0))

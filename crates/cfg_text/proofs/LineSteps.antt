@@ -25,7 +25,7 @@ use Rattle.cfg_line.specs.Name.{keywordOf}
 use Rattle.delimited.specs.Parts.{Fields, splitAt}
 use Rattle.delimited.specs.Cursor.{firstLine, frontLine}
 use Rattle.delimited.proofs.Split.{parts, split-rest, split-alone}
-use Rattle.cfg_line.specs.Form.{withValue, field, end, graphLine, formOf, byName, lineOf}
+use Rattle.cfg_line.specs.Form.{withValue, field, end, graphLine, formOf, byName, lineForm}
 use Rattle.cfg_line.specs.Cursor.{noForm, parsed, parsedAt}
 use Rattle.cfg_text.specs.Walk.{Progress, start, between, inside, Next, go, refuse, Reading, allBelow, instructionRegisters, endingRegisters, opened, joined, closed, blockWith, next, finish, proceed, walk}
 
@@ -48,12 +48,12 @@ module _ (q : Progress) (n : ℕ) (text : List ℕ) (at : ℕ) where
   by-line line.Halt from ps e = rw (sym e)
   by-line line.NoForm from ps e = refl
 
-  pub turn : at < length text
+  pub line-step : at < length text
       → walk q n (splitAt 10 (drop at text))
       ≡ proceed (next q (parsedAt byName at (drop at text) .line)) n
       (λ p. walk p (suc n) (splitAt 10 (drop (parsedAt byName at (drop at text) .next) text)))
-  unfolding walk parsedAt lineOf next rest
-  turn h =
+  unfolding walk parsedAt lineForm next rest
+  line-step h =
       let p = parts 10 (drop at text) in
       by (p .one) (p .others) (p .split)
     where
@@ -69,7 +69,7 @@ module _ (q : Progress) (n : ℕ) (text : List ℕ) (at : ℕ) where
       by l (m ∷ ms) e =
           let g : at + length l + 1 ≡ at + suc (length l) = omega arith in
           rw e
-          (by-line (lineOf l) (at + length l + 1) (m ∷ ms)
+          (by-line (lineForm l) (at + length l + 1) (m ∷ ms)
           (ap (λ (k : ℕ). splitAt 10 (drop k text)) g ∙ ap (splitAt 10) (sym (drop-drop (suc (length l)) at text)) ∙ split-rest 10 (drop at text) e))
 
 -- the end of the text

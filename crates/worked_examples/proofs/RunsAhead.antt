@@ -4,7 +4,7 @@ use native.Mathlib.Omega.{arith}
 use mathlib.Core.Bool.{true}
 use mathlib.Core.List.{List, _∷_}
 use mathlib.Core.Path.{_≡_, refl, sym, ap, _∙_}
-use lib.ListN.{length, getD, replicate}
+use lib.ListN.{getD, replicate}
 use Rattle.word.specs.Word.{evalOf}
 use Rattle.runs.specs.Lists.{concatMap}
 use Rattle.runs.specs.Runs.{halted, Configuration, standsAt, startAt, unread, Runner, step, times, stepsRun}

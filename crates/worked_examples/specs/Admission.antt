@@ -6,7 +6,7 @@ use lib.ListN.{replicate, set}
 use Rattle.word.specs.Word.{evalOf}
 use Rattle.runs.specs.Lists.{same, padded}
 use Rattle.runs.specs.Operations.{answered, registersLeft}
-use Rattle.fsmd.specs.Layout.{maxRegisters, allRecordWords, allWireWords, recordsOffset}
+use Rattle.fsmd.specs.Layout.{maxRegisters, allRecordWords, allWireWords}
 use Rattle.fsmd.specs.Machine.{clock}
 use Rattle.fsmd.specs.Table.{machineOf, admittedMachine}
 use Rattle.fsmd.specs.Run.{machineRefusal, machineAnswer, machineRegisters, machineWordsRefusal, machineWordsAnswer}

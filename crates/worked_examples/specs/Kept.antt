@@ -1,7 +1,7 @@
 -- What an operation leaves as it was: registers from R up, words past a buffer's length, and every buffer of a refused one (paper 01). Assumes nothing.
 use Prim.Native.Nat.{ℕ}
 use mathlib.Core.List.{List, [], _∷_, _++_}
-use lib.ListN.{replicate, set}
+use lib.ListN.{replicate}
 use Rattle.word.specs.Word.{evalOf}
 use Rattle.runs.specs.Lists.{upFrom, same, concatMap}
 use Rattle.runs.specs.Operations.{answered, registersLeft}

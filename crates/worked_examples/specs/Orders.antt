@@ -19,7 +19,7 @@ use Rattle.fsmd.specs.Run.{machineRefusal, machineAnswer, machineWordsRefusal, 
 use Rattle.grouping.specs.Grouping.{groups}
 use Rattle.synthesis.specs.Synthesis.{machine, synthesisAnswer}
 use Rattle.worked_examples.specs.Graphs.{P11, Rates}
-use Rattle.worked_examples.specs.Rows.{Row, row, noGraph, noMachine, readingInto, reading, synthesisNumber, refusedWith, regs, refused}
+use Rattle.worked_examples.specs.Rows.{Row, row, noMachine, readingInto, reading, synthesisNumber, refusedWith, regs, refused}
 use Rattle.worked_examples.specs.Texts.{lines, gotoTwo}
 
 -- ---- buffers that are a word short

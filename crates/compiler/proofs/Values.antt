@@ -15,9 +15,9 @@ use Rattle.cfg_text.specs.Read.{reading, readingAnswer, readAnswer, readNumber,
 use Rattle.cfg_write.specs.Write.{textOf, writeAnswer, writeNumber, writeLength}
 use Rattle.cfg_write.specs.declared.WriteAnswer.the-variants.{Refused, Written}
 use Rattle.fsmd.specs.Layout.{machineWords}
-use Rattle.synthesis.specs.Synthesis.{synthesisAnswer}
+use Rattle.synthesis.specs.Synthesis.{synthesisAnswer, synthesisNumber}
 use Rattle.word.specs.Word.{choose}
-use Rattle.compiler.specs.Answers.{numberIn, lineIn, ReadValues, WriteValues, synthesisNumber, SynthesisValues, CaptureValues}
+use Rattle.compiler.specs.Answers.{numberIn, lineIn, ReadValues, WriteValues, SynthesisValues, CaptureValues}
 
 number-in : (x : Reading) → readNumber (readingAnswer x) ≡ numberIn x
 number-in (refused k n) = refl

@@ -19,8 +19,8 @@ use Rattle.cfg_text.specs.declared.ReadAnswer.{ReadAnswer}
 use Rattle.cfg_write.specs.Write.{textOf, writeNumber, writeLength}
 use Rattle.cfg_write.specs.declared.WriteAnswer.{WriteAnswer}
 use Rattle.fsmd.specs.Layout.{machineWords}
+use Rattle.synthesis.specs.Synthesis.{synthesisNumber}
 use Rattle.synthesis.specs.declared.SynthesisAnswer.{SynthesisAnswer}
-use Rattle.synthesis.specs.declared.SynthesisAnswer.the-variants.{Refused, Made}
 
 -- "Read text": the refusal's number, and the line at fault
 abbrev pub numberIn : Reading → ℕ
@@ -44,10 +44,6 @@ pub record WriteValues (table out : List ℕ) (a : WriteAnswer) : Type 0 where
   pub needed : graphWords ≤ length table → admittedGraph table ≡ true → writeLength a ≡ length (textOf (graphOf table))
 
 -- "Synthesise": 7 a table short; 6 graph table not one that reading makes
-abbrev pub synthesisNumber : SynthesisAnswer → ℕ
-synthesisNumber (Refused n) = n
-synthesisNumber Made = 0
-
 pub record SynthesisValues (graph machine : List ℕ) (a : SynthesisAnswer) : Type 0 where
   pub short : (length graph < graphWords) ⊎ (length machine < machineWords) → synthesisNumber a ≡ 7
   pub other : graphWords ≤ length graph → machineWords ≤ length machine → admittedGraph graph ≡ false → synthesisNumber a ≡ 6

@@ -10,7 +10,7 @@ use synthesis::SynthesisAnswer;
 ghost use Rattle.capture.specs.Capture.{refusalNumber, faultyRecording, faultyLine, sharedCount, differsFlag, differingCycle};
 ghost use Rattle.cfg_text.specs.Read.{readNumber, readLine};
 ghost use Rattle.cfg_write.specs.Write.{writeNumber, writeLength};
-ghost use Rattle.compiler.specs.Answers.{synthesisNumber};
+ghost use Rattle.synthesis.specs.Synthesis.{synthesisNumber};
 
 pub fn read_number(answer: ReadAnswer) -> u32
     ensures { λ r. ⌜ r ≡ readNumber answer ⌝ }

@@ -47,3 +47,8 @@ made Made new old = new
 unfoldable pub synthesisWords : List ℕ → List ℕ → List ℕ
 unfolding synthesisAnswer machine graphOf machineTableOf
 synthesisWords t m = made (synthesisAnswer t m) (machineTableOf (machine (graphOf t)) ++ drop machineWords m) m
+
+-- paper 01's field of the answer: its number
+abbrev pub synthesisNumber : SynthesisAnswer → ℕ
+synthesisNumber (Refused n) = n
+synthesisNumber Made = 0

@@ -17,9 +17,9 @@ use Rattle.cfg_write.specs.Write.{writeAnswer, writeNumber, writeLength}
 use Rattle.fsmd.specs.Table.{machineTableOf, machineOf, admittedMachine}
 use Rattle.fsmd.specs.Run.{machineRefusal, machineAnswer, machineWordsRefusal, machineWordsAnswer}
 use Rattle.grouping.specs.Grouping.{groups}
-use Rattle.synthesis.specs.Synthesis.{machine, synthesisAnswer}
+use Rattle.synthesis.specs.Synthesis.{machine, synthesisAnswer, synthesisNumber}
 use Rattle.worked_examples.specs.Graphs.{P11, Rates}
-use Rattle.worked_examples.specs.Rows.{Row, row, noMachine, readingInto, reading, synthesisNumber, refusedWith, regs, refused}
+use Rattle.worked_examples.specs.Rows.{Row, row, noMachine, readingInto, reading, refusedWith, regs, refused}
 use Rattle.worked_examples.specs.Texts.{lines, gotoTwo}
 
 -- ---- buffers that are a word short

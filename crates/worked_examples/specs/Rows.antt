@@ -11,8 +11,6 @@ use Rattle.cfg.specs.Layout.{graphWords}
 use Rattle.capture.specs.Capture.{compareCaptures, refusalNumber, faultyRecording, faultyLine, sharedCount, differsFlag, differingCycle}
 use Rattle.cfg_text.specs.Read.{readAnswer, readNumber, readLine}
 use Rattle.fsmd.specs.Layout.{machineWords}
-use Rattle.synthesis.specs.declared.SynthesisAnswer.{SynthesisAnswer}
-use Rattle.synthesis.specs.declared.SynthesisAnswer.the-variants.{Refused, Made}
 
 -- an example's name, and whether it holds
 pub record Row : Type 0 where
@@ -48,11 +46,6 @@ refusedWith n r = same (fields r) (n ∷ 0 ∷ 0 ∷ 0 ∷ [])
 -- sixteen register words
 abbrev pub regs : ℕ → ℕ → List ℕ
 regs a b = a ∷ b ∷ replicate 14 0
-
--- the number of Synthesise's answer
-abbrev pub synthesisNumber : SynthesisAnswer → ℕ
-synthesisNumber (Refused n) = n
-synthesisNumber Made = 0
 
 -- two recordings compared: the refusal's number, recording and line; the cycles shared, whether one differs, and the first that does
 module _ (r : ℕ) (one two : List ℕ) where

@@ -15,9 +15,9 @@ use Rattle.fsmd.specs.Machine.{clock}
 use Rattle.fsmd.specs.Table.{machineTableOf, machineOf, admittedMachine}
 use Rattle.fsmd.specs.Run.{machineRefusal, machineAnswer}
 use Rattle.grouping.specs.Grouping.{groups}
-use Rattle.synthesis.specs.Synthesis.{machine, synthesisAnswer, synthesisWords}
+use Rattle.synthesis.specs.Synthesis.{machine, synthesisAnswer, synthesisWords, synthesisNumber}
 use Rattle.worked_examples.specs.Graphs.{P9, P10, P11, P12}
-use Rattle.worked_examples.specs.Rows.{Row, row, noGraph, noMachine, reading, synthesisNumber, fields, regs}
+use Rattle.worked_examples.specs.Rows.{Row, row, noGraph, noMachine, reading, fields, regs}
 use Rattle.worked_examples.specs.Texts.{p9Text, p10Text, p11Text, p12Text}
 
 -- the graph table that reading a text leaves, and the machine table that Synthesise leaves of it

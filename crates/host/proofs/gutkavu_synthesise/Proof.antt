@@ -1,7 +1,7 @@
 -- `host::gutkavu_synthesise` meets its contract: its number is that of the operation's answer. Assumes nothing.
 use mathlib.Core.Path.{ap, _∙_}
 use borrow.Author.Needs.{needs}
-use Rattle.compiler.specs.Answers.{synthesisNumber}
+use Rattle.synthesis.specs.Synthesis.{synthesisNumber}
 use Rattle.host.proofs.gutkavu_synthesise.Statement.{statement}
 use Rattle.host.proofs.gutkavu_synthesise.Tie as tie
 

@@ -300,8 +300,8 @@ fn read_lines(text: &[u8], words: &mut [u32]) -> ReadAnswer
 
 // On a refusal the table holds what it held; words past its length are neither read nor changed.
 pub fn read_text(text: &[u8], table: &mut [u32]) -> ReadAnswer
-    ensures answer { λ r. ⌜ r ≡ readAnswer (now (text .entry)) (now (table .entry)) ⌝ }
-    ensures words { λ r. ⌜ now (table .exit) ≡ readWords (now (text .entry)) (now (table .entry)) ⌝ }
+    ensures { λ r. ⌜ r ≡ readAnswer (now (text .entry)) (now (table .entry)) ⌝ }
+    ensures { λ _. ⌜ now (table .exit) ≡ readWords (now (text .entry)) (now (table .entry)) ⌝ }
 {
     if GraphTable::TEXT < text.len() {
         return ReadAnswer::Refused(1, 0);

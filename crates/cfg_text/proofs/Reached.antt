@@ -16,8 +16,8 @@ use Rattle.cfg_line.specs.Form.{byName}
 use Rattle.cfg_line.specs.Cursor.{parsedAt}
 use Rattle.cfg_text.specs.declared.Due.the-variants as due
 use Rattle.cfg_text.specs.declared.ReadState.{ReadState}
-use Rattle.cfg_text.specs.declared.Moved.{Moved}
-use Rattle.cfg_text.specs.declared.Moved.the-variants.{Go, Stop}
+use Rattle.cfg_text.specs.declared.LineStep.{LineStep}
+use Rattle.cfg_text.specs.declared.LineStep.the-variants.{Go, Stop}
 use Rattle.cfg_text.specs.declared.ReadAnswer.{ReadAnswer}
 use Rattle.cfg_text.specs.declared.ReadAnswer.the-variants.{Refused, Read}
 use Rattle.cfg_text.specs.Walk.{Progress, start, between, inside, Next, go, refuse, Reading, refused, read, next, finish, proceed, walk}

@@ -19,8 +19,8 @@ use Rattle.cfg.specs.declared.Ending.{Ending}
 use Rattle.cfg.specs.declared.Block.{Block}
 use Rattle.cfg_text.specs.declared.Due.the-variants as due
 use Rattle.cfg_text.specs.declared.ReadState.{ReadState}
-use Rattle.cfg_text.specs.declared.Moved.{Moved}
-use Rattle.cfg_text.specs.declared.Moved.the-variants.{Go, Stop}
+use Rattle.cfg_text.specs.declared.LineStep.{LineStep}
+use Rattle.cfg_text.specs.declared.LineStep.the-variants.{Go, Stop}
 use Rattle.cfg_text.specs.declared.ReadAnswer.the-variants.{Refused, Read}
 use Rattle.cfg_text.specs.Walk.{Progress, start, between, inside, Reading, refused, read, allBelow, instructionRegisters, endingRegisters, opened, joined, closed, blockWith, finish}
 use Rattle.cfg_text.specs.ReadSteps.{readStateOf, sized, StandsAfter, Advances, AnswersReading, endedAt, afterBlock}
@@ -166,7 +166,7 @@ module _ (p : ReadState) (w : List ℕ) (b r : ℕ) (bs : List Block) (is : List
     pub bad-target : (v : List ℕ) → allBelow r (endingRegisters e) ≡ true → allBelow b (targets e) ≡ false → Advances m (Stop (Refused 5 m)) v (closed e b r bs is)
     bad-target v h g = rw (h, g) refl
 
-    pub ends : (o : Moved) (v : List ℕ) → allBelow r (endingRegisters e) ≡ true → allBelow b (targets e) ≡ true
+    pub ends : (o : LineStep) (v : List ℕ) → allBelow r (endingRegisters e) ≡ true → allBelow b (targets e) ≡ true
         → o ≡ Go (afterBlock p) → v ≡ endedAt w (p .done) (p .count) (endingWordsOf e) → Advances m o v (closed e b r bs is)
     ends o v h g em ev =
         rw (em, h, g)

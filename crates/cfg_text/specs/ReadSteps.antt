@@ -16,8 +16,8 @@ use Rattle.cfg_line.specs.declared.Line.the-variants as line
 use Rattle.cfg_text.specs.declared.Due.{Due}
 use Rattle.cfg_text.specs.declared.Due.the-variants as due
 use Rattle.cfg_text.specs.declared.ReadState.{ReadState}
-use Rattle.cfg_text.specs.declared.Moved.{Moved}
-use Rattle.cfg_text.specs.declared.Moved.the-variants.{Go, Stop}
+use Rattle.cfg_text.specs.declared.LineStep.{LineStep}
+use Rattle.cfg_text.specs.declared.LineStep.the-variants.{Go, Stop}
 use Rattle.cfg_text.specs.declared.ReadAnswer.{ReadAnswer}
 use Rattle.cfg_text.specs.declared.ReadAnswer.the-variants.{Refused}
 use Rattle.cfg_text.specs.Walk.{Progress, start, between, inside, Next, go, refuse, Reading, refused, read}
@@ -56,7 +56,7 @@ pub record StandsAfter (p : ReadState) (w : List ℕ) (q : Progress) : Type 0 wh
   pub few : p .count ≤ maxInstructions
 
 -- the code went where the definition goes, or refused line n as it refuses
-abbrev pub Advances : ℕ → Moved → List ℕ → Next → Type 0
+abbrev pub Advances : ℕ → LineStep → List ℕ → Next → Type 0
 Advances n (Go p) w (go q) = StandsAfter p w q
 Advances n (Go p) w (refuse k) = ⊥
 Advances n (Stop r) w (go q) = ⊥

@@ -41,7 +41,7 @@ pub struct ReadState {
     pub count: u32,
 }
 
-pub enum Moved {
+pub enum LineStep {
     Go(ReadState),
     // The refusal, with its line.
     Stop(ReadAnswer),
@@ -91,16 +91,16 @@ fn registers_below(i: Instruction, registers: u32) -> bool
 }
 
 // Line n, where the graph line is due.
-fn at_start(l: Line, words: &mut [u32], n: u32) -> Moved
+fn at_start(l: Line, words: &mut [u32], n: u32) -> LineStep
     requires { ⌜ headWords ≤ length (now words) ⌝ }
     ensures { λ m. ⌜ (now (words .entry) ≡ filled start → Advances n m (now (words .exit)) (next start l)) ⌝ }
 {
     let Line::Graph(b, r) = l else {
-        return Moved::Stop(ReadAnswer::Refused(misfit(l), n));
+        return LineStep::Stop(ReadAnswer::Refused(misfit(l), n));
     };
     words[GraphTable::BLOCK_COUNT] = b;
     words[GraphTable::REGISTER_COUNT] = r;
-    Moved::Go(ReadState {
+    LineStep::Go(ReadState {
         due: Due::Block,
         blocks: b,
         registers: r,
@@ -110,19 +110,19 @@ fn at_start(l: Line, words: &mut [u32], n: u32) -> Moved
 }
 
 // Line n, where a block line is due, that of the next block below B.
-fn at_block(p: ReadState, l: Line, n: u32) -> Moved
+fn at_block(p: ReadState, l: Line, n: u32) -> LineStep
     ensures { λ m. ⌜ ((b r : ℕ) (bs : List Block) (w : List ℕ) → StandsAfter p w (between b r bs) → Advances n m w (next (between b r bs) l)) ⌝ }
 {
     let Line::Block(k) = l else {
-        return Moved::Stop(ReadAnswer::Refused(misfit(l), n));
+        return LineStep::Stop(ReadAnswer::Refused(misfit(l), n));
     };
     if k != p.done {
-        return Moved::Stop(ReadAnswer::Refused(3, n));
+        return LineStep::Stop(ReadAnswer::Refused(3, n));
     }
     if p.blocks <= k {
-        return Moved::Stop(ReadAnswer::Refused(3, n));
+        return LineStep::Stop(ReadAnswer::Refused(3, n));
     }
-    Moved::Go(ReadState {
+    LineStep::Go(ReadState {
         due: Due::Inside,
         blocks: p.blocks,
         registers: p.registers,
@@ -141,9 +141,9 @@ fn end_block(
     b: u32,
     t: u32,
     f: u32,
-) -> Moved
+) -> LineStep
     requires { ⌜ (p .done < maxBlocks) × (length (now words) ≡ graphWords) ⌝ }
-    ensures { λ m. ⌜ (m ≡ Moved.Go (afterBlock p))
+    ensures { λ m. ⌜ (m ≡ LineStep.Go (afterBlock p))
         × (now (words .exit) ≡ endedAt (now (words .entry)) (p .done) (p .count) (kind ∷ c ∷ a ∷ b ∷ t ∷ f ∷ [])) ⌝ }
 {
     let start = GraphTable::HEAD + Block::WORDS * (p.done as usize);
@@ -152,7 +152,7 @@ fn end_block(
     put_four(words, at, kind, c, a, b);
     words[at + Ending::TRUE] = t;
     words[at + Ending::FALSE] = f;
-    Moved::Go(ReadState {
+    LineStep::Go(ReadState {
         due: Due::Block,
         blocks: p.blocks,
         registers: p.registers,
@@ -162,20 +162,20 @@ fn end_block(
 }
 
 // An instruction joins the block, which has room for eight.
-fn join(p: ReadState, i: Instruction, words: &mut [u32], n: u32) -> Moved
+fn join(p: ReadState, i: Instruction, words: &mut [u32], n: u32) -> LineStep
     requires { ⌜ (p .done < maxBlocks) × (length (now words) ≡ graphWords) ⌝ }
     ensures { λ m. ⌜ ((b r : ℕ) (bs : List Block) (is : List Instruction)
         → StandsAfter p (now (words .entry)) (inside b r bs is)
         → Advances n m (now (words .exit)) (next (inside b r bs is) (Line.Instruction i))) ⌝ }
 {
     if Block::INSTRUCTIONS <= (p.count as usize) {
-        return Moved::Stop(ReadAnswer::Refused(3, n));
+        return LineStep::Stop(ReadAnswer::Refused(3, n));
     }
     if registers_below(i, p.registers) {
         let start = GraphTable::HEAD + Block::WORDS * (p.done as usize);
         let at = start + Block::CODE + Instruction::WORDS * (p.count as usize);
         put_four(words, at, i.code, i.d, i.a, i.b);
-        return Moved::Go(ReadState {
+        return LineStep::Go(ReadState {
             due: Due::Inside,
             blocks: p.blocks,
             registers: p.registers,
@@ -183,46 +183,46 @@ fn join(p: ReadState, i: Instruction, words: &mut [u32], n: u32) -> Moved
             count: p.count + 1,
         });
     }
-    Moved::Stop(ReadAnswer::Refused(4, n))
+    LineStep::Stop(ReadAnswer::Refused(4, n))
 }
 
-fn goto(p: ReadState, t: u32, words: &mut [u32], n: u32) -> Moved
+fn goto(p: ReadState, t: u32, words: &mut [u32], n: u32) -> LineStep
     requires { ⌜ (p .done < maxBlocks) × (length (now words) ≡ graphWords) ⌝ }
     ensures { λ m. ⌜ ((b r : ℕ) (bs : List Block) (is : List Instruction)
         → StandsAfter p (now (words .entry)) (inside b r bs is)
         → Advances n m (now (words .exit)) (next (inside b r bs is) (Line.Goto t))) ⌝ }
 {
     if p.blocks <= t {
-        return Moved::Stop(ReadAnswer::Refused(5, n));
+        return LineStep::Stop(ReadAnswer::Refused(5, n));
     }
     end_block(p, words, Ending::GOTO, 0, 0, 0, t, 0)
 }
 
 // Its registers, then its targets.
-fn ite(p: ReadState, c: Condition, t: u32, f: u32, words: &mut [u32], n: u32) -> Moved
+fn ite(p: ReadState, c: Condition, t: u32, f: u32, words: &mut [u32], n: u32) -> LineStep
     requires { ⌜ (p .done < maxBlocks) × (length (now words) ≡ graphWords) ⌝ }
     ensures { λ m. ⌜ ((b r : ℕ) (bs : List Block) (is : List Instruction)
         → StandsAfter p (now (words .entry)) (inside b r bs is)
         → Advances n m (now (words .exit)) (next (inside b r bs is) (Line.Ite c t f))) ⌝ }
 {
     if p.registers <= c.a {
-        return Moved::Stop(ReadAnswer::Refused(4, n));
+        return LineStep::Stop(ReadAnswer::Refused(4, n));
     }
     if p.registers <= c.b {
-        return Moved::Stop(ReadAnswer::Refused(4, n));
+        return LineStep::Stop(ReadAnswer::Refused(4, n));
     }
     if p.blocks <= t {
-        return Moved::Stop(ReadAnswer::Refused(5, n));
+        return LineStep::Stop(ReadAnswer::Refused(5, n));
     }
     if p.blocks <= f {
-        return Moved::Stop(ReadAnswer::Refused(5, n));
+        return LineStep::Stop(ReadAnswer::Refused(5, n));
     }
     let k = c.comparison;
     end_block(p, words, Ending::ITE, k.code(), c.a, c.b, t, f)
 }
 
 // Line n, where an instruction or an ending is due.
-fn in_block(p: ReadState, l: Line, words: &mut [u32], n: u32) -> Moved
+fn in_block(p: ReadState, l: Line, words: &mut [u32], n: u32) -> LineStep
     requires { ⌜ (p .done < maxBlocks) × (length (now words) ≡ graphWords) ⌝ }
     ensures { λ m. ⌜ ((b r : ℕ) (bs : List Block) (is : List Instruction)
         → StandsAfter p (now (words .entry)) (inside b r bs is)
@@ -233,14 +233,14 @@ fn in_block(p: ReadState, l: Line, words: &mut [u32], n: u32) -> Moved
         Line::Goto(t) => goto(p, t, words, n),
         Line::Ite(c, t, f) => ite(p, c, t, f, words, n),
         Line::Halt => end_block(p, words, Ending::HALT, 0, 0, 0, 0, 0),
-        Line::Graph(_, _) => Moved::Stop(ReadAnswer::Refused(3, n)),
-        Line::Block(_) => Moved::Stop(ReadAnswer::Refused(3, n)),
-        Line::NoForm => Moved::Stop(ReadAnswer::Refused(2, n)),
+        Line::Graph(_, _) => LineStep::Stop(ReadAnswer::Refused(3, n)),
+        Line::Block(_) => LineStep::Stop(ReadAnswer::Refused(3, n)),
+        Line::NoForm => LineStep::Stop(ReadAnswer::Refused(2, n)),
     }
 }
 
 // Line n, where it is due.
-fn step(p: ReadState, l: Line, words: &mut [u32], n: u32) -> Moved
+fn step(p: ReadState, l: Line, words: &mut [u32], n: u32) -> LineStep
     requires { ⌜ Room p (now words) ⌝ }
     ensures { λ m. ⌜ ((q : Progress) → StandsAfter p (now (words .entry)) q → Advances n m (now (words .exit)) (next q l)) ⌝ }
 {
@@ -285,10 +285,10 @@ fn read_lines(text: &[u8], words: &mut [u32]) -> ReadAnswer
         let l = parsed.line;
         let moved = step(p, l, words, n);
         match moved {
-            Moved::Go(q) => {
+            LineStep::Go(q) => {
                 p = q;
             }
-            Moved::Stop(refusal) => {
+            LineStep::Stop(refusal) => {
                 return refusal;
             }
         }

@@ -20,7 +20,7 @@ use Rattle.cfg.specs.Layout.{maxRegisters, graphWords}
 use Rattle.cfg.specs.Graph.{noInstruction, instructionsOf, execute, executeAll, holds, leave, runBlock, wordlessGraph}
 use Rattle.cfg.specs.Table.{blockAt, graphOf, admittedGraph}
 use Rattle.cfg.specs.Run.{startersFit, graphRefusal, graphWordsRefusal}
-use Rattle.cfg.specs.Steps.{Within, EndingWithin, BlockWithin, markedRunner}
+use Rattle.cfg.specs.Steps.{Within, EndingWithin, BlockWithin, comparedOf, leaveBy, markedRunner}
 use Rattle.cfg.proofs.Blocks.{instructions-length}
 use Rattle.cfg.proofs.Admitted.{Admitted, ValidInstruction, ValidEnding, block-below}
 
@@ -124,6 +124,19 @@ module _ (t : List ℕ) (a : Admitted t) (n : ℕ) (below : n < getD t 0 0) wher
           let q = v .second in
           record { first = omega arith; second = omega arith }
       go Halt v = tt
+
+-- where an ending leads goes by the words in the registers that it compares; their numbers may be taken modulo 16
+pub leave-is : (e : Ending) (rs : List ℕ) → EndingWithin e
+    → leaveBy e (getD rs (comparedOf e .a % maxRegisters) 0) (getD rs (comparedOf e .b % maxRegisters) 0) ≡ leave e rs
+unfolding leave
+leave-is (Goto t) rs w = refl
+leave-is (Ite c t f) rs w =
+    let p = w .first in
+    let q = w .second in
+    let m : c .a % maxRegisters ≡ c .a = omega arith in
+    let n : c .b % maxRegisters ≡ c .b = omega arith in
+    rw (m, n)
+leave-is Halt rs w = refl
 
 leave-below : (b r : ℕ) (e : Ending) (rs : List ℕ) (m : ℕ) → ValidEnding b r e → leave e rs ≡ standing m → m < b
 unfolding leave

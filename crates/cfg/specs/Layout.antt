@@ -21,7 +21,7 @@ abbrev pub registerCountOffset : ℕ
 registerCountOffset = 1
 
 abbrev pub headWords : ℕ
-headWords = 2
+headWords = registerCountOffset + 1
 
 -- "code, d, a or literal, b": from an instruction's first word, its code
 abbrev pub dOffset : ℕ
@@ -34,7 +34,7 @@ abbrev pub bOffset : ℕ
 bOffset = 3
 
 abbrev pub instructionWords : ℕ
-instructionWords = 4
+instructionWords = bOffset + 1
 
 -- the words of a block's eight instructions
 abbrev pub codeWords : ℕ
@@ -66,7 +66,7 @@ abbrev pub falseOffset : ℕ
 falseOffset = 5
 
 abbrev pub endingWords : ℕ
-endingWords = 6
+endingWords = falseOffset + 1
 
 -- where a block's first instruction, its ending and its last word, always 0, stand from the block's first word: 1, 33 and 39
 abbrev pub codeOffset : ℕ

@@ -4,7 +4,8 @@ use mathlib.Core.Path.{_≡_}
 use lib.ListN.{length, getD}
 use mathlib.Core.List.{List}
 use lib.Dec.{eqb}
-use Rattle.word.specs.Word.{choose, setCode}
+use Rattle.word.specs.Word.{choose, setCode, compareOf}
+use Rattle.word.specs.declared.Comparison.the-variants.{Eq}
 use Rattle.runs.specs.Lists.{mem}
 use Rattle.runs.specs.Runs.{Place, standing, halted, Runner}
 use Rattle.cfg.specs.declared.Instruction.{Instruction}
@@ -35,6 +36,18 @@ pub record BlockWithin (k : Block) : Type 0 where
   pub few : k .count ≤ maxInstructions
   pub fits : k .count ≤ length (k .instructions)
   pub each : (i : ℕ) → i < k .count → Within (getD (k .instructions) i noInstruction)
+
+-- the registers that an ending compares
+abbrev pub comparedOf : Ending → Condition
+comparedOf (Goto t) = record { comparison = Eq; a = 0; b = 0 }
+comparedOf (Ite c t f) = c
+comparedOf Halt = record { comparison = Eq; a = 0; b = 0 }
+
+-- where an ending leads, where they hold x and y
+abbrev pub leaveBy : Ending → ℕ → ℕ → Place
+leaveBy (Goto t) x y = standing t
+leaveBy (Ite c t f) x y = standing (choose (compareOf (c .comparison) x y) t f)
+leaveBy Halt x y = halted
 
 abbrev pub placeOf : Next → Place
 placeOf (To t) = standing t

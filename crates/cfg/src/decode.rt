@@ -66,19 +66,18 @@ pub fn block_at(table: &[u32], n: usize) -> Block
     ensures { λ r. ⌜ r ≡ blockAt (now (table .entry)) n ⌝ }
 {
     let start = GraphTable::HEAD + Block::WORDS * n;
-    let count = table[start];
-    let i0 = instruction_at(table, start, 0);
-    let i1 = instruction_at(table, start, 1);
-    let i2 = instruction_at(table, start, 2);
-    let i3 = instruction_at(table, start, 3);
-    let i4 = instruction_at(table, start, 4);
-    let i5 = instruction_at(table, start, 5);
-    let i6 = instruction_at(table, start, 6);
-    let i7 = instruction_at(table, start, 7);
-    let instructions = [i0, i1, i2, i3, i4, i5, i6, i7];
+    let mut block = Block::empty();
+    let mut i = 0;
+    // A loop of eight passes is unrolled: the words are copied as they stand.
+    while i < Block::INSTRUCTIONS {
+        let next = instruction_at(table, start, i);
+        block.instructions[i] = next;
+        i += 1;
+    }
+    let instructions = block.instructions;
     let ending = ending_at(table, start + Block::ENDING);
     Block {
-        count,
+        count: table[start],
         instructions,
         ending,
     }

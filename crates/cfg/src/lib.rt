@@ -28,7 +28,7 @@ impl GraphTable {
 
     pub const REGISTER_COUNT: usize = 1;
     // Words of the head, and of the whole table.
-    pub const HEAD: usize = 2;
+    pub const HEAD: usize = GraphTable::REGISTER_COUNT + 1;
 
     pub const WORDS: usize = GraphTable::HEAD + GraphTable::BLOCKS * Block::WORDS;
 }
@@ -49,7 +49,7 @@ impl Instruction {
 
     pub const B: usize = 3;
 
-    pub const WORDS: usize = 4;
+    pub const WORDS: usize = Instruction::B + 1;
 
     // The words of no instruction.
     pub fn none() -> Instruction
@@ -97,7 +97,7 @@ impl Ending {
 
     pub const FALSE: usize = 5;
 
-    pub const WORDS: usize = 6;
+    pub const WORDS: usize = Ending::FALSE + 1;
 }
 
 // The first `count` instructions are the block's.

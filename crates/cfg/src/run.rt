@@ -1,5 +1,5 @@
 // A graph's run with a budget of blocks, on the words of a list.
-use crate::Block;
+use crate::Condition;
 use crate::Ending;
 use crate::GraphTable;
 use crate::Instruction;
@@ -8,6 +8,7 @@ use crate::decode;
 use crate::starters;
 use runs::RunAnswer;
 use word::Code;
+use word::Comparison;
 use word::Registers;
 ghost use mathlib.Core.Bool.{true};
 ghost use mathlib.Core.List.{_++_};
@@ -17,10 +18,9 @@ ghost use lib.Dec.{eqb};
 ghost use lib.ListN.{length, take, drop};
 ghost use Rattle.word.specs.Word.{choose, evalOf, setCode};
 ghost use Rattle.runs.specs.Runs.{startAt, upTo, answer, registersAfter};
-ghost use Rattle.cfg.specs.Graph.{instructionsOf, executeAll, leave};
-ghost use Rattle.cfg.specs.Layout.{maxBlocks, maxRegisters, graphWords};
-ghost use Rattle.cfg.specs.Table.{blockCount, blockAt, graphOf, admittedGraph};
-ghost use Rattle.cfg.specs.Steps.{EndingWithin, BlockWithin, placeOf, markedRunner};
+ghost use Rattle.cfg.specs.Layout.{maxBlocks, maxRegisters};
+ghost use Rattle.cfg.specs.Table.{blockCount, graphOf, admittedGraph};
+ghost use Rattle.cfg.specs.Steps.{comparedOf, leaveBy, placeOf, markedRunner};
 ghost use Rattle.cfg.specs.Run.{graphAnswer, graphRegisters, graphWordsAnswer, graphWordsRegisters};
 
 // The block that comes next.
@@ -45,40 +45,34 @@ fn value_of(sampled: u32, i: Instruction, x: u32, y: u32) -> u32
     word::eval(sampled, i.code, x, y, 0)
 }
 
-// The instructions of block n in order, each seeing the one before. They are read where they stand: a block's record would be a copy
-// of all eight.
-fn execute_all(table: &[u32], n: usize, sampled: u32, file: Registers) -> Registers
-    requires { ⌜ (n < maxBlocks) × (graphWords ≤ length (now table)) × BlockWithin (blockAt (now table) n) ⌝ }
-    ensures { λ r. ⌜ r .words ≡ executeAll sampled (instructionsOf (blockAt (now (table .entry)) n)) (file .words) ⌝ }
+// The registers that an ending compares; register 0 twice where it compares none.
+fn compared(ending: Ending) -> Condition
+    ensures { λ r. ⌜ r ≡ comparedOf ending ⌝ }
 {
-    let start = GraphTable::HEAD + Block::WORDS * n;
-    let count = table[start] as usize;
-    let mut current = file;
-    let mut i = 0;
-    while i < count {
-        let next = decode::instruction_at(table, start, i);
-        // A set's literal names no register: whatever is read there is not used.
-        let a = next.a as usize % Registers::COUNT;
-        let b = next.b as usize % Registers::COUNT;
-        let value = value_of(sampled, next, current.words[a], current.words[b]);
-        let after = current.put(next.d as usize, value);
-        current = after;
-        i += 1;
+    match ending {
+        Ending::Goto(_) => Condition {
+            comparison: Comparison::Eq,
+            a: 0,
+            b: 0,
+        },
+        Ending::Ite(c, _, _) => c,
+        Ending::Halt => Condition {
+            comparison: Comparison::Eq,
+            a: 0,
+            b: 0,
+        },
     }
-    current
 }
 
-fn next_of(ending: Ending, file: Registers) -> Next
-    requires { ⌜ EndingWithin ending ⌝ }
-    ensures { λ r. ⌜ placeOf r ≡ leave ending (file .words) ⌝ }
+// Where the ending leads, of the words in the registers that it compares.
+fn next_of(ending: Ending, x: u32, y: u32) -> Next
+    ensures { λ r. ⌜ placeOf r ≡ leaveBy ending x y ⌝ }
 {
     match ending {
         Ending::Goto(t) => Next::To(t),
         Ending::Ite(c, t, f) => {
-            let a = c.a as usize;
-            let b = c.b as usize;
             let comparison = c.comparison;
-            if word::compare(comparison, file.words[a], file.words[b]) {
+            if word::compare(comparison, x, y) {
                 Next::To(t)
             } else {
                 Next::To(f)
@@ -88,8 +82,16 @@ fn next_of(ending: Ending, file: Registers) -> Next
     }
 }
 
+// A run's end.
+fn ended(answer: RunAnswer, registers: Registers) -> Ran
+    ensures { λ r. ⌜ (r .answer ≡ answer) × (r .registers ≡ registers) ⌝ }
+{
+    Ran { answer, registers }
+}
+
 // The table is checked before: nothing of admission is done here. There is a word for each of the first `limit` arrivals; a move to a
-// block with mark 1 makes the next one.
+// block with mark 1 makes the next one. A block's instructions run in order, each seeing the one before, in a loop of the same function:
+// to hand the register file to another and back took up to a third of the time.
 fn run_blocks(
     table: &[u32],
     start: u32,
@@ -108,32 +110,36 @@ fn run_blocks(
     let mut arrivals = 0;
     while count < budget {
         if limit <= arrivals {
-            return Ran {
-                answer: RunAnswer::Dry(count, at),
-                registers: current,
-            };
+            return ended(RunAnswer::Dry(count, at), current);
         }
-        let n = at as usize;
-        let block = decode::block_at(table, n);
-        let after = execute_all(table, n, runs::sampled(words, arrivals), current);
-        current = after;
+        let block = decode::block_at(table, at as usize);
+        let sampled = runs::sampled(words, arrivals);
+        let used = block.count as usize;
+        let mut i = 0;
+        while i < used {
+            let next = block.instructions[i];
+            // A set's literal names no register: whatever is read there is not used.
+            let a = next.a as usize % Registers::COUNT;
+            let b = next.b as usize % Registers::COUNT;
+            let value = value_of(sampled, next, current.words[a], current.words[b]);
+            let after = current.put(next.d as usize, value);
+            current = after;
+            i += 1;
+        }
         count += 1;
         let ending = block.ending;
-        let Next::To(t) = next_of(ending, current) else {
-            return Ran {
-                answer: RunAnswer::Halted(count),
-                registers: current,
-            };
+        let c = compared(ending);
+        let a = c.a as usize % Registers::COUNT;
+        let b = c.b as usize % Registers::COUNT;
+        let Next::To(t) = next_of(ending, current.words[a], current.words[b]) else {
+            return ended(RunAnswer::Halted(count), current);
         };
         if marks[t as usize] == 1 {
             arrivals += 1;
         }
         at = t;
     }
-    Ran {
-        answer: RunAnswer::Spent(count, at),
-        registers: current,
-    }
+    ended(RunAnswer::Spent(count, at), current)
 }
 
 // A run on the registers of a buffer; its words from 16 up stay.

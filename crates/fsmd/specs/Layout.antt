@@ -28,17 +28,17 @@ abbrev pub wireCOffset : ℕ
 wireCOffset = 3
 
 abbrev pub wireWords : ℕ
-wireWords = 4
+wireWords = wireCOffset + 1
 
 -- from the first word of a state's record, its first wire
 abbrev pub wireCountOffset : ℕ
 wireCountOffset = 1
 
 abbrev pub nextStateOffset : ℕ
-nextStateOffset = 2
+nextStateOffset = wireCountOffset + 1
 
 abbrev pub nextRegistersOffset : ℕ
-nextRegistersOffset = 3
+nextRegistersOffset = nextStateOffset + 1
 
 -- 19 words: first wire, wire count, next-state reference, 16 next-register references
 abbrev pub recordWords : ℕ
@@ -60,7 +60,7 @@ registerCountOffset = 1
 
 -- where the starters, the block states, the records and the wires begin: 2, 66, 130 and 1,346
 abbrev pub startersOffset : ℕ
-startersOffset = 2
+startersOffset = registerCountOffset + 1
 
 abbrev pub blockStatesOffset : ℕ
 blockStatesOffset = startersOffset + maxStates

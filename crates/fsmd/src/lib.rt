@@ -28,9 +28,9 @@ impl MachineTable {
     // Where the words of a state's record after its first wire are, and how many there are.
     pub const WIRE_COUNT: usize = 1;
 
-    pub const NEXT_STATE: usize = 2;
+    pub const NEXT_STATE: usize = MachineTable::WIRE_COUNT + 1;
 
-    pub const NEXT_REGISTERS: usize = 3;
+    pub const NEXT_REGISTERS: usize = MachineTable::NEXT_STATE + 1;
 
     pub const RECORD: usize = MachineTable::NEXT_REGISTERS + MachineTable::REGISTERS;
     // Where N and R stand.
@@ -38,7 +38,7 @@ impl MachineTable {
 
     pub const REGISTER_COUNT: usize = 1;
     // Where the starters, the block states, the records and the wires begin, and the words of the whole table.
-    pub const STARTERS: usize = 2;
+    pub const STARTERS: usize = MachineTable::REGISTER_COUNT + 1;
 
     pub const BLOCK_STATES: usize = MachineTable::STARTERS + MachineTable::STATES;
 
@@ -68,5 +68,5 @@ impl Wire {
 
     pub const C: usize = 3;
 
-    pub const WORDS: usize = 4;
+    pub const WORDS: usize = Wire::C + 1;
 }

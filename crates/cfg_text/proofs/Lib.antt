@@ -7,3 +7,4 @@ pub mod Steps
 pub mod Reached
 pub mod Copies
 pub mod Answering
+pub mod PastTable

@@ -1,11 +1,11 @@
 -- Running a graph keeps the words of the registers from R up, whatever the table, the buffer, the start and the budget. Assumes nothing.
 use Prim.Native.Nat.{ℕ, _<_}
 use native.Mathlib.Omega.{arith}
-use mathlib.Core.Bool.{Bool, true, false, _&&_}
+use mathlib.Core.Bool.{Bool, true, false}
 use mathlib.Core.List.{List, [], _∷_}
 use mathlib.Core.Path.{_≡_, refl, _∙_}
 use lib.Dec.{ltb}
-use lib.ListN.{length, getD, take, drop, length-take, length-set}
+use lib.ListN.{getD, drop, length-take, length-set}
 use lib.Seq.{drop-set-lt, getD-take}
 use borrow.Author.Tests.{ltb-true, ltb-false, lt-ltb}
 use Rattle.runs.specs.Lists.{every}

@@ -59,7 +59,7 @@ module _ {t t′ : List ℕ} (f : SameFront graphWords t t′) where
       (map-same (blockAt t) (blockAt t′) 0 (getD t 0 0) (λ i lo hi. block-same i (omega arith))
       ∙ ap (λ (n : ℕ). map (blockAt t′) (upFrom 0 n)) (f .word 0 (omega arith)))
 
-  pub admitted-same : admitted t ≡ admitted t′
+  admitted-same : admitted t ≡ admitted t′
   admitted-same = go (leb (getD t 0 0) maxBlocks) refl
     where
       go : (b : Bool) → leb (getD t 0 0) maxBlocks ≡ b → admitted t ≡ admitted t′
@@ -71,9 +71,6 @@ module _ {t t′ : List ℕ} (f : SameFront graphWords t t′) where
           let many = leb-false (getD t 0 0) maxBlocks e in
           let w = f .word 0 (omega arith) in
           many-blocks t (omega arith) many ∙ sym (many-blocks t′ (omega arith) (omega arith))
-
-  pub same-graph : admitted t′ ≡ true → graphOf t ≡ graphOf t′
-  same-graph h = graph-same (admitted-facts t (admitted-same ∙ h) .fewBlocks)
 
 -- ---- a table t, and words past it
 
@@ -94,7 +91,7 @@ module _ (t u : List ℕ) (whole : graphWords ≤ length t) where
   past-admitted = admitted-same front
 
   pub past-graph : admitted t ≡ true → graphOf (t ++ u) ≡ graphOf t
-  past-graph h = same-graph front h
+  past-graph h = graph-same front (admitted-facts (t ++ u) (past-admitted ∙ h) .fewBlocks)
 
   -- ---- runs: registers rs, and words past them
 

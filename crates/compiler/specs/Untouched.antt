@@ -26,15 +26,12 @@ pub record RegistersKept : Type 0 where
 pub record PastLengths : Type 0 where
   pub read-answer : (text t u : List ℕ) → length t ≡ graphWords → readAnswer text (t ++ u) ≡ readAnswer text t
   pub read-table : (text t u : List ℕ) → length t ≡ graphWords → readWords text (t ++ u) ≡ readWords text t ++ u
-
   pub write-answer : (t u out : List ℕ) → length t ≡ graphWords → writeAnswer (t ++ u) out ≡ writeAnswer t out
   pub write-output : (t u out : List ℕ) → length t ≡ graphWords → writeBytes (t ++ u) out ≡ writeBytes t out
-
   pub synthesis-answer : (t u m v : List ℕ) → length t ≡ graphWords → length m ≡ machineWords
       → synthesisAnswer (t ++ u) (m ++ v) ≡ synthesisAnswer t m
   pub synthesis-table : (t u m v : List ℕ) → length t ≡ graphWords → length m ≡ machineWords
       → synthesisWords (t ++ u) (m ++ v) ≡ synthesisWords t m ++ v
-
   pub graph-answer : (t u rs v : List ℕ) → length t ≡ graphWords → length rs ≡ maxRegisters → (start budget : ℕ)
       → graphAnswer (t ++ u) (rs ++ v) start budget ≡ graphAnswer t rs start budget
   pub graph-registers : (t u rs v : List ℕ) → length t ≡ graphWords → length rs ≡ maxRegisters → (start budget : ℕ)
@@ -43,7 +40,6 @@ pub record PastLengths : Type 0 where
       → graphWordsAnswer (t ++ u) (rs ++ v) start budget words starters ≡ graphWordsAnswer t rs start budget words starters
   pub graph-with-words-registers : (t u rs v : List ℕ) → length t ≡ graphWords → length rs ≡ maxRegisters → (start budget : ℕ) (words starters : List ℕ)
       → graphWordsRegisters (t ++ u) (rs ++ v) start budget words starters ≡ graphWordsRegisters t rs start budget words starters ++ v
-
   pub machine-answer : (m u rs v : List ℕ) → length m ≡ machineWords → length rs ≡ maxRegisters → (start budget : ℕ)
       → machineAnswer (m ++ u) (rs ++ v) start budget ≡ machineAnswer m rs start budget
   pub machine-registers : (m u rs v : List ℕ) → length m ≡ machineWords → length rs ≡ maxRegisters → (start budget : ℕ)

@@ -2,19 +2,19 @@
 use Prim.Native.Nat.{ℕ, _+_, _<_, _≤_}
 use native.Mathlib.Omega.{arith}
 use mathlib.Core.Bool.{Bool, true, false}
-use mathlib.Core.List.{List, _++_, map}
-use mathlib.Core.Path.{_≡_, refl, sym, ap, _∙_}
+use mathlib.Core.List.{List, map}
+use mathlib.Core.Path.{_≡_, refl, _∙_}
 use lib.Dec.{ltb}
-use lib.ListN.{length, getD, take, drop, length-append, length-drop, length-map}
+use lib.ListN.{length, getD, drop, length-append, length-drop, length-map}
 use lib.Seq.{drop-at}
 use borrow.Author.Tests.{ltb-true}
 use Rattle.runs.specs.Runs.{Place, standing, halted, listed, unread}
 use Rattle.runs.proofs.KeptRegisters.{Keeps, Ready, operation-keeps}
-use Rattle.fsmd.specs.Layout.{maxStates, maxRegisters, machineWords, recordOffset, nextRegistersOffset}
-use Rattle.fsmd.specs.Machine.{State, FSMD, stateOf, worked, toState, clock, machineRunner}
+use Rattle.fsmd.specs.Layout.{recordOffset, nextRegistersOffset}
+use Rattle.fsmd.specs.Machine.{State, FSMD, worked, toState, clock, machineRunner}
 use Rattle.fsmd.specs.Table.{stateAt, machineOf}
 use Rattle.fsmd.specs.Run.{refusal, runRegisters, wordsRefusal, wordsRegisters}
-use Rattle.fsmd.proofs.Machines.{states-length, registers-is, state-is, Admitted, admitted-facts}
+use Rattle.fsmd.proofs.Machines.{states-length, registers-is, state-is, admitted-facts}
 use Rattle.fsmd.proofs.Windows.{window-length}
 use Rattle.fsmd.proofs.Unrefused.{Unrefused, unrefused, words-unrefused}
 

@@ -1,5 +1,5 @@
 -- Machine tables with words past their length: the same are admitted, with the same machine, and run alike. Assumes nothing.
-use Prim.Native.Nat.{ℕ, suc, _+_, _≤_, _<_}
+use Prim.Native.Nat.{ℕ, _+_, _≤_, _<_}
 use native.Mathlib.Omega.{arith}
 use mathlib.Core.Bool.{Bool, true, false, not}
 use mathlib.Core.List.{List, _++_, map}
@@ -78,7 +78,7 @@ module _ {t t′ : List ℕ} (f : SameFront machineWords t t′) where
         valid = λ k h. rw (r, state-same k (omega arith) (a .few-registers) (a .in-space k (omega arith))) at (a .valid k (omega arith));
       }
 
-pub admitted-same : {t t′ : List ℕ} → SameFront machineWords t t′ → admitted t ≡ admitted t′
+admitted-same : {t t′ : List ℕ} → SameFront machineWords t t′ → admitted t ≡ admitted t′
 admitted-same {t} {t′} f =
     same-test (admitted t) (admitted t′) (λ h. facts-admitted t′ (carried f (admitted-facts t h))) (λ h. facts-admitted t (carried (front-sym f) (admitted-facts t′ h)))
 
@@ -97,10 +97,10 @@ module _ (t u : List ℕ) (whole : machineWords ≤ length t) where
   past-whole : machineWords ≤ length (t ++ u)
   past-whole = rw length-append (omega arith)
 
-  pub past-admitted : admitted (t ++ u) ≡ admitted t
+  past-admitted : admitted (t ++ u) ≡ admitted t
   past-admitted = admitted-same front
 
-  pub past-machine : admitted t ≡ true → machineOf (t ++ u) ≡ machineOf t
+  past-machine : admitted t ≡ true → machineOf (t ++ u) ≡ machineOf t
   past-machine h = sym (machine-same (front-sym front) (admitted-facts t h))
 
   -- ---- runs: registers rs, and words past them

@@ -33,7 +33,6 @@ pub record Keeps (n : ℕ) (Fits : Place → Type 0) (rs : List ℕ) (m : Moved)
 
 module _ (n : ℕ) (r : Runner) (ws : Supply) (Fits : Place → Type 0)
     (unit : (w x : ℕ) (rs : List ℕ) → Fits (standing x) → n ≤ length rs → Keeps n Fits rs (r .unit w x rs)) where
-
   record Reaches (c d : Configuration) : Type 0 where
     fits : Fits (d .place)
     kept : Kept n (c .registers) (d .registers)

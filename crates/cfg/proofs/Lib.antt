@@ -6,3 +6,6 @@ pub mod Codes
 pub mod Passing
 pub mod Running
 pub mod Marking
+pub mod Unrefused
+pub mod KeptRegisters
+pub mod PastTable

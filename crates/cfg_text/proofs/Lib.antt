@@ -6,3 +6,4 @@ pub mod Otherwise
 pub mod Steps
 pub mod Reached
 pub mod Answering
+pub mod PastTable

@@ -13,3 +13,4 @@ pub mod RoundTrip
 pub mod PutLaws
 pub mod BlockTextLaws
 pub mod WriteLaws
+pub mod PastTable

@@ -4,3 +4,6 @@ pub mod Machines
 pub mod Steps
 pub mod WrittenTable
 pub mod ReadBack
+pub mod Unrefused
+pub mod KeptRegisters
+pub mod PastTable

@@ -6,3 +6,6 @@ pub mod RunLaws
 pub mod Every
 pub mod SupplyLaws
 pub mod OperationLaws
+pub mod KeptRegisters
+pub mod Fronts
+pub mod PastRegisters

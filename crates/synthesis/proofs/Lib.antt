@@ -17,3 +17,4 @@ pub mod MadeTable
 pub mod TableFilled
 pub mod StateBlocks
 pub mod StatePut
+pub mod PastTables

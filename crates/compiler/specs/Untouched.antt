@@ -1,0 +1,50 @@
+-- What no operation touches, as paper 01 says it: registers from R up, and words past a table's length. Assumes nothing.
+use Prim.Native.Nat.{ℕ}
+use mathlib.Core.List.{List, _++_}
+use mathlib.Core.Path.{_≡_}
+use lib.ListN.{length, getD, drop}
+use Rattle.cfg.specs.Layout.{graphWords}
+use Rattle.cfg.specs.Run.{runAnswer as graphAnswer, runRegisters as graphRegisters, wordsAnswer as graphWordsAnswer, wordsRegisters as graphWordsRegisters}
+use Rattle.cfg_text.specs.Read.{readAnswer, readWords}
+use Rattle.cfg_write.specs.Write.{writeAnswer, writeBytes}
+use Rattle.fsmd.specs.Layout.{machineWords, maxRegisters}
+use Rattle.fsmd.specs.Run.{runAnswer as machineAnswer, runRegisters as machineRegisters, wordsAnswer as machineWordsAnswer, wordsRegisters as machineWordsRegisters}
+use Rattle.synthesis.specs.Synthesis.{synthesisAnswer, synthesisWords}
+
+-- "Registers from R up keep their words." R is the table's word 1; a table that is not admitted is refused, and so keeps them all.
+pub record RegistersKept : Type 0 where
+  pub graph : (t rs : List ℕ) (start budget : ℕ) → drop (getD t 1 0) (graphRegisters t rs start budget) ≡ drop (getD t 1 0) rs
+  pub graph-with-words : (t rs : List ℕ) (start budget : ℕ) (words starters : List ℕ)
+      → drop (getD t 1 0) (graphWordsRegisters t rs start budget words starters) ≡ drop (getD t 1 0) rs
+  pub machine : (t rs : List ℕ) (start budget : ℕ) → drop (getD t 1 0) (machineRegisters t rs start budget) ≡ drop (getD t 1 0) rs
+  pub machine-with-words : (t rs : List ℕ) (start budget : ℕ) (words : List ℕ)
+      → drop (getD t 1 0) (machineWordsRegisters t rs start budget words) ≡ drop (getD t 1 0) rs
+
+-- "In every operation, words past a table's length are neither read nor changed": not read, as the answer and what is left in front are
+-- the same whatever stands there; not changed, as it still stands there at the end. t is the graph's table, m the machine's, and rs the
+-- registers, each of its length; u and v are words past it.
+pub record PastLengths : Type 0 where
+  pub read-answer : (text t u : List ℕ) → length t ≡ graphWords → readAnswer text (t ++ u) ≡ readAnswer text t
+  pub read-table : (text t u : List ℕ) → length t ≡ graphWords → readWords text (t ++ u) ≡ readWords text t ++ u
+  pub write-answer : (t u out : List ℕ) → length t ≡ graphWords → writeAnswer (t ++ u) out ≡ writeAnswer t out
+  pub write-output : (t u out : List ℕ) → length t ≡ graphWords → writeBytes (t ++ u) out ≡ writeBytes t out
+  pub synthesis-answer : (t u m v : List ℕ) → length t ≡ graphWords → length m ≡ machineWords
+      → synthesisAnswer (t ++ u) (m ++ v) ≡ synthesisAnswer t m
+  pub synthesis-table : (t u m v : List ℕ) → length t ≡ graphWords → length m ≡ machineWords
+      → synthesisWords (t ++ u) (m ++ v) ≡ synthesisWords t m ++ v
+  pub graph-answer : (t u rs v : List ℕ) → length t ≡ graphWords → length rs ≡ maxRegisters → (start budget : ℕ)
+      → graphAnswer (t ++ u) (rs ++ v) start budget ≡ graphAnswer t rs start budget
+  pub graph-registers : (t u rs v : List ℕ) → length t ≡ graphWords → length rs ≡ maxRegisters → (start budget : ℕ)
+      → graphRegisters (t ++ u) (rs ++ v) start budget ≡ graphRegisters t rs start budget ++ v
+  pub graph-with-words-answer : (t u rs v : List ℕ) → length t ≡ graphWords → length rs ≡ maxRegisters → (start budget : ℕ) (words starters : List ℕ)
+      → graphWordsAnswer (t ++ u) (rs ++ v) start budget words starters ≡ graphWordsAnswer t rs start budget words starters
+  pub graph-with-words-registers : (t u rs v : List ℕ) → length t ≡ graphWords → length rs ≡ maxRegisters → (start budget : ℕ) (words starters : List ℕ)
+      → graphWordsRegisters (t ++ u) (rs ++ v) start budget words starters ≡ graphWordsRegisters t rs start budget words starters ++ v
+  pub machine-answer : (m u rs v : List ℕ) → length m ≡ machineWords → length rs ≡ maxRegisters → (start budget : ℕ)
+      → machineAnswer (m ++ u) (rs ++ v) start budget ≡ machineAnswer m rs start budget
+  pub machine-registers : (m u rs v : List ℕ) → length m ≡ machineWords → length rs ≡ maxRegisters → (start budget : ℕ)
+      → machineRegisters (m ++ u) (rs ++ v) start budget ≡ machineRegisters m rs start budget ++ v
+  pub machine-with-words-answer : (m u rs v : List ℕ) → length m ≡ machineWords → length rs ≡ maxRegisters → (start budget : ℕ) (words : List ℕ)
+      → machineWordsAnswer (m ++ u) (rs ++ v) start budget words ≡ machineWordsAnswer m rs start budget words
+  pub machine-with-words-registers : (m u rs v : List ℕ) → length m ≡ machineWords → length rs ≡ maxRegisters → (start budget : ℕ) (words : List ℕ)
+      → machineWordsRegisters (m ++ u) (rs ++ v) start budget words ≡ machineWordsRegisters m rs start budget words ++ v

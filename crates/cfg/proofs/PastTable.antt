@@ -16,9 +16,9 @@ use Rattle.cfg.specs.declared.Instruction.{Instruction}
 use Rattle.cfg.specs.declared.Ending.{Ending}
 use Rattle.cfg.specs.declared.Block.{Block}
 use Rattle.cfg.specs.Layout.{maxBlocks, maxRegisters, maxInstructions, instructionWords, endingWords, codeOffset, endingOffset, graphWords, blockOffset}
-use Rattle.cfg.specs.Graph.{CFG, validGraph, graphRunner, wordless}
-use Rattle.cfg.specs.Table.{tableOf, instructionAt, endingAt, blockAt, graphOf, admitted}
-use Rattle.cfg.specs.Run.{refusal, runAnswer, runRegisters, wordsRefusal, wordsAnswer, wordsRegisters}
+use Rattle.cfg.specs.Graph.{CFG, validGraph, graphRunner, wordlessGraph}
+use Rattle.cfg.specs.Table.{graphTableOf, instructionAt, endingAt, blockAt, graphOf, admittedGraph}
+use Rattle.cfg.specs.Run.{graphRefusal, graphAnswer, graphRegisters, graphWordsRefusal, graphWordsAnswer, graphWordsRegisters}
 use Rattle.cfg.proofs.Words.{admitted-is, many-blocks}
 use Rattle.cfg.proofs.Admitted.{admitted-facts}
 use Rattle.cfg.proofs.Running.{not-admitted}
@@ -59,13 +59,13 @@ module _ {t t′ : List ℕ} (f : SameFront graphWords t t′) where
       (map-same (blockAt t) (blockAt t′) 0 (getD t 0 0) (λ i lo hi. block-same i (omega arith))
       ∙ ap (λ (n : ℕ). map (blockAt t′) (upFrom 0 n)) (f .word 0 (omega arith)))
 
-  admitted-same : admitted t ≡ admitted t′
+  admitted-same : admittedGraph t ≡ admittedGraph t′
   admitted-same = go (leb (getD t 0 0) maxBlocks) refl
     where
-      go : (b : Bool) → leb (getD t 0 0) maxBlocks ≡ b → admitted t ≡ admitted t′
+      go : (b : Bool) → leb (getD t 0 0) maxBlocks ≡ b → admittedGraph t ≡ admittedGraph t′
       go true e =
           admitted-is t
-          ∙ ap₂ (λ (g : CFG) (l : List ℕ). validGraph g && same (tableOf g) l) (graph-same (leb-true (getD t 0 0) maxBlocks e)) (f .words 0 graphWords (omega arith))
+          ∙ ap₂ (λ (g : CFG) (l : List ℕ). validGraph g && same (graphTableOf g) l) (graph-same (leb-true (getD t 0 0) maxBlocks e)) (f .words 0 graphWords (omega arith))
           ∙ sym (admitted-is t′)
       go false e =
           let many = leb-false (getD t 0 0) maxBlocks e in
@@ -75,9 +75,9 @@ module _ {t t′ : List ℕ} (f : SameFront graphWords t t′) where
 -- ---- a table t, and words past it
 
 -- the tests that are left where the table is admitted
-last-tests : (t rs : List ℕ) (start : ℕ) → graphWords ≤ length t → maxRegisters ≤ length rs → admitted t ≡ true
-    → refusal t rs start ≡ choose (not (wordless (graphOf t))) 12 (choose (not (ltb start (getD t 0 0))) 9 0)
-unfolding refusal
+last-tests : (t rs : List ℕ) (start : ℕ) → graphWords ≤ length t → maxRegisters ≤ length rs → admittedGraph t ≡ true
+    → graphRefusal t rs start ≡ choose (not (wordlessGraph (graphOf t))) 12 (choose (not (ltb start (getD t 0 0))) 9 0)
+unfolding graphRefusal
 last-tests t rs start whole long good = rw (le-ltb (length t) graphWords whole, le-ltb (length rs) maxRegisters long, good)
 
 module _ (t u : List ℕ) (whole : graphWords ≤ length t) where
@@ -87,10 +87,10 @@ module _ (t u : List ℕ) (whole : graphWords ≤ length t) where
   pub past-whole : graphWords ≤ length (t ++ u)
   past-whole = rw length-append (omega arith)
 
-  pub past-admitted : admitted (t ++ u) ≡ admitted t
+  pub past-admitted : admittedGraph (t ++ u) ≡ admittedGraph t
   past-admitted = admitted-same front
 
-  pub past-graph : admitted t ≡ true → graphOf (t ++ u) ≡ graphOf t
+  pub past-graph : admittedGraph t ≡ true → graphOf (t ++ u) ≡ graphOf t
   past-graph h = graph-same front (admitted-facts (t ++ u) (past-admitted ∙ h) .fewBlocks)
 
   -- ---- runs: registers rs, and words past them
@@ -99,42 +99,42 @@ module _ (t u : List ℕ) (whole : graphWords ≤ length t) where
     past-long : maxRegisters ≤ length (rs ++ v)
     past-long = rw length-append (omega arith)
 
-    past-refusal : refusal (t ++ u) (rs ++ v) start ≡ refusal t rs start
-    past-refusal = go (admitted t) refl
+    past-refusal : graphRefusal (t ++ u) (rs ++ v) start ≡ graphRefusal t rs start
+    past-refusal = go (admittedGraph t) refl
       where
-        go : (b : Bool) → admitted t ≡ b → refusal (t ++ u) (rs ++ v) start ≡ refusal t rs start
+        go : (b : Bool) → admittedGraph t ≡ b → graphRefusal (t ++ u) (rs ++ v) start ≡ graphRefusal t rs start
         go false e = not-admitted (t ++ u) (rs ++ v) start past-whole past-long (past-admitted ∙ e) ∙ sym (not-admitted t rs start whole long e)
         go true e =
             last-tests (t ++ u) (rs ++ v) start past-whole past-long (past-admitted ∙ e)
-            ∙ ap₂ {C = ℕ} (λ (g : CFG) (n : ℕ). choose (not (wordless g)) 12 (choose (not (ltb start n)) 9 0)) (past-graph e) (front .word 0 (omega arith))
+            ∙ ap₂ {C = ℕ} (λ (g : CFG) (n : ℕ). choose (not (wordlessGraph g)) 12 (choose (not (ltb start n)) 9 0)) (past-graph e) (front .word 0 (omega arith))
             ∙ sym (last-tests t rs start whole long e)
 
-    past-words-refusal : (starters : List ℕ) → wordsRefusal (t ++ u) (rs ++ v) start starters ≡ wordsRefusal t rs start starters
-    unfolding wordsRefusal
+    past-words-refusal : (starters : List ℕ) → graphWordsRefusal (t ++ u) (rs ++ v) start starters ≡ graphWordsRefusal t rs start starters
+    unfolding graphWordsRefusal
     past-words-refusal starters =
         rw (le-ltb (length (t ++ u)) graphWords past-whole, le-ltb (length (rs ++ v)) maxRegisters past-long, le-ltb (length t) graphWords whole, le-ltb (length rs) maxRegisters long, past-admitted, front .word 0 (omega arith))
 
-    past-runner : (starters : List ℕ) → admitted t ≡ true → graphRunner (graphOf (t ++ u)) starters ≡ graphRunner (graphOf t) starters
+    past-runner : (starters : List ℕ) → admittedGraph t ≡ true → graphRunner (graphOf (t ++ u)) starters ≡ graphRunner (graphOf t) starters
     past-runner starters h = ap (λ (g : CFG). graphRunner g starters) (past-graph h)
 
     module _ (budget : ℕ) where
-      pub past-run-answer : runAnswer (t ++ u) (rs ++ v) start budget ≡ runAnswer t rs start budget
+      pub past-run-answer : graphAnswer (t ++ u) (rs ++ v) start budget ≡ graphAnswer t rs start budget
       past-run-answer =
-          past-answered (refusal (t ++ u) (rs ++ v) start) (refusal t rs start) past-refusal (graphRunner (graphOf (t ++ u)) []) (graphRunner (graphOf t) [])
+          past-answered (graphRefusal (t ++ u) (rs ++ v) start) (graphRefusal t rs start) past-refusal (graphRunner (graphOf (t ++ u)) []) (graphRunner (graphOf t) [])
           (λ h. past-runner [] (unrefused t rs start h .good)) unread rs v long start budget
 
-      pub past-run-registers : runRegisters (t ++ u) (rs ++ v) start budget ≡ runRegisters t rs start budget ++ v
+      pub past-run-registers : graphRegisters (t ++ u) (rs ++ v) start budget ≡ graphRegisters t rs start budget ++ v
       past-run-registers =
-          past-left (refusal (t ++ u) (rs ++ v) start) (refusal t rs start) past-refusal (graphRunner (graphOf (t ++ u)) []) (graphRunner (graphOf t) [])
+          past-left (graphRefusal (t ++ u) (rs ++ v) start) (graphRefusal t rs start) past-refusal (graphRunner (graphOf (t ++ u)) []) (graphRunner (graphOf t) [])
           (λ h. past-runner [] (unrefused t rs start h .good)) unread rs v long start budget
 
       module _ (words starters : List ℕ) where
-        pub past-words-answer : wordsAnswer (t ++ u) (rs ++ v) start budget words starters ≡ wordsAnswer t rs start budget words starters
+        pub past-words-answer : graphWordsAnswer (t ++ u) (rs ++ v) start budget words starters ≡ graphWordsAnswer t rs start budget words starters
         past-words-answer =
-            past-answered (wordsRefusal (t ++ u) (rs ++ v) start starters) (wordsRefusal t rs start starters) (past-words-refusal starters) (graphRunner (graphOf (t ++ u)) starters) (graphRunner (graphOf t) starters)
+            past-answered (graphWordsRefusal (t ++ u) (rs ++ v) start starters) (graphWordsRefusal t rs start starters) (past-words-refusal starters) (graphRunner (graphOf (t ++ u)) starters) (graphRunner (graphOf t) starters)
             (λ h. past-runner starters (words-unrefused t rs start starters h .good)) (listed words) rs v long start budget
 
-        pub past-words-registers : wordsRegisters (t ++ u) (rs ++ v) start budget words starters ≡ wordsRegisters t rs start budget words starters ++ v
+        pub past-words-registers : graphWordsRegisters (t ++ u) (rs ++ v) start budget words starters ≡ graphWordsRegisters t rs start budget words starters ++ v
         past-words-registers =
-            past-left (wordsRefusal (t ++ u) (rs ++ v) start starters) (wordsRefusal t rs start starters) (past-words-refusal starters) (graphRunner (graphOf (t ++ u)) starters) (graphRunner (graphOf t) starters)
+            past-left (graphWordsRefusal (t ++ u) (rs ++ v) start starters) (graphWordsRefusal t rs start starters) (past-words-refusal starters) (graphRunner (graphOf (t ++ u)) starters) (graphRunner (graphOf t) starters)
             (λ h. past-runner starters (words-unrefused t rs start starters h .good)) (listed words) rs v long start budget

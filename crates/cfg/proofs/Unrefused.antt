@@ -10,29 +10,29 @@ use Rattle.word.specs.Word.{choose}
 use Rattle.runs.proofs.KeptRegisters.{tests-passed}
 use Rattle.runs.proofs.Tests.{or-false}
 use Rattle.cfg.specs.Layout.{maxRegisters, graphWords}
-use Rattle.cfg.specs.Graph.{wordless}
-use Rattle.cfg.specs.Table.{graphOf, admitted}
-use Rattle.cfg.specs.Run.{short, startersFit, refusal, wordsRefusal}
+use Rattle.cfg.specs.Graph.{wordlessGraph}
+use Rattle.cfg.specs.Table.{graphOf, admittedGraph}
+use Rattle.cfg.specs.Run.{graphShort, startersFit, graphRefusal, graphWordsRefusal}
 
 -- the buffer has all registers, and the table is admitted
 pub record Unrefused (t rs : List ℕ) : Type 0 where
   pub long : maxRegisters ≤ length rs
-  pub good : admitted t ≡ true
+  pub good : admittedGraph t ≡ true
 
 -- both refusals begin with the same two tests
-first-two : (t rs : List ℕ) (n : ℕ) → choose (short t rs) 7 (choose (not (admitted t)) 6 n) ≡ 0 → Unrefused t rs
+first-two : (t rs : List ℕ) (n : ℕ) → choose (graphShort t rs) 7 (choose (not (admittedGraph t)) 6 n) ≡ 0 → Unrefused t rs
 first-two t rs n h =
-    let p = tests-passed (short t rs) 6 (choose (not (admitted t)) 6 n) h in
-    let q = tests-passed (not (admitted t)) 5 n (p .1) in
+    let p = tests-passed (graphShort t rs) 6 (choose (not (admittedGraph t)) 6 n) h in
+    let q = tests-passed (not (admittedGraph t)) 5 n (p .1) in
     record {
       long = ltb-false (length rs) maxRegisters (or-false (ltb (length t) graphWords) (ltb (length rs) maxRegisters) (p .0) .1);
-      good = not-false (admitted t) (q .0);
+      good = not-false (admittedGraph t) (q .0);
     }
 
-pub unrefused : (t rs : List ℕ) (start : ℕ) → refusal t rs start ≡ 0 → Unrefused t rs
-unfolding refusal
-unrefused t rs start h = first-two t rs (choose (not (wordless (graphOf t))) 12 (choose (not (ltb start (getD t 0 0))) 9 0)) h
+pub unrefused : (t rs : List ℕ) (start : ℕ) → graphRefusal t rs start ≡ 0 → Unrefused t rs
+unfolding graphRefusal
+unrefused t rs start h = first-two t rs (choose (not (wordlessGraph (graphOf t))) 12 (choose (not (ltb start (getD t 0 0))) 9 0)) h
 
-pub words-unrefused : (t rs : List ℕ) (start : ℕ) (starters : List ℕ) → wordsRefusal t rs start starters ≡ 0 → Unrefused t rs
-unfolding wordsRefusal
+pub words-unrefused : (t rs : List ℕ) (start : ℕ) (starters : List ℕ) → graphWordsRefusal t rs start starters ≡ 0 → Unrefused t rs
+unfolding graphWordsRefusal
 words-unrefused t rs start starters h = first-two t rs (choose (not (ltb start (getD t 0 0))) 9 (choose (not (startersFit (getD t 0 0) start starters)) 11 0)) h

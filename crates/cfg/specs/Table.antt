@@ -40,8 +40,8 @@ graphTableOf g = length (g .blocks) ∷ g .registers ∷ padded allBlockWords 0 
 abbrev pub blockCount : List ℕ → ℕ
 blockCount t = getD t blockCountOffset 0
 
-abbrev pub registerCount : List ℕ → ℕ
-registerCount t = getD t registerCountOffset 0
+abbrev pub graphRegisterCount : List ℕ → ℕ
+graphRegisterCount t = getD t registerCountOffset 0
 
 -- instruction i of the block whose words begin at o
 unfoldable pub instructionAt : List ℕ → ℕ → ℕ → Instruction
@@ -72,7 +72,7 @@ blockAt t n =
 
 unfoldable pub graphOf : List ℕ → CFG
 unfolding blockAt
-graphOf t = record { registers = registerCount t; blocks = map (blockAt t) (upFrom 0 (blockCount t)) }
+graphOf t = record { registers = graphRegisterCount t; blocks = map (blockAt t) (upFrom 0 (blockCount t)) }
 
 -- ---- admitted tables: the first words are those of a valid graph
 -- (that these are the tables that reading makes is proved beside reading)

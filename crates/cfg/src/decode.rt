@@ -9,12 +9,12 @@ ghost use mathlib.Core.Path.{_≡_};
 ghost use Prim.Native.Nat.{_+_, _≤_, _<_};
 ghost use lib.ListN.{length};
 ghost use Rattle.cfg.specs.Layout.{maxBlocks, maxInstructions, headWords, blockWords, endingWords, graphWords};
-ghost use Rattle.cfg.specs.Table.{blockCount, registerCount, instructionAt, endingAt, blockAt};
+ghost use Rattle.cfg.specs.Table.{blockCount, graphRegisterCount, instructionAt, endingAt, blockAt};
 
 // B and R.
 pub fn head_of(table: &[u32]) -> GraphTable
     requires { ⌜ headWords ≤ length (now table) ⌝ }
-    ensures { λ r. ⌜ (r .blocks ≡ blockCount (now (table .entry))) × (r .registers ≡ registerCount (now (table .entry))) ⌝ }
+    ensures { λ r. ⌜ (r .blocks ≡ blockCount (now (table .entry))) × (r .registers ≡ graphRegisterCount (now (table .entry))) ⌝ }
 {
     GraphTable {
         blocks: table[GraphTable::BLOCK_COUNT],

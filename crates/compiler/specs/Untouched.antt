@@ -2,23 +2,25 @@
 use Prim.Native.Nat.{ℕ}
 use mathlib.Core.List.{List, _++_}
 use mathlib.Core.Path.{_≡_}
-use lib.ListN.{length, getD, drop}
+use lib.ListN.{length, drop}
 use Rattle.cfg.specs.Layout.{graphWords}
-use Rattle.cfg.specs.Run.{runAnswer as graphAnswer, runRegisters as graphRegisters, wordsAnswer as graphWordsAnswer, wordsRegisters as graphWordsRegisters}
+use Rattle.cfg.specs.Table.{graphRegisterCount}
+use Rattle.cfg.specs.Run.{graphAnswer, graphRegisters, graphWordsAnswer, graphWordsRegisters}
 use Rattle.cfg_text.specs.Read.{readAnswer, readWords}
 use Rattle.cfg_write.specs.Write.{writeAnswer, writeBytes}
 use Rattle.fsmd.specs.Layout.{machineWords, maxRegisters}
-use Rattle.fsmd.specs.Run.{runAnswer as machineAnswer, runRegisters as machineRegisters, wordsAnswer as machineWordsAnswer, wordsRegisters as machineWordsRegisters}
+use Rattle.fsmd.specs.Table.{machineRegisterCount}
+use Rattle.fsmd.specs.Run.{machineAnswer, machineRegisters, machineWordsAnswer, machineWordsRegisters}
 use Rattle.synthesis.specs.Synthesis.{synthesisAnswer, synthesisWords}
 
 -- "Registers from R up keep their words." R is the table's word 1; a table that is not admitted is refused, and so keeps them all.
 pub record RegistersKept : Type 0 where
-  pub graph : (t rs : List ℕ) (start budget : ℕ) → drop (getD t 1 0) (graphRegisters t rs start budget) ≡ drop (getD t 1 0) rs
+  pub graph : (t rs : List ℕ) (start budget : ℕ) → drop (graphRegisterCount t) (graphRegisters t rs start budget) ≡ drop (graphRegisterCount t) rs
   pub graph-with-words : (t rs : List ℕ) (start budget : ℕ) (words starters : List ℕ)
-      → drop (getD t 1 0) (graphWordsRegisters t rs start budget words starters) ≡ drop (getD t 1 0) rs
-  pub machine : (t rs : List ℕ) (start budget : ℕ) → drop (getD t 1 0) (machineRegisters t rs start budget) ≡ drop (getD t 1 0) rs
+      → drop (graphRegisterCount t) (graphWordsRegisters t rs start budget words starters) ≡ drop (graphRegisterCount t) rs
+  pub machine : (t rs : List ℕ) (start budget : ℕ) → drop (machineRegisterCount t) (machineRegisters t rs start budget) ≡ drop (machineRegisterCount t) rs
   pub machine-with-words : (t rs : List ℕ) (start budget : ℕ) (words : List ℕ)
-      → drop (getD t 1 0) (machineWordsRegisters t rs start budget words) ≡ drop (getD t 1 0) rs
+      → drop (machineRegisterCount t) (machineWordsRegisters t rs start budget words) ≡ drop (machineRegisterCount t) rs
 
 -- "In every operation, words past a table's length are neither read nor changed": not read, as the answer and what is left in front are
 -- the same whatever stands there; not changed, as it still stands there at the end. t is the graph's table, m the machine's, and rs the

@@ -13,7 +13,7 @@ use Rattle.runs.proofs.KeptRegisters.{Keeps, Ready, operation-keeps}
 use Rattle.fsmd.specs.Layout.{recordOffset, nextRegistersOffset}
 use Rattle.fsmd.specs.Machine.{State, FSMD, worked, toState, clock, machineRunner}
 use Rattle.fsmd.specs.Table.{stateAt, machineOf}
-use Rattle.fsmd.specs.Run.{refusal, runRegisters, wordsRefusal, wordsRegisters}
+use Rattle.fsmd.specs.Run.{machineRefusal, machineRegisters, machineWordsRefusal, machineWordsRegisters}
 use Rattle.fsmd.proofs.Machines.{states-length, registers-is, state-is, admitted-facts}
 use Rattle.fsmd.proofs.Windows.{window-length}
 use Rattle.fsmd.proofs.Unrefused.{Unrefused, unrefused, words-unrefused}
@@ -67,12 +67,12 @@ module _ (t rs : List ℕ) (start budget : ℕ) where
             (clock-keeps (machineOf t) w (stateAt t x) l (getD t 0 0) (getD t 1 0) (states-length t) (registers-is t) (next-length t x (omega arith)) k);
       }
 
-  pub machine-keeps : drop (getD t 1 0) (runRegisters t rs start budget) ≡ drop (getD t 1 0) rs
+  pub machine-keeps : drop (getD t 1 0) (machineRegisters t rs start budget) ≡ drop (getD t 1 0) rs
   machine-keeps =
-      operation-keeps (getD t 1 0) (machineRunner (machineOf t)) unread (Below (getD t 0 0)) (refusal t rs start) rs start budget
+      operation-keeps (getD t 1 0) (machineRunner (machineOf t)) unread (Below (getD t 0 0)) (machineRefusal t rs start) rs start budget
       (λ h. ready (unrefused t rs start h))
 
-  pub machine-words-keep : (words : List ℕ) → drop (getD t 1 0) (wordsRegisters t rs start budget words) ≡ drop (getD t 1 0) rs
+  pub machine-words-keep : (words : List ℕ) → drop (getD t 1 0) (machineWordsRegisters t rs start budget words) ≡ drop (getD t 1 0) rs
   machine-words-keep words =
-      operation-keeps (getD t 1 0) (machineRunner (machineOf t)) (listed words) (Below (getD t 0 0)) (wordsRefusal t rs start) rs start budget
+      operation-keeps (getD t 1 0) (machineRunner (machineOf t)) (listed words) (Below (getD t 0 0)) (machineWordsRefusal t rs start) rs start budget
       (λ h. ready (words-unrefused t rs start h))

@@ -15,9 +15,9 @@ use Rattle.runs.proofs.Fronts.{SameFront, front-past, front-sym, map-same}
 use Rattle.runs.proofs.PastRegisters.{past-answered, past-left}
 use Rattle.fsmd.specs.declared.Wire.{Wire}
 use Rattle.fsmd.specs.Layout.{maxStates, maxBlocks, maxRegisters, maxWires, startersOffset, blockStatesOffset, recordOffset, nextStateOffset, nextRegistersOffset, wireOffset, machineWords}
-use Rattle.fsmd.specs.Machine.{State, FSMD, machineRunner, wordless}
-use Rattle.fsmd.specs.Table.{wireAt, firstWireAt, wireCountAt, stateAt, machineOf, admitted}
-use Rattle.fsmd.specs.Run.{refusal, runAnswer, runRegisters, wordsRefusal, wordsAnswer, wordsRegisters}
+use Rattle.fsmd.specs.Machine.{State, FSMD, machineRunner, wordlessMachine}
+use Rattle.fsmd.specs.Table.{wireAt, firstWireAt, wireCountAt, stateAt, machineOf, admittedMachine}
+use Rattle.fsmd.specs.Run.{machineRefusal, machineAnswer, machineRegisters, machineWordsRefusal, machineWordsAnswer, machineWordsRegisters}
 use Rattle.fsmd.proofs.Machines.{Admitted, admitted-facts, facts-admitted}
 use Rattle.fsmd.proofs.Steps.{refuse-machine}
 use Rattle.fsmd.proofs.Unrefused.{unrefused, words-unrefused}
@@ -78,16 +78,16 @@ module _ {t t′ : List ℕ} (f : SameFront machineWords t t′) where
         valid = λ k h. rw (r, state-same k (omega arith) (a .few-registers) (a .in-space k (omega arith))) at (a .valid k (omega arith));
       }
 
-admitted-same : {t t′ : List ℕ} → SameFront machineWords t t′ → admitted t ≡ admitted t′
+admitted-same : {t t′ : List ℕ} → SameFront machineWords t t′ → admittedMachine t ≡ admittedMachine t′
 admitted-same {t} {t′} f =
-    same-test (admitted t) (admitted t′) (λ h. facts-admitted t′ (carried f (admitted-facts t h))) (λ h. facts-admitted t (carried (front-sym f) (admitted-facts t′ h)))
+    same-test (admittedMachine t) (admittedMachine t′) (λ h. facts-admitted t′ (carried f (admitted-facts t h))) (λ h. facts-admitted t (carried (front-sym f) (admitted-facts t′ h)))
 
 -- ---- a table t, and words past it
 
 -- the tests that are left where the table is admitted
-last-tests : (t rs : List ℕ) (start : ℕ) → machineWords ≤ length t → maxRegisters ≤ length rs → admitted t ≡ true
-    → refusal t rs start ≡ choose (not (wordless (machineOf t))) 12 (choose (not (ltb start (getD t 0 0))) 9 0)
-unfolding refusal
+last-tests : (t rs : List ℕ) (start : ℕ) → machineWords ≤ length t → maxRegisters ≤ length rs → admittedMachine t ≡ true
+    → machineRefusal t rs start ≡ choose (not (wordlessMachine (machineOf t))) 12 (choose (not (ltb start (getD t 0 0))) 9 0)
+unfolding machineRefusal
 last-tests t rs start whole long good = rw (le-ltb (length t) machineWords whole, le-ltb (length rs) maxRegisters long, good)
 
 module _ (t u : List ℕ) (whole : machineWords ≤ length t) where
@@ -97,10 +97,10 @@ module _ (t u : List ℕ) (whole : machineWords ≤ length t) where
   past-whole : machineWords ≤ length (t ++ u)
   past-whole = rw length-append (omega arith)
 
-  past-admitted : admitted (t ++ u) ≡ admitted t
+  past-admitted : admittedMachine (t ++ u) ≡ admittedMachine t
   past-admitted = admitted-same front
 
-  past-machine : admitted t ≡ true → machineOf (t ++ u) ≡ machineOf t
+  past-machine : admittedMachine t ≡ true → machineOf (t ++ u) ≡ machineOf t
   past-machine h = sym (machine-same (front-sym front) (admitted-facts t h))
 
   -- ---- runs: registers rs, and words past them
@@ -109,42 +109,42 @@ module _ (t u : List ℕ) (whole : machineWords ≤ length t) where
     past-long : maxRegisters ≤ length (rs ++ v)
     past-long = rw length-append (omega arith)
 
-    past-refusal : refusal (t ++ u) (rs ++ v) start ≡ refusal t rs start
-    past-refusal = go (admitted t) refl
+    past-refusal : machineRefusal (t ++ u) (rs ++ v) start ≡ machineRefusal t rs start
+    past-refusal = go (admittedMachine t) refl
       where
-        go : (b : Bool) → admitted t ≡ b → refusal (t ++ u) (rs ++ v) start ≡ refusal t rs start
+        go : (b : Bool) → admittedMachine t ≡ b → machineRefusal (t ++ u) (rs ++ v) start ≡ machineRefusal t rs start
         go false e = refuse-machine (t ++ u) (rs ++ v) start past-whole past-long (past-admitted ∙ e) ∙ sym (refuse-machine t rs start whole long e)
         go true e =
             last-tests (t ++ u) (rs ++ v) start past-whole past-long (past-admitted ∙ e)
-            ∙ ap₂ {C = ℕ} (λ (m : FSMD) (n : ℕ). choose (not (wordless m)) 12 (choose (not (ltb start n)) 9 0)) (past-machine e) (front .word 0 (omega arith))
+            ∙ ap₂ {C = ℕ} (λ (m : FSMD) (n : ℕ). choose (not (wordlessMachine m)) 12 (choose (not (ltb start n)) 9 0)) (past-machine e) (front .word 0 (omega arith))
             ∙ sym (last-tests t rs start whole long e)
 
-    past-words-refusal : wordsRefusal (t ++ u) (rs ++ v) start ≡ wordsRefusal t rs start
-    unfolding wordsRefusal
+    past-words-refusal : machineWordsRefusal (t ++ u) (rs ++ v) start ≡ machineWordsRefusal t rs start
+    unfolding machineWordsRefusal
     past-words-refusal =
         rw (le-ltb (length (t ++ u)) machineWords past-whole, le-ltb (length (rs ++ v)) maxRegisters past-long, le-ltb (length t) machineWords whole, le-ltb (length rs) maxRegisters long, past-admitted, front .word 0 (omega arith))
 
-    past-runner : admitted t ≡ true → machineRunner (machineOf (t ++ u)) ≡ machineRunner (machineOf t)
+    past-runner : admittedMachine t ≡ true → machineRunner (machineOf (t ++ u)) ≡ machineRunner (machineOf t)
     past-runner h = ap machineRunner (past-machine h)
 
     module _ (budget : ℕ) where
-      pub past-run-answer : runAnswer (t ++ u) (rs ++ v) start budget ≡ runAnswer t rs start budget
+      pub past-run-answer : machineAnswer (t ++ u) (rs ++ v) start budget ≡ machineAnswer t rs start budget
       past-run-answer =
-          past-answered (refusal (t ++ u) (rs ++ v) start) (refusal t rs start) past-refusal (machineRunner (machineOf (t ++ u))) (machineRunner (machineOf t))
+          past-answered (machineRefusal (t ++ u) (rs ++ v) start) (machineRefusal t rs start) past-refusal (machineRunner (machineOf (t ++ u))) (machineRunner (machineOf t))
           (λ h. past-runner (unrefused t rs start h .good)) unread rs v long start budget
 
-      pub past-run-registers : runRegisters (t ++ u) (rs ++ v) start budget ≡ runRegisters t rs start budget ++ v
+      pub past-run-registers : machineRegisters (t ++ u) (rs ++ v) start budget ≡ machineRegisters t rs start budget ++ v
       past-run-registers =
-          past-left (refusal (t ++ u) (rs ++ v) start) (refusal t rs start) past-refusal (machineRunner (machineOf (t ++ u))) (machineRunner (machineOf t))
+          past-left (machineRefusal (t ++ u) (rs ++ v) start) (machineRefusal t rs start) past-refusal (machineRunner (machineOf (t ++ u))) (machineRunner (machineOf t))
           (λ h. past-runner (unrefused t rs start h .good)) unread rs v long start budget
 
       module _ (words : List ℕ) where
-        pub past-words-answer : wordsAnswer (t ++ u) (rs ++ v) start budget words ≡ wordsAnswer t rs start budget words
+        pub past-words-answer : machineWordsAnswer (t ++ u) (rs ++ v) start budget words ≡ machineWordsAnswer t rs start budget words
         past-words-answer =
-            past-answered (wordsRefusal (t ++ u) (rs ++ v) start) (wordsRefusal t rs start) past-words-refusal (machineRunner (machineOf (t ++ u))) (machineRunner (machineOf t))
+            past-answered (machineWordsRefusal (t ++ u) (rs ++ v) start) (machineWordsRefusal t rs start) past-words-refusal (machineRunner (machineOf (t ++ u))) (machineRunner (machineOf t))
             (λ h. past-runner (words-unrefused t rs start h .good)) (listed words) rs v long start budget
 
-        pub past-words-registers : wordsRegisters (t ++ u) (rs ++ v) start budget words ≡ wordsRegisters t rs start budget words ++ v
+        pub past-words-registers : machineWordsRegisters (t ++ u) (rs ++ v) start budget words ≡ machineWordsRegisters t rs start budget words ++ v
         past-words-registers =
-            past-left (wordsRefusal (t ++ u) (rs ++ v) start) (wordsRefusal t rs start) past-words-refusal (machineRunner (machineOf (t ++ u))) (machineRunner (machineOf t))
+            past-left (machineWordsRefusal (t ++ u) (rs ++ v) start) (machineWordsRefusal t rs start) past-words-refusal (machineRunner (machineOf (t ++ u))) (machineRunner (machineOf t))
             (λ h. past-runner (words-unrefused t rs start h .good)) (listed words) rs v long start budget

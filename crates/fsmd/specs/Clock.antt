@@ -8,15 +8,15 @@ use Rattle.runs.specs.Runs.{Moved}
 use Rattle.fsmd.specs.declared.clock.Next.{Next}
 use Rattle.fsmd.specs.Layout.{maxStates, maxRegisters, maxWires, machineWords}
 use Rattle.fsmd.specs.Machine.{toState}
-use Rattle.fsmd.specs.Table.{stateCount, registerCount, firstWireAt, wireCountAt, stateAt, validState}
+use Rattle.fsmd.specs.Table.{stateCount, machineRegisterCount, firstWireAt, wireCountAt, stateAt, validState}
 
 -- the table is whole, state k's record and wires lie in it, and its references are valid
 pub record Ready (t : List ℕ) (k : ℕ) : Type 0 where
   pub whole : machineWords ≤ length t
   pub state : k < maxStates
   pub wires : firstWireAt t k + wireCountAt t k ≤ maxWires
-  pub registers : registerCount t ≤ maxRegisters
-  pub valid : validState (registerCount t) (stateAt t k) ≡ true
+  pub registers : machineRegisterCount t ≤ maxRegisters
+  pub valid : validState (machineRegisterCount t) (stateAt t k) ≡ true
 
 -- what a cycle hands back
 abbrev pub afterCycle : List ℕ → Next → Moved

@@ -45,8 +45,8 @@ machineTableOf m =
 abbrev pub stateCount : List ℕ → ℕ
 stateCount t = getD t stateCountOffset 0
 
-abbrev pub registerCount : List ℕ → ℕ
-registerCount t = getD t registerCountOffset 0
+abbrev pub machineRegisterCount : List ℕ → ℕ
+machineRegisterCount t = getD t registerCountOffset 0
 
 -- wire i of the whole machine
 unfoldable pub wireAt : List ℕ → ℕ → Wire
@@ -66,14 +66,14 @@ stateAt t k =
     record {
       wires = map (wireAt t) (upFrom (firstWireAt t k) (wireCountAt t k));
       next = getD t (recordOffset k + nextStateOffset) 0;
-      nextRegisters = take (registerCount t) (drop (recordOffset k + nextRegistersOffset) t);
+      nextRegisters = take (machineRegisterCount t) (drop (recordOffset k + nextRegistersOffset) t);
     }
 
 unfoldable pub machineOf : List ℕ → FSMD
 unfolding stateAt
 machineOf t =
     record {
-      registers = registerCount t;
+      registers = machineRegisterCount t;
       starters = take (stateCount t) (drop startersOffset t);
       blockStates = take maxBlocks (drop blockStatesOffset t);
       states = map (stateAt t) (upFrom 0 (stateCount t));
@@ -119,7 +119,7 @@ unfoldable pub admittedMachine : List ℕ → Bool
 unfolding stateAt validState
 admittedMachine t =
     let n = stateCount t in
-    let r = registerCount t in
+    let r = machineRegisterCount t in
     leb 1 n && leb n maxStates && leb 1 r && leb r maxRegisters
     && every (within t) (upFrom 0 n)
     && every (λ k. every (λ j. apart t j k) (upFrom 0 k)) (upFrom 0 n)

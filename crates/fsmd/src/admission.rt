@@ -8,7 +8,7 @@ ghost use lib.ListN.{length, take, drop};
 ghost use Rattle.word.specs.Word.{setCode};
 ghost use Rattle.runs.specs.Lists.{upFrom, every};
 ghost use Rattle.fsmd.specs.Layout.{machineWords, maxStates, maxRegisters, maxWires};
-ghost use Rattle.fsmd.specs.Table.{registerCount, wireAt, stateAt, firstWireAt, wireCountAt, validReference, validWire, validWires, validState, within as withinOf, apart as apartOf, admittedMachine};
+ghost use Rattle.fsmd.specs.Table.{machineRegisterCount, wireAt, stateAt, firstWireAt, wireCountAt, validReference, validWire, validWires, validState, within as withinOf, apart as apartOf, admittedMachine};
 use super::MachineTable;
 use super::Wire;
 use super::table::first_wire;
@@ -111,7 +111,7 @@ fn valid_state(table: &[u32], registers: usize, k: usize) -> bool
     requires { ⌜ machineWords ≤ length (now table) ⌝ }
     requires { ⌜ k < maxStates ⌝ }
     requires { ⌜ firstWireAt (now table) k + wireCountAt (now table) k ≤ maxWires ⌝ }
-    requires { ⌜ registers ≡ registerCount (now table) ⌝ }
+    requires { ⌜ registers ≡ machineRegisterCount (now table) ⌝ }
     requires { ⌜ registers ≤ maxRegisters ⌝ }
     ensures { λ v. ⌜ v ≡ validState registers (stateAt (now (table .entry)) k) ⌝ }
 {
@@ -209,7 +209,7 @@ fn all_valid(table: &[u32], registers: usize, states: usize) -> bool
     requires { ⌜ machineWords ≤ length (now table) ⌝ }
     requires { ⌜ states ≤ maxStates ⌝ }
     requires { ⌜ every (withinOf (now table)) (upFrom 0 states) ≡ true ⌝ }
-    requires { ⌜ registers ≡ registerCount (now table) ⌝ }
+    requires { ⌜ registers ≡ machineRegisterCount (now table) ⌝ }
     requires { ⌜ registers ≤ maxRegisters ⌝ }
     ensures { λ v. ⌜ v ≡ every (λ k. validState registers (stateAt (now (table .entry)) k)) (upFrom 0 states) ⌝ }
 {

@@ -7,7 +7,7 @@ ghost use lib.ListN.{length, getD, take, drop};
 ghost use Rattle.runs.specs.Lists.{upFrom};
 ghost use Rattle.fsmd.specs.Layout.{machineWords, maxRegisters, maxWires, roomWords};
 ghost use Rattle.fsmd.specs.Machine.{wireValue, worked, clock};
-ghost use Rattle.fsmd.specs.Table.{registerCount, wireAt, stateAt, machineOf, validWires};
+ghost use Rattle.fsmd.specs.Table.{machineRegisterCount, wireAt, stateAt, machineOf, validWires};
 ghost use Rattle.fsmd.specs.Clock.{Ready, afterCycle};
 use super::MachineTable;
 use super::Wire;
@@ -53,8 +53,8 @@ fn value(words: &[u32], w: Wire, sampled: u32) -> u32
 fn work(words: &mut [u32], table: &[u32], first: usize, count: usize, sampled: u32)
     requires { ⌜ machineWords ≤ length (now table) ⌝ }
     requires { ⌜ first + count ≤ maxWires ⌝ }
-    requires { ⌜ registerCount (now table) ≤ maxRegisters ⌝ }
-    requires { ⌜ validWires (registerCount (now table)) 0 (map (wireAt (now table)) (upFrom first count)) ≡ true ⌝ }
+    requires { ⌜ machineRegisterCount (now table) ≤ maxRegisters ⌝ }
+    requires { ⌜ validWires (machineRegisterCount (now table)) 0 (map (wireAt (now table)) (upFrom first count)) ≡ true ⌝ }
     requires { ⌜ length (now words) ≡ roomWords ⌝ }
     ensures { λ _. ⌜ take (maxRegisters + count) (now (words .exit)) ≡ worked sampled (take maxRegisters (now (words .entry))) (map (wireAt (now (table .entry))) (upFrom first count)) ⌝ }
 {

@@ -3,7 +3,7 @@ ghost use mathlib.Core.Path.{_≡_};
 ghost use Prim.Native.Nat.{_+_, _<_, _≤_, _^_};
 ghost use lib.ListN.{length};
 ghost use Rattle.fsmd.specs.Layout.{machineWords, maxStates, maxWires, recordOffset};
-ghost use Rattle.fsmd.specs.Table.{stateCount, registerCount, wireAt, firstWireAt, wireCountAt};
+ghost use Rattle.fsmd.specs.Table.{stateCount, machineRegisterCount, wireAt, firstWireAt, wireCountAt};
 use super::MachineTable;
 use super::Wire;
 use buffers::word_index;
@@ -11,7 +11,7 @@ use buffers::word_index;
 // N and R.
 pub fn head_of(table: &[u32]) -> MachineTable
     requires { ⌜ machineWords ≤ length (now table) ⌝ }
-    ensures { λ r. ⌜ (r .states ≡ stateCount (now (table .entry))) × (r .registers ≡ registerCount (now (table .entry))) ⌝ }
+    ensures { λ r. ⌜ (r .states ≡ stateCount (now (table .entry))) × (r .registers ≡ machineRegisterCount (now (table .entry))) ⌝ }
 {
     MachineTable {
         states: table[MachineTable::STATE_COUNT],

@@ -14,6 +14,7 @@ use Rattle.word.specs.Word.{choose}
 use Rattle.runs.specs.Lists.{keep, only, upFrom}
 use Rattle.runs.specs.Runs.{Place, standing, halted}
 use Rattle.runs.proofs.ListLaws.{only-append}
+use Rattle.runs.proofs.Fronts.{map-same}
 use Rattle.fsmd.specs.Layout.{maxRegisters, absent}
 use Rattle.state.specs.Wires.{Edge, leadsTo, towards}
 use Rattle.state.specs.Making.{used, placeOf, edgeTo, edgeIn, edgesIn, pending, rowWords, maxEdges, Edged}
@@ -30,12 +31,6 @@ take-drop-take (suc m) k (suc n) (x ∷ l) h = take-drop-take m k n l (omega ari
 map-append : {A B : Type 0} (f : A → B) (l m : List A) → map f (l ++ m) ≡ map f l ++ map f m
 map-append f [] m = refl
 map-append {B = B} f (x ∷ l) m = ap (λ (r : List B). f x ∷ r) (map-append f l m)
-
-map-same : {B : Type 0} (f g : ℕ → B) (k n : ℕ) → ((i : ℕ) → k ≤ i → i < k + n → f i ≡ g i) → map f (upFrom k n) ≡ map g (upFrom k n)
-map-same f g k zero h = refl
-map-same {B} f g k (suc n) h =
-    ap (λ (y : B). y ∷ map f (upFrom (suc k) n)) (h k (omega arith) (omega arith))
-    ∙ ap (λ (r : List B). g k ∷ r) (map-same f g (suc k) n (λ i lo hi. h i (omega arith) (omega arith)))
 
 -- ---- an edge depends on its target and its row alone
 

@@ -44,7 +44,7 @@ module _ (g : CFG) (starters : List ℕ) (ws : Supply) (b₀ : ℕ) (rs : List �
     pub registers : graphAfter n .registers ≡ q
     pub counted : graphAfter n .arrivals < k
 
-  -- Cycle k, from 1, ends with step n: the step that makes arrival k, or halts.
+  -- n steps go with k cycles: step n makes arrival k, or halts before there is one; a halted run's n goes with every later k as well
   abbrev pub AfterCycles : ℕ → ℕ → Type 0
   AfterCycles k n = ((b : ℕ) × (q : List ℕ) × Arrival k n b q) ⊎ ((q : List ℕ) × HaltBefore k n q)
 

@@ -1,13 +1,20 @@
 -- `cfg::run::run_from` meets its contract. Assumes nothing.
-use mathlib.Core.Path.{_∙_}
+use Prim.Native.Nat.{ℕ}
+use mathlib.Core.List.{List, _++_}
+use mathlib.Core.Path.{ap, _∙_}
+use lib.ListN.{drop}
+use denote.Ref.{now}
 use borrow.Author.Needs.{needs}
+use Rattle.cfg.specs.Layout.{maxRegisters}
 use Rattle.cfg.proofs.run.run_from.Statement.{statement}
 use Rattle.cfg.proofs.run.run_from.Tie as tie
 
 returns : tie.Need-returns
 returns c =
-    let e = rw (c .before .before .before .before .before .load .ensures) at (c .before .before .before .before .run-blocks .ensures) in
-    (e .0, c .before .before .store .ensures ∙ rw (e .1))
+    let r = c .before .before .before .before in
+    let rs = now (r .before .before .before .before .before .before .before .args .registers) in
+    let e = rw (r .before .load .ensures) at (r .run-blocks .ensures) in
+    (e .0, c .before .before .store .ensures ∙ ap (λ (l : List ℕ). l ++ drop maxRegisters rs) (e .1))
 
 pub run-from-spec : {M : Type 1} → statement M
 run-from-spec =

@@ -20,7 +20,7 @@ use Rattle.capture.specs.declared.recording.Step.{Step}
 use Rattle.capture.specs.declared.recording.Step.the-variants as step
 use Rattle.capture.specs.declared.Merge.{Merge}
 use Rattle.capture.specs.Capture.{Entry, recording, faultFrom, entriesOf, Shared, shared, differs, cycleOf, judged, comparison, compareLines, compareCaptures}
-use Rattle.capture.specs.Steps.{linesFrom, start, faultAt, Within, Passed, Advanced, firstOf, noted, Ready, found, judgedAt, answerFrom, Progress}
+use Rattle.capture.specs.Steps.{linesBehind, start, faultAt, Within, Passed, Advanced, firstOf, noted, Ready, found, judgedAt, answerFrom, MergeProgress}
 use Rattle.capture.proofs.Bytes.{same-words}
 use Rattle.capture.proofs.Merging.{at-fault, first-alone, second-alone, both, none-shared}
 
@@ -41,7 +41,7 @@ found-none m =
 
 module _ (r : ℕ) (one two : List ℕ) (m : Merge) where
   abbrev Shares : List Shared → Type 0
-  Shares ss = shared (entriesOf (linesFrom r one (m .first .position))) (entriesOf (linesFrom r two (m .second .position))) ≡ ss
+  Shares ss = shared (entriesOf (linesBehind r one (m .first .position))) (entriesOf (linesBehind r two (m .second .position))) ≡ ss
 
   nothing-shared : Shares [] → answerFrom r one two m ≡ judgedAt r one two m
   unfolding answerFrom
@@ -91,10 +91,10 @@ module _ (r : ℕ) (one two : List ℕ) (m : Merge) where
         }
 
     -- the lines behind them have no fault where those from here on have none
-    first-rises : faultAt r one p ≡ fault.Nothing → faultFrom (suc c) (p .line) (linesFrom r one p) ≡ fault.Nothing
+    first-rises : faultAt r one p ≡ fault.Nothing → faultFrom (suc c) (p .line) (linesBehind r one p) ≡ fault.Nothing
     first-rises e = rw (sym (P .least)) e
 
-    second-rises : faultAt r two q ≡ fault.Nothing → faultFrom (suc d) (q .line) (linesFrom r two q) ≡ fault.Nothing
+    second-rises : faultAt r two q ≡ fault.Nothing → faultFrom (suc d) (q .line) (linesBehind r two q) ≡ fault.Nothing
     second-rises e = rw (sym (Q .least)) e
 
     first-answer : (s : Step) → c < d → answerFrom r one two m ≡ answerFrom r one two (onFirst s)
@@ -103,7 +103,7 @@ module _ (r : ℕ) (one two : List ℕ) (m : Merge) where
         rw (P .fault)
         (judged-same (faultAt r one p) (faultAt r two (m .second .position))
         (λ f g.
-        rw (P .lines, Q .lines, first-alone a b (q .line) (entriesOf (linesFrom r one p)) (linesFrom r two q) l (second-rises (sym (Q .fault) ∙ g)))))
+        rw (P .lines, Q .lines, first-alone a b (q .line) (entriesOf (linesBehind r one p)) (linesBehind r two q) l (second-rises (sym (Q .fault) ∙ g)))))
 
     second-answer : (t : Step) → d < c → answerFrom r one two m ≡ answerFrom r one two (onSecond t)
     unfolding answerFrom
@@ -111,7 +111,7 @@ module _ (r : ℕ) (one two : List ℕ) (m : Merge) where
         rw (Q .fault)
         (judged-same (faultAt r one (m .first .position)) (faultAt r two q)
         (λ f g.
-        rw (P .lines, Q .lines, second-alone a b (p .line) (linesFrom r one p) (entriesOf (linesFrom r two q)) (first-rises (sym (P .fault) ∙ f)) l)))
+        rw (P .lines, Q .lines, second-alone a b (p .line) (linesBehind r one p) (entriesOf (linesBehind r two q)) (first-rises (sym (P .fault) ∙ f)) l)))
 
     module _ (s t : Step) (bytes : Bool) (same-bytes : bytes ≡ same firstBytes secondBytes) (e : c ≡ d) where
       same-line : bytes ≡ same (P .words) (Q .words)
@@ -139,11 +139,11 @@ module _ (r : ℕ) (one two : List ℕ) (m : Merge) where
           rw (P .fault, Q .fault)
           (judged-same (faultAt r one p) (faultAt r two q)
           (λ f g.
-          rw (P .lines, Q .lines, both a b (p .line) (linesFrom r one p) (entriesOf (linesFrom r two q)) (first-rises f) e)
-          (found-more (shared (entriesOf (linesFrom r one p)) (entriesOf (linesFrom r two q))))))
+          rw (P .lines, Q .lines, both a b (p .line) (linesBehind r one p) (entriesOf (linesBehind r two q)) (first-rises f) e)
+          (found-more (shared (entriesOf (linesBehind r one p)) (entriesOf (linesBehind r two q))))))
 
     module _ (A : Ready r one two m) where
-      pub first-goes : c < d → (s : Step) → Advanced r one p s → Progress r one two m (onFirst s)
+      pub first-goes : c < d → (s : Step) → Advanced r one p s → MergeProgress r one two m (onFirst s)
       first-goes l s S =
           let few = A .few in
           let ahead = P .ahead in
@@ -154,7 +154,7 @@ module _ (r : ℕ) (one two : List ℕ) (m : Merge) where
             less = omega arith;
           }
 
-      pub second-goes : d < c → (t : Step) → Advanced r two q t → Progress r one two m (onSecond t)
+      pub second-goes : d < c → (t : Step) → Advanced r two q t → MergeProgress r one two m (onSecond t)
       second-goes l t T =
           let ahead = Q .ahead in
           let inside = Q .within .inside in
@@ -164,7 +164,7 @@ module _ (r : ℕ) (one two : List ℕ) (m : Merge) where
             less = omega arith;
           }
 
-      pub both-go : (s t : Step) (bytes : Bool) → bytes ≡ same firstBytes secondBytes → c ≡ d → Advanced r one p s → Advanced r two q t → Progress r one two m (onBoth s t bytes)
+      pub both-go : (s t : Step) (bytes : Bool) → bytes ≡ same firstBytes secondBytes → c ≡ d → Advanced r one p s → Advanced r two q t → MergeProgress r one two m (onBoth s t bytes)
       both-go s t bytes same-bytes e S T =
           let few = A .few in
           let ahead = P .ahead in

@@ -16,7 +16,7 @@ use Rattle.capture.specs.declared.Difference.{Difference}
 use Rattle.capture.specs.declared.Difference.the-variants.{Nowhere, At}
 use Rattle.capture.specs.declared.recording.Fault.{Fault}
 use Rattle.capture.specs.declared.recording.Fault.the-variants as fault
-use Rattle.capture.specs.Capture.{Entry, faultFrom, entriesOf, Shared, entryAt, joined, shared, differs, cycleOf, comparison, judged, faultOf, recording, compareLines, compareCaptures}
+use Rattle.capture.specs.Capture.{Entry, faultFrom, entriesOf, Shared, entryAt, sharedWith, shared, differs, cycleOf, comparison, judged, faultOf, recording, compareLines, compareCaptures}
 use Rattle.capture.specs.Meaning.{cycles, rising, Sound, FirstFault, Agrees, Lowest, Says, MeansOf, Means}
 use Rattle.capture.proofs.Merging.{at-fault, above, absent}
 
@@ -41,7 +41,7 @@ shared-cycles (e ∷ es) bs = by (entryAt (e .cycle) bs) (mem (e .cycle) (cycles
     by :
         (o : Option Entry) (t : Bool) → Held o t
         → map (λ s. s .cycle) (shared es bs) ≡ only (λ c. mem c (cycles bs)) (cycles es)
-        → map (λ s. s .cycle) (joined e o (shared es bs)) ≡ keep t (e .cycle) (only (λ c. mem c (cycles bs)) (cycles es))
+        → map (λ s. s .cycle) (sharedWith e o (shared es bs)) ≡ keep t (e .cycle) (only (λ c. mem c (cycles bs)) (cycles es))
     by none t h i = rw h i
     by (some b) t h i = rw h (ap (λ (l : List ℕ). e .cycle ∷ l) i)
 
@@ -93,7 +93,7 @@ module _ (bs : List Entry) where
 
       by :
           faultFrom (suc (e .cycle)) (suc n) ls ≡ fault.Nothing → (o : Option Entry) → entryAt (e .cycle) bs ≡ o → Says es bs (cycleOf later)
-          → Says (e ∷ es) bs (cycleOf (first differs (joined e o (shared es bs))))
+          → Says (e ∷ es) bs (cycleOf (first differs (sharedWith e o (shared es bs))))
       by r none q i = says-too e es (λ b p. none-some b (sym q ∙ p)) (absent (e .cycle) (suc (e .cycle)) (suc n) ls r (omega arith)) (cycleOf later) i
       by r (some b) q i = on (same (e .words) (b .words)) refl
         where

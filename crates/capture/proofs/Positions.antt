@@ -17,7 +17,7 @@ use Rattle.capture.specs.declared.recording.Scan.the-variants.{Cycle, No
 use Rattle.capture.specs.declared.recording.Position.{Position}
 use Rattle.capture.specs.declared.recording.Step.the-variants as step
 use Rattle.capture.specs.Capture.{Entry, lineEntry, lineEntries, recording, faultFrom}
-use Rattle.capture.specs.Steps.{scanned, scanAt, linesFrom, positionBehind, faultAt, Within, Passed, Advanced}
+use Rattle.capture.specs.Steps.{scanned, scanAt, linesBehind, positionBehind, faultAt, Within, Passed, Advanced}
 use Rattle.delimited.proofs.Lines.{line-open, line-feed}
 
 -- a text's first line ends with a line feed, or the text has none
@@ -86,7 +86,7 @@ module _ (r : ℕ) (text : List ℕ) (p : Position) where
       words : List ℕ
       line : lineEntry r bytes ≡ some (record { cycle = c; words = words })
       read : take (next - p .at) (drop (p .at) text) ≡ bytes ++ (10 ∷ [])
-      lines : linesFrom r text p ≡ some (record { cycle = c; words = words }) ∷ recording r (drop next text)
+      lines : linesBehind r text p ≡ some (record { cycle = c; words = words }) ∷ recording r (drop next text)
       ahead : p .at < next
       inside : next ≤ length text
 

@@ -94,14 +94,14 @@ abbrev pub entryAt : ℕ → List Entry → Option Entry
 entryAt c = first (λ e. eqb c (e .cycle))
 
 -- an entry is shared where the other recording has one of its cycle
-abbrev pub joined : Entry → Option Entry → List Shared → List Shared
-joined a none ss = ss
-joined a (some b) ss = record { cycle = a .cycle; one = a .words; two = b .words } ∷ ss
+abbrev pub sharedWith : Entry → Option Entry → List Shared → List Shared
+sharedWith a none ss = ss
+sharedWith a (some b) ss = record { cycle = a .cycle; one = a .words; two = b .words } ∷ ss
 
 -- the "cycles that both hold", in the order of the first
 unfoldable pub shared : List Entry → List Entry → List Shared
 shared [] bs = []
-shared (a ∷ es) bs = joined a (entryAt (a .cycle) bs) (shared es bs)
+shared (a ∷ es) bs = sharedWith a (entryAt (a .cycle) bs) (shared es bs)
 
 -- "state or registers differ"
 abbrev pub differs : Shared → Bool

@@ -37,11 +37,11 @@ scanAt r at s = frontLine NoForm (λ fs next. scanned (asEntry (wordsOf (suc (su
 
 -- ---- a recording, from a position on
 
-abbrev pub linesFrom : ℕ → List ℕ → Position → List (Option Entry)
-linesFrom r text p = recording r (drop (p .at) text)
+abbrev pub linesBehind : ℕ → List ℕ → Position → List (Option Entry)
+linesBehind r text p = recording r (drop (p .at) text)
 
 abbrev pub faultAt : ℕ → List ℕ → Position → Fault
-faultAt r text p = faultFrom (p .least) (p .line) (linesFrom r text p)
+faultAt r text p = faultFrom (p .least) (p .line) (linesBehind r text p)
 
 abbrev pub positionAt : ℕ → ℕ → ℕ → Position
 positionAt at line least = record { at = at; line = line; least = least }
@@ -60,7 +60,7 @@ pub record Passed (r : ℕ) (text : List ℕ) (p : Position) (c : ℕ) (q : Posi
   pub words : List ℕ
   pub line : lineEntry r bytes ≡ some (record { cycle = c; words = words })
   pub read : take (q .at - p .at) (drop (p .at) text) ≡ bytes ++ (10 ∷ [])
-  pub lines : linesFrom r text p ≡ some (record { cycle = c; words = words }) ∷ linesFrom r text q
+  pub lines : linesBehind r text p ≡ some (record { cycle = c; words = words }) ∷ linesBehind r text q
   pub fault : faultAt r text p ≡ faultAt r text q
   pub least : q .least ≡ suc c
   pub ahead : p .at < q .at
@@ -72,7 +72,7 @@ positionBehind p c n = positionAt n (p .line + 1) (c + 1)
 
 abbrev pub Advanced : ℕ → List ℕ → Position → Step → Type 0
 Advanced r text p (step.Entry c n) = Passed r text p c (positionBehind p c n)
-Advanced r text p (step.Stop fault.Nothing) = linesFrom r text p ≡ []
+Advanced r text p (step.Stop fault.Nothing) = linesBehind r text p ≡ []
 Advanced r text p (step.Stop (fault.At k n)) = faultAt r text p ≡ fault.At k n
 
 -- ---- the merge
@@ -91,7 +91,7 @@ pub record Stands (r : ℕ) (text : List ℕ) (h : Head) : Type 0 where
   pub next : Advanced r text (h .position) (h .step)
 
 -- behind the next line, which is of the cycle c and ends before n
-pub record Moved (r : ℕ) (text : List ℕ) (p : Position) (c n : ℕ) (h : Head) : Type 0 where
+pub record MovedOn (r : ℕ) (text : List ℕ) (p : Position) (c n : ℕ) (h : Head) : Type 0 where
   pub passed : Passed r text p c (h .position)
   pub ends : h .position .at ≡ n
   pub next : Advanced r text (h .position) (h .step)
@@ -115,16 +115,16 @@ unfoldable pub answerFrom : ℕ → List ℕ → List ℕ → Merge → CaptureA
 unfolding recording faultFrom shared
 answerFrom r one two m =
     judged (faultAt r one (m .first .position)) (faultAt r two (m .second .position))
-    (found m (shared (entriesOf (linesFrom r one (m .first .position))) (entriesOf (linesFrom r two (m .second .position)))))
+    (found m (shared (entriesOf (linesBehind r one (m .first .position))) (entriesOf (linesBehind r two (m .second .position)))))
 
 abbrev pub left : List ℕ → List ℕ → Merge → ℕ
 left one two m = (length one - m .first .position .at) + (length two - m .second .position .at)
 
-pub record Progress (r : ℕ) (one two : List ℕ) (m n : Merge) : Type 0 where
+pub record MergeProgress (r : ℕ) (one two : List ℕ) (m n : Merge) : Type 0 where
   pub ready : Ready r one two n
   pub answer : answerFrom r one two m ≡ answerFrom r one two n
   pub less : left one two n < left one two m
 
 abbrev pub AfterStep : ℕ → List ℕ → List ℕ → Merge → MergeStep → Type 0
-AfterStep r one two m (merged.Go n) = Progress r one two m n
+AfterStep r one two m (merged.Go n) = MergeProgress r one two m n
 AfterStep r one two m merged.Stop = answerFrom r one two m ≡ judgedAt r one two m

@@ -9,7 +9,7 @@ use recording::Step;
 ghost use mathlib.Core.Path.{_≡_};
 ghost use Rattle.runs.specs.Lists.{same};
 ghost use Rattle.capture.specs.Capture.{compareCaptures};
-ghost use Rattle.capture.specs.Steps.{positionBehind, Passed, Within, noted, Moved, Ready, AfterStep, judgedAt};
+ghost use Rattle.capture.specs.Steps.{positionBehind, Passed, Within, noted, MovedOn, Ready, AfterStep, judgedAt};
 
 pub enum Difference {
     Nowhere,
@@ -77,7 +77,7 @@ fn first_difference(found: Difference, cycle: u32, one: &[u8], two: &[u8]) -> Di
 // Behind the next line, which is of that cycle.
 fn behind(registers: u32, text: &[u8], head: Head, cycle: u32, next: usize) -> Head
     requires { ⌜ Passed registers (now text) (head .position) cycle (positionBehind (head .position) cycle next) × Within (now text) (head .position) ⌝ }
-    ensures { λ r. ⌜ Moved registers (now (text .entry)) (head .position) cycle next r ⌝ }
+    ensures { λ r. ⌜ MovedOn registers (now (text .entry)) (head .position) cycle next r ⌝ }
 {
     let p = head.position;
     let q = recording::behind(p, cycle, next);

@@ -15,13 +15,13 @@ use Rattle.grouping.specs.Bytes.{edgesIn}
 use Rattle.grouping.proofs.Reach.{Closed}
 use Rattle.grouping.proofs.GroupingLaws.{Grouped}
 use Rattle.placement.specs.Placement.{members, ready, placeNext, placedFrom, order}
-use Rattle.placement.specs.PlacementBytes.{marked, ofState, membersIn, nextIn, placeIn}
+use Rattle.placement.specs.PlacementBytes.{marked, ofState, membersIn, nextIn, placedIn}
 use Rattle.placement.proofs.PlacementLaws.{order-rounds}
 
 -- the same blocks are placed where the bytes say what the graph and its grouping say
 place-alike : (g : CFG) (s : Groups) (edges starts blocks : List ℕ) → ((n : ℕ) → edgesIn edges n ≡ successors g n)
-    → ((x : ℕ) → marked starts x ≡ mem x (s .starters)) → (n : ℕ) (placed : List ℕ) → placeIn edges starts blocks n placed ≡ placedFrom g s blocks n placed
-unfolding placeIn placedFrom
+    → ((x : ℕ) → marked starts x ≡ mem x (s .starters)) → (n : ℕ) (placed : List ℕ) → placedIn edges starts blocks n placed ≡ placedFrom g s blocks n placed
+unfolding placedIn placedFrom
 place-alike g s edges starts blocks e m zero placed = refl
 place-alike g s edges starts blocks e m (suc n) placed =
     ap (λ (f : ℕ → List ℕ). placeNext (first (nextIn edges starts blocks (λ x. mem x placed)) blocks) f) (fun-ext (λ x. place-alike g s edges starts blocks e m n (x ∷ placed)))
@@ -75,8 +75,8 @@ module _ (g : CFG) (a : Closed g) (s : Groups) (G : Grouped g s) (k : ℕ) (k-in
       omega (arith, length-upFrom 0 (length (g .blocks)))
 
   pub placed-order : (edges starts : List ℕ) → ((n : ℕ) → edgesIn edges n ≡ successors g n)
-      → ((x : ℕ) → marked starts x ≡ mem x (s .starters)) → placeIn edges starts (membersIn (s .states) k) maxBlocks [] ≡ order g s k
+      → ((x : ℕ) → marked starts x ≡ mem x (s .starters)) → placedIn edges starts (membersIn (s .states) k) maxBlocks [] ≡ order g s k
   placed-order edges starts e m =
-      ap (λ (l : List ℕ). placeIn edges starts l maxBlocks []) members-alike
+      ap (λ (l : List ℕ). placedIn edges starts l maxBlocks []) members-alike
       ∙ place-alike g s edges starts (members g s k) e m maxBlocks []
       ∙ order-rounds g a s G k k-in maxBlocks members-few

@@ -19,7 +19,7 @@ use Rattle.runs.proofs.MembershipLaws.{distinct-only, distinct-upFrom}
 use Rattle.fsmd.specs.Layout.{maxBlocks, absent}
 use Rattle.grouping.specs.Bytes.{edgesIn}
 use Rattle.placement.specs.Counts.{waiting, lowered, without, blocksOf, run}
-use Rattle.placement.specs.PlacementBytes.{marked, ofState, membersFrom, membersIn, placeIn, targetsIn, countsIn, Chosen}
+use Rattle.placement.specs.PlacementBytes.{marked, ofState, membersFrom, membersIn, placedIn, targetsIn, countsIn, Chosen}
 use Rattle.placement.proofs.CountLaws.{without-at, waits, waits-on, enough, choice, run-stops, run-on, run-places}
 use Rattle.placement.proofs.CountSteps.{zeros}
 use Rattle.placement.proofs.PlacedOrder.{only-more}
@@ -171,11 +171,11 @@ pub record PlacingIn (edges starts states : List ℕ) (k n : ℕ) (blocks counts
   pub counts-64 : length counts ≡ maxBlocks
   pub few : n ≤ maxBlocks
   pub within : count ≤ n
-  pub placing : Placing (targetsIn edges starts) (placeIn edges starts (membersIn states k) maxBlocks []) (take count blocks) (left n blocks count) counts (maxBlocks - count)
+  pub placing : Placing (targetsIn edges starts) (placedIn edges starts (membersIn states k) maxBlocks []) (take count blocks) (left n blocks count) counts (maxBlocks - count)
 
 pub placing-begins : (edges starts states : List ℕ) (k n : ℕ) (blocks counts : List ℕ) → n ≤ maxBlocks → length blocks ≡ maxBlocks → take n blocks ≡ membersIn states k → length counts ≡ maxBlocks
     → countsIn counts ≡ waits (targetsIn edges starts) (take n blocks) → PlacingIn edges starts states k n blocks counts 0
-unfolding placeIn
+unfolding placedIn
 placing-begins edges starts states k n blocks counts f b e c w = record {
   blocks-64 = b;
   counts-64 = c;
@@ -184,7 +184,7 @@ placing-begins edges starts states k n blocks counts f b e c w = record {
   placing = record {
     distinct = rw (all, e) distinct;
     exact = rw all w;
-    rest = rw (all, e) (sym (run-places (edgesIn edges) (marked starts) (membersIn states k) distinct (placeIn edges starts (membersIn states k)) (λ placed. refl) (λ n placed. refl) maxBlocks));
+    rest = rw (all, e) (sym (run-places (edgesIn edges) (marked starts) (membersIn states k) distinct (placedIn edges starts (membersIn states k)) (λ placed. refl) (λ n placed. refl) maxBlocks));
   };
 }
   where
@@ -198,10 +198,10 @@ module _ {edges starts states : List ℕ} {k n : ℕ} {blocks counts : List ℕ}
   pub left-length : length (left n blocks count) ≡ n - count
   left-length = length-take-le (n - count) (drop count blocks) (omega (arith, length-drop count blocks, p .blocks-64, p .few))
 
-  pub stops-in : first (λ x. eqb (countsIn counts x) 0) (left n blocks count) ≡ Option.none → take count blocks ≡ placeIn edges starts (membersIn states k) maxBlocks []
+  pub stops-in : first (λ x. eqb (countsIn counts x) 0) (left n blocks count) ≡ Option.none → take count blocks ≡ placedIn edges starts (membersIn states k) maxBlocks []
   stops-in = placing-stops (p .placing)
 
-  pub full-in : n ≤ count → take count blocks ≡ placeIn edges starts (membersIn states k) maxBlocks []
+  pub full-in : n ≤ count → take count blocks ≡ placedIn edges starts (membersIn states k) maxBlocks []
   full-in h = stops-in (let z : n - count ≡ 0 = omega arith in rw z refl)
 
   -- the block at i of those left is chosen, and brought to their front

@@ -38,10 +38,10 @@ abbrev pub nextIn : List ℕ → List ℕ → List ℕ → (ℕ → Bool) → �
 nextIn edges starts blocks placed x = not (placed x) && readyIn edges starts blocks placed x
 
 -- the blocks still to place, at most n
-unfoldable pub placeIn : List ℕ → List ℕ → List ℕ → ℕ → List ℕ → List ℕ
-placeIn edges starts blocks zero placed = []
-placeIn edges starts blocks (suc n) placed =
-    placeNext (first (nextIn edges starts blocks (λ x. mem x placed)) blocks) (λ x. placeIn edges starts blocks n (x ∷ placed))
+unfoldable pub placedIn : List ℕ → List ℕ → List ℕ → ℕ → List ℕ → List ℕ
+placedIn edges starts blocks zero placed = []
+placedIn edges starts blocks (suc n) placed =
+    placeNext (first (nextIn edges starts blocks (λ x. mem x placed)) blocks) (λ x. placedIn edges starts blocks n (x ∷ placed))
 
 -- ---- by counts
 

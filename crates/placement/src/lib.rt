@@ -8,7 +8,7 @@ ghost use lib.ListN.{length, getD, take, drop};
 ghost use Rattle.runs.specs.Lists.{concatMap};
 ghost use Rattle.fsmd.specs.Layout.{maxBlocks};
 ghost use Rattle.placement.specs.Counts.{waiting, lowered};
-ghost use Rattle.placement.specs.PlacementBytes.{marked, membersIn, placeIn, awaited, targetIn, targetsIn, countsIn, Chosen};
+ghost use Rattle.placement.specs.PlacementBytes.{marked, membersIn, placedIn, awaited, targetIn, targetsIn, countsIn, Chosen};
 
 // A number that no block has.
 const PAST: u8 = GraphTable::BLOCKS as u8;
@@ -130,7 +130,7 @@ fn to_front(left: &mut [u8], i: usize)
 // front, the others behind them in rising order.
 pub fn place(edges: &[u8], states: &[u8], starts: &[u8], k: u8, blocks: &mut [u8]) -> usize
     requires { ⌜ (length (now states) ≤ maxBlocks) × (k < maxBlocks) × (length (now blocks) ≡ maxBlocks) ⌝ }
-    ensures { λ r. ⌜ (r ≤ maxBlocks) × (take r (now (blocks .exit)) ≡ placeIn (now (edges .entry)) (now (starts .entry)) (membersIn (now (states .entry)) k) maxBlocks []) ⌝ }
+    ensures { λ r. ⌜ (r ≤ maxBlocks) × (take r (now (blocks .exit)) ≡ placedIn (now (edges .entry)) (now (starts .entry)) (membersIn (now (states .entry)) k) maxBlocks []) ⌝ }
 {
     let n = members(states, k, blocks);
     let mut waits = [0u8; GraphTable::BLOCKS];

@@ -19,7 +19,7 @@ use Rattle.fsmd.specs.Run.{machineRefusal, machineAnswer, machineWordsRefusal, 
 use Rattle.grouping.specs.Grouping.{groups}
 use Rattle.synthesis.specs.Synthesis.{machine, synthesisAnswer, synthesisNumber}
 use Rattle.worked_examples.specs.Graphs.{P11, Rates}
-use Rattle.worked_examples.specs.Rows.{Row, row, noMachine, readingInto, reading, refusedWith, regs, refused}
+use Rattle.worked_examples.specs.Rows.{Row, row, noMachine, readingInto, readResult, refusedWith, regs, refused}
 use Rattle.worked_examples.specs.Texts.{lines, gotoTwo}
 
 -- ---- buffers that are a word short
@@ -76,11 +76,11 @@ inside ls = lines ("graph,1,1" ∷ "block,0" ∷ ls)
 
 -- a line faulty with k there, and then one with another number: the first decides
 abbrev decides : ℕ → String → String → Bool
-decides k one two = same (reading (inside (one ∷ two ∷ []))) (k ∷ 3 ∷ [])
+decides k one two = same (readResult (inside (one ∷ two ∷ []))) (k ∷ 3 ∷ [])
 
 -- a text is refused with k at line n, and into a short table with 7
 abbrev below7 : ℕ → ℕ → List ℕ → Bool
-below7 k n text = same (reading text) (k ∷ n ∷ []) && same (readingInto shortGraph text) (7 ∷ 0 ∷ [])
+below7 k n text = same (readResult text) (k ∷ n ∷ []) && same (readingInto shortGraph text) (7 ∷ 0 ∷ [])
 
 -- ---- the other operations; each refused with a number
 
@@ -109,8 +109,8 @@ unfolding compareCaptures concatMap groups machine answered graphRefusal graphWo
 orders =
     -- reading: 1; 7; the first faulty line with 2, 3, 4 or 5
     row "read: 1 before 7" (same (readingInto shortGraph long) (1 ∷ 0 ∷ []))
-    ∷ row "read: 1 before a faulty line" (same (reading long) (1 ∷ 0 ∷ []))
-    ∷ row "read: 16,384 bytes are not too long" (same (reading (replicate 16384 10)) (2 ∷ 1 ∷ []))
+    ∷ row "read: 1 before a faulty line" (same (readResult long) (1 ∷ 0 ∷ []))
+    ∷ row "read: 16,384 bytes are not too long" (same (readResult (replicate 16384 10)) (2 ∷ 1 ∷ []))
     ∷ row "read: 7 before 2" (below7 2 1 (lines ("x" ∷ [])))
     ∷ row "read: 7 before 3" (below7 3 1 (lines ("halt" ∷ [])))
     ∷ row "read: 7 before 3, of a text that stops early" (below7 3 1 [])
@@ -129,12 +129,12 @@ orders =
     ∷ row "read: 5 before a line with 3" (decides 5 "goto,1" "block,1")
     ∷ row "read: 5 before a line with 4" (decides 5 "goto,1" "set,1,0")
     -- in one line, and without a line feed
-    ∷ row "read: 2 before 3 in a line" (same (reading (inside [] ++ bytes "block,1")) (2 ∷ 3 ∷ []))
-    ∷ row "read: 2 before 4 in a line" (same (reading (inside [] ++ bytes "set,1,0")) (2 ∷ 3 ∷ []))
-    ∷ row "read: 2 before 5 in a line" (same (reading (inside [] ++ bytes "goto,1")) (2 ∷ 3 ∷ []))
-    ∷ row "read: 3 before 4 in a line" (same (reading (lines ("graph,1,1" ∷ "set,1,0" ∷ []))) (3 ∷ 2 ∷ []))
-    ∷ row "read: 3 before 5 in a line" (same (reading (lines ("graph,1,1" ∷ "goto,1" ∷ []))) (3 ∷ 2 ∷ []))
-    ∷ row "read: 4 before 5 in a line" (same (reading (inside ("ite,eq,0,1,1,0" ∷ []))) (4 ∷ 3 ∷ []))
+    ∷ row "read: 2 before 3 in a line" (same (readResult (inside [] ++ bytes "block,1")) (2 ∷ 3 ∷ []))
+    ∷ row "read: 2 before 4 in a line" (same (readResult (inside [] ++ bytes "set,1,0")) (2 ∷ 3 ∷ []))
+    ∷ row "read: 2 before 5 in a line" (same (readResult (inside [] ++ bytes "goto,1")) (2 ∷ 3 ∷ []))
+    ∷ row "read: 3 before 4 in a line" (same (readResult (lines ("graph,1,1" ∷ "set,1,0" ∷ []))) (3 ∷ 2 ∷ []))
+    ∷ row "read: 3 before 5 in a line" (same (readResult (lines ("graph,1,1" ∷ "goto,1" ∷ []))) (3 ∷ 2 ∷ []))
+    ∷ row "read: 4 before 5 in a line" (same (readResult (inside ("ite,eq,0,1,1,0" ∷ []))) (4 ∷ 3 ∷ []))
     -- writing: 7; 6; 8 with the length needed
     ∷ row "write: 7 before 6" (writing 7 0 shortGraph (replicate 25 0))
     ∷ row "write: 7 before 8" (writing 7 0 (take 2561 loop) [])

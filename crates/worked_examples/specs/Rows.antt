@@ -32,8 +32,8 @@ abbrev pub readingInto : List ℕ → List ℕ → List ℕ
 readingInto table text = let r = readAnswer text table in readNumber r ∷ readLine r ∷ []
 
 -- and into a table of zeros
-abbrev pub reading : List ℕ → List ℕ
-reading text = readingInto noGraph text
+abbrev pub readResult : List ℕ → List ℕ
+readResult text = readingInto noGraph text
 
 -- number, outcome, count and next of a run
 abbrev pub fields : RunAnswer → List ℕ
@@ -49,16 +49,16 @@ regs a b = a ∷ b ∷ replicate 14 0
 
 -- two recordings compared: the refusal's number, recording and line; the cycles shared, whether one differs, and the first that does
 module _ (r : ℕ) (one two : List ℕ) where
-  abbrev pub compared : List ℕ
-  compared =
+  abbrev pub comparedFields : List ℕ
+  comparedFields =
       let a = compareCaptures r one two in
       refusalNumber a ∷ faultyRecording a ∷ faultyLine a ∷ sharedCount a ∷ differsFlag a ∷ differingCycle a ∷ []
 
   abbrev pub agree : ℕ → Bool
-  agree n = same compared (0 ∷ 0 ∷ 0 ∷ n ∷ 0 ∷ 0 ∷ [])
+  agree n = same comparedFields (0 ∷ 0 ∷ 0 ∷ n ∷ 0 ∷ 0 ∷ [])
 
   abbrev pub differ : ℕ → ℕ → Bool
-  differ n c = same compared (0 ∷ 0 ∷ 0 ∷ n ∷ 1 ∷ c ∷ [])
+  differ n c = same comparedFields (0 ∷ 0 ∷ 0 ∷ n ∷ 1 ∷ c ∷ [])
 
   abbrev pub refused : ℕ → ℕ → ℕ → Bool
-  refused k i n = same compared (k ∷ i ∷ n ∷ 0 ∷ 0 ∷ 0 ∷ [])
+  refused k i n = same comparedFields (k ∷ i ∷ n ∷ 0 ∷ 0 ∷ 0 ∷ [])

@@ -24,7 +24,7 @@ use Rattle.grouping.specs.Grouping.{groups}
 use Rattle.placement.specs.Counts.{lowered, Choice, BlockEdge, blocksOf, choicesOf, lowerings}
 use Rattle.synthesis.specs.Synthesis.{machine, synthesisWords}
 use Rattle.worked_examples.specs.Graphs.{P7, P9, P10, P11, P12, Figure5, Rates, Twins}
-use Rattle.worked_examples.specs.Rows.{Row, row, reading, fields, regs, agree, differ, refused}
+use Rattle.worked_examples.specs.Rows.{Row, row, readResult, fields, regs, agree, differ, refused}
 use Rattle.worked_examples.specs.Texts.{lines, gotoTwo, gotoOne, eight, nine, p7Text, p11Text, recorded, sixteen}
 use Rattle.worked_examples.specs.ThroughTables.{throughTables}
 use Rattle.worked_examples.specs.Orders.{orders}
@@ -56,11 +56,11 @@ loweredBy g k = concatMap (λ (e : BlockEdge). e .source ∷ e .way ∷ e .targe
 unfoldable pub rows : List Row
 unfolding compareCaptures recorded sixteen choicesOf lowered lowerings concatMap Twins evalOf groups machine answered registersLeft graphRefusal graphWordsRefusal graphOf runBlock machineRefusal machineWordsRefusal machineOf clock graphTableOf machineTableOf admittedGraph admittedMachine readAnswer readWords P7 P9 P10 P11 P12 Figure5 Rates gotoTwo gotoOne eight nine p7Text
 rows =
-    row "P1 the empty text: 3, line 1" (same (reading []) (3 ∷ 1 ∷ []))
-    ∷ row "P2 graph,65,1: 2, line 1" (same (reading (lines ("graph,65,1" ∷ []))) (2 ∷ 1 ∷ []))
-    ∷ row "P2 graph,64,1: 3, line 2" (same (reading (lines ("graph,64,1" ∷ []))) (3 ∷ 2 ∷ []))
-    ∷ row "P3 goto,2 with B = 2: 5" (same (reading gotoTwo) (5 ∷ 3 ∷ []))
-    ∷ row "P3 goto,1 passes" (same (reading gotoOne) (0 ∷ 0 ∷ []))
+    row "P1 the empty text: 3, line 1" (same (readResult []) (3 ∷ 1 ∷ []))
+    ∷ row "P2 graph,65,1: 2, line 1" (same (readResult (lines ("graph,65,1" ∷ []))) (2 ∷ 1 ∷ []))
+    ∷ row "P2 graph,64,1: 3, line 2" (same (readResult (lines ("graph,64,1" ∷ []))) (3 ∷ 2 ∷ []))
+    ∷ row "P3 goto,2 with B = 2: 5" (same (readResult gotoTwo) (5 ∷ 3 ∷ []))
+    ∷ row "P3 goto,1 passes" (same (readResult gotoOne) (0 ∷ 0 ∷ []))
     ∷ row "P4 sx of 32767" (eqb (evalOf 0 11 32767 0 0) 32767)
     ∷ row "P4 sx of 32768" (eqb (evalOf 0 11 32768 0 0) 4294934528)
     ∷ row "P5 -200 lt 0" (eqb (evalOf 0 14 4294967096 0 0) 1)
@@ -85,8 +85,8 @@ rows =
     ∷ row "P13 budget 0, the graph" (same (fields (graphAnswer (graphTableOf P7) (regs 12 18) 3 0)) (0 ∷ 0 ∷ 0 ∷ 3 ∷ []))
     ∷ row "P13 budget 0, the machine" (same (fields (machineAnswer (machineTableOf (machine P7)) (regs 12 18) 1 0)) (0 ∷ 0 ∷ 0 ∷ 1 ∷ []))
     -- run only
-    ∷ row "eight instructions" (same (reading eight) (0 ∷ 0 ∷ []))
-    ∷ row "a ninth instruction: 3" (same (reading nine) (3 ∷ 11 ∷ []))
+    ∷ row "eight instructions" (same (readResult eight) (0 ∷ 0 ∷ []))
+    ∷ row "a ninth instruction: 3" (same (readResult nine) (3 ∷ 11 ∷ []))
     ∷ row "P7 on 0, 5 is spent" (same (fields (graphAnswer (graphTableOf P7) (regs 0 5) 0 300)) (0 ∷ 0 ∷ 300 ∷ 3 ∷ []))
     -- known mistakes: P9 does not enter block 4 mid-state; an unreachable predecessor is no join; a wire reads the start of the cycle;
     -- an edge back to the own starter leaves the cycle
@@ -97,9 +97,9 @@ rows =
     ∷ row "figure 5 starters" (same (groups Figure5 .starters) (0 ∷ 3 ∷ 1 ∷ 5 ∷ []))
     ∷ row "figure 5 states" (same (groups Figure5 .states) (0 ∷ 2 ∷ 2 ∷ 1 ∷ 1 ∷ 3 ∷ 3 ∷ []))
     -- R-1: the text
-    ∷ row "in,0 is read" (same (reading (lines ("graph,1,1" ∷ "block,0" ∷ "in,0" ∷ "halt" ∷ []))) (0 ∷ 0 ∷ []))
-    ∷ row "in,1 with R = 1: 4" (same (reading (lines ("graph,1,1" ∷ "block,0" ∷ "in,1" ∷ "halt" ∷ []))) (4 ∷ 3 ∷ []))
-    ∷ row "in,0,0: 2" (same (reading (lines ("graph,1,1" ∷ "block,0" ∷ "in,0,0" ∷ "halt" ∷ []))) (2 ∷ 3 ∷ []))
+    ∷ row "in,0 is read" (same (readResult (lines ("graph,1,1" ∷ "block,0" ∷ "in,0" ∷ "halt" ∷ []))) (0 ∷ 0 ∷ []))
+    ∷ row "in,1 with R = 1: 4" (same (readResult (lines ("graph,1,1" ∷ "block,0" ∷ "in,1" ∷ "halt" ∷ []))) (4 ∷ 3 ∷ []))
+    ∷ row "in,0,0: 2" (same (readResult (lines ("graph,1,1" ∷ "block,0" ∷ "in,0,0" ∷ "halt" ∷ []))) (2 ∷ 3 ∷ []))
     -- R-1: runs with words
     ∷ row "in: the graph is spent before it is dry" (same (fields (graphWordsAnswer (graphTableOf Rates) (regs 0 0) 0 4 (5 ∷ 7 ∷ []) (0 ∷ []))) (0 ∷ 0 ∷ 4 ∷ 0 ∷ []))
     ∷ row "in: the graph is dry" (same (fields (graphWordsAnswer (graphTableOf Rates) (regs 0 0) 0 9 (5 ∷ 7 ∷ []) (0 ∷ []))) (0 ∷ 2 ∷ 4 ∷ 0 ∷ []))

@@ -17,7 +17,7 @@ use Rattle.fsmd.specs.Run.{machineRefusal, machineAnswer}
 use Rattle.grouping.specs.Grouping.{groups}
 use Rattle.synthesis.specs.Synthesis.{machine, synthesisAnswer, synthesisWords, synthesisNumber}
 use Rattle.worked_examples.specs.Graphs.{P9, P10, P11, P12}
-use Rattle.worked_examples.specs.Rows.{Row, row, noGraph, noMachine, reading, fields, regs}
+use Rattle.worked_examples.specs.Rows.{Row, row, noGraph, noMachine, readResult, fields, regs}
 use Rattle.worked_examples.specs.Texts.{p9Text, p10Text, p11Text, p12Text}
 
 -- the graph table that reading a text leaves, and the machine table that Synthesise leaves of it
@@ -52,7 +52,7 @@ machineRun text registers budget = fields (machineAnswer (madeFrom text) registe
 unfoldable pub throughTables : List Row
 unfolding concatMap evalOf groups machine answered graphRefusal graphOf runBlock machineRefusal machineOf clock graphTableOf machineTableOf admittedGraph admittedMachine readAnswer readWords synthesisAnswer synthesisWords P9 P10 P11 P12 p9Text p10Text p11Text p12Text
 throughTables =
-    row "P9 its text is read" (same (reading p9Text) (0 ∷ 0 ∷ []))
+    row "P9 its text is read" (same (readResult p9Text) (0 ∷ 0 ∷ []))
     ∷ row "P9 the table it leaves" (same (readFrom p9Text) (graphTableOf P9))
     ∷ row "P9 is synthesised" (eqb (synthesisNumber (synthesisAnswer (readFrom p9Text) noMachine)) 0)
     ∷ row "P9 states, starters, block states" (same (headOf (madeFrom p9Text)) (head 4 2 (0 ∷ 1 ∷ 3 ∷ 4 ∷ []) (0 ∷ 1 ∷ 0 ∷ 2 ∷ 3 ∷ [])))
@@ -62,7 +62,7 @@ throughTables =
     ∷ row "P9 on 1, 2: the state of block 4 after one" (same (machineRun p9Text (regs 1 2) 1) (0 ∷ 0 ∷ 1 ∷ 3 ∷ []))
     ∷ row "P9 on 1, 1: block 1 for ever" (same (graphRun p9Text (regs 1 1) 9) (0 ∷ 0 ∷ 9 ∷ 1 ∷ []))
     ∷ row "P9 on 1, 1: its state for ever" (same (machineRun p9Text (regs 1 1) 9) (0 ∷ 0 ∷ 9 ∷ 1 ∷ []))
-    ∷ row "P10 its text is read" (same (reading p10Text) (0 ∷ 0 ∷ []))
+    ∷ row "P10 its text is read" (same (readResult p10Text) (0 ∷ 0 ∷ []))
     ∷ row "P10 the table it leaves" (same (readFrom p10Text) (graphTableOf P10))
     ∷ row "P10 is synthesised" (eqb (synthesisNumber (synthesisAnswer (readFrom p10Text) noMachine)) 0)
     ∷ row "P10 states, starters, block states" (same (headOf (madeFrom p10Text)) (head 3 2 (0 ∷ 1 ∷ 2 ∷ []) (0 ∷ 1 ∷ 2 ∷ 1 ∷ [])))
@@ -71,13 +71,13 @@ throughTables =
     ∷ row "P10 on 1, 2: three cycles" (same (machineRun p10Text (regs 1 2) 9) (0 ∷ 1 ∷ 3 ∷ 255 ∷ []))
     ∷ row "P10 on 1, 1: blocks 1 and 2 for ever" (same (graphRun p10Text (regs 1 1) 9) (0 ∷ 0 ∷ 9 ∷ 1 ∷ []))
     ∷ row "P10 on 1, 1: their states for ever" (same (machineRun p10Text (regs 1 1) 8) (0 ∷ 0 ∷ 8 ∷ 2 ∷ []))
-    ∷ row "P11 its text is read" (same (reading p11Text) (0 ∷ 0 ∷ []))
+    ∷ row "P11 its text is read" (same (readResult p11Text) (0 ∷ 0 ∷ []))
     ∷ row "P11 the table it leaves" (same (readFrom p11Text) (graphTableOf P11))
     ∷ row "P11 is synthesised" (eqb (synthesisNumber (synthesisAnswer (readFrom p11Text) noMachine)) 0)
     ∷ row "P11 states, starters, block states" (same (headOf (madeFrom p11Text)) (head 1 1 (0 ∷ []) (0 ∷ [])))
     ∷ row "P11 wires" (same (wiresOf 2 (madeFrom p11Text)) (0 ∷ 2 ∷ 0 ∷ 0 ∷ []))
     ∷ row "P11 its words behind the block states" (same (drop recordsOffset (madeFrom p11Text)) (padded allRecordWords 0 (0 ∷ 2 ∷ 17 ∷ []) ++ padded allWireWords 0 (1 ∷ 1 ∷ 0 ∷ 0 ∷ 1 ∷ [])))
-    ∷ row "P12 its text is read" (same (reading p12Text) (0 ∷ 0 ∷ []))
+    ∷ row "P12 its text is read" (same (readResult p12Text) (0 ∷ 0 ∷ []))
     ∷ row "P12 the table it leaves" (same (readFrom p12Text) (graphTableOf P12))
     ∷ row "P12 is synthesised" (eqb (synthesisNumber (synthesisAnswer (readFrom p12Text) noMachine)) 0)
     ∷ row "P12 states, starters, block states" (same (headOf (madeFrom p12Text)) (head 1 1 (0 ∷ []) (0 ∷ 0 ∷ 255 ∷ [])))

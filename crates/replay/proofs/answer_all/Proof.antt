@@ -7,10 +7,10 @@ use Rattle.replay.proofs.answer_all.Statement.{statement}
 use Rattle.replay.proofs.answer_all.Tie as tie
 
 abbrev Inv-loop : tie.InvT-loop
-Inv-loop buffer₀ turns₀ w₀ buffer turns w = (w .from ≤ w .end) × (w .end ≤ length buffer) × (length buffer ≡ length buffer₀)
+Inv-loop buffer₀ rounds₀ w₀ buffer rounds w = (w .from ≤ w .end) × (w .end ≤ length buffer) × (length buffer ≡ length buffer₀)
 
 abbrev μ-loop : tie.MeasureT-loop
-μ-loop buffer₀ turns₀ w₀ buffer turns w = turns
+μ-loop buffer₀ rounds₀ w₀ buffer rounds w = rounds
 
 returns : tie.Need-returns Inv-loop μ-loop
 returns c = tt

@@ -15,7 +15,7 @@ use Rattle.grouping.specs.Grouping.{groups}
 use Rattle.grouping.proofs.Reach.{admitted-closed}
 use Rattle.placement.specs.Placement.{order}
 use Rattle.state.specs.Wires.{BlockBuild}
-use Rattle.placement.specs.PlacementBytes.{membersIn, placeIn}
+use Rattle.placement.specs.PlacementBytes.{membersIn, placedIn}
 use Rattle.state.specs.BlocksMaking.{stateBlocks}
 use Rattle.placement.proofs.PlacedOrder.{placed-order}
 use Rattle.synthesis.proofs.MachineTable.{its, finished, nth}
@@ -54,7 +54,7 @@ ordered c =
     let a = c .before .before .before .before .before .before .before .before .before .before .args in
     let p = c .before .before .before .before .before .before .before .before .before .before .pre in
     c .place .ensures .1
-    ∙ ap (λ (x : List ℕ). placeIn (now (a .edges)) (now (a .starts)) (membersIn x (a .k)) maxBlocks []) (p .0 .its-states)
+    ∙ ap (λ (x : List ℕ). placedIn (now (a .edges)) (now (a .starts)) (membersIn x (a .k)) maxBlocks []) (p .0 .its-states)
     ∙ placed-order (graphOf (now (a .graph))) (admitted-closed (now (a .graph)) (p .0 .admits)) (its (now (a .graph))) (finished (now (a .graph)) (p .0 .admits)) (a .k) (below (now (a .graph)) (its (now (a .graph))) (finished (now (a .graph)) (p .0 .admits)) (now (a .edges)) (now (a .starts)) (now (a .starters)) (now (a .states)) (p .0) (now (a .table)) (a .k) (a .first) (p .1 .0 .1) (p .1 .0 .0)) (now (a .edges)) (now (a .starts)) (p .0 .leading) (p .0 .starting)
 
 blocks-length : (c : tie.After-place) → c .place .result ≡ length (take (c .place .result) (c .place .last .1 .1 .1 .1 .0))

@@ -6,9 +6,9 @@ use mathlib.Core.Path.{_≡_}
 use mathlib.Core.List.{List, _++_}
 use lib.ListN.{take, drop}
 use lib.Dec.{eqb, ltb}
-use Rattle.word.specs.Word.{choose}
+use Rattle.word.specs.Word.{choose, truth}
 use Rattle.word.specs.RegisterFile.{fileWords}
-use Rattle.runs.specs.Runs.{Place, standing, halted, noPlace, Configuration, startAt, Supply, Runner, times, stepsRun, answer, registersAfter, runNumber, runOutcome, runCount, runNext}
+use Rattle.runs.specs.Runs.{Place, standing, halted, noPlace, Configuration, startAt, Supply, Runner, times, stepsRun, answer, registersAfter, runNumber, runOutcome, runCount, runNext, runFlag}
 use Rattle.runs.specs.declared.RunAnswer.{RunAnswer}
 use Rattle.runs.specs.declared.RunAnswer.the-variants.{Refused}
 
@@ -24,7 +24,7 @@ unfolding registersAfter
 registersLeft n r ws buffer start budget =
     choose (eqb n 0) (registersAfter r ws budget (startAt start (take fileWords buffer)) ++ drop fileWords buffer) buffer
 
--- ---- paper 01's fields of the answer, from the run itself
+-- ---- the papers' fields of the answer, from the run itself
 
 -- the block or state stood at, 255 where the run has halted
 abbrev pub nextAt : Place → ℕ
@@ -40,7 +40,8 @@ outcomeAt (standing n) false = 0
 -- of an operation that is refused with number n, or runs from c where n is 0
 pub record RunValues (n : ℕ) (r : Runner) (ws : Supply) (budget : ℕ) (c : Configuration) (a : RunAnswer) : Type 0 where
   pub number : runNumber a ≡ n
-  pub refused : n ≢ 0 → (runOutcome a ≡ 0) × (runCount a ≡ 0) × (runNext a ≡ 0)
+  pub refused : n ≢ 0 → (runOutcome a ≡ 0) × (runCount a ≡ 0) × (runNext a ≡ 0) × (runFlag a ≡ 0)
   pub outcome : n ≡ 0 → runOutcome a ≡ outcomeAt (times r ws budget c .place) (ltb (stepsRun r ws budget c) budget)
   pub count : n ≡ 0 → runCount a ≡ stepsRun r ws budget c
   pub next : n ≡ 0 → runNext a ≡ nextAt (times r ws budget c .place)
+  pub flag : n ≡ 0 → runFlag a ≡ truth (times r ws budget c .contents .flag)

@@ -1,10 +1,10 @@
--- Runs ("Runs" of paper 01, R-1 of paper 02), for graphs and machines alike. Assumes nothing.
+-- Runs ("Runs" of paper 01, R-1 and R-2 of paper 02), for graphs and machines alike. Assumes nothing.
 use Prim.Native.Nat.{ℕ, zero, suc}
-use mathlib.Core.Bool.{Bool, true, false}
+use mathlib.Core.Bool.{Bool, true, false, _||_}
 use mathlib.Core.List.{List}
 use lib.Dec.{ltb}
 use lib.ListN.{length, getD}
-use Rattle.word.specs.Word.{choose}
+use Rattle.word.specs.Word.{choose, truth}
 use Rattle.runs.specs.declared.RunAnswer.{RunAnswer}
 use Rattle.runs.specs.declared.RunAnswer.the-variants.{Refused, Halted, Spent, Dry}
 
@@ -21,18 +21,23 @@ pub data Place : Type 0 where
   standing : ℕ → Place
   halted : Place
 
+-- the registers, and the flag: whether a sum has gone over
+pub record Contents : Type 0 where
+  pub registers : List ℕ
+  pub flag : Bool
+
 pub record Configuration : Type 0 where
   pub place : Place
-  pub registers : List ℕ
+  pub contents : Contents
   -- the number of the last arrival; the start is arrival 0
   pub arrivals : ℕ
 
-abbrev pub standsAt : ℕ → ℕ → List ℕ → Configuration
-standsAt k n rs = record { place = standing n; registers = rs; arrivals = k }
+abbrev pub standsAt : ℕ → ℕ → Contents → Configuration
+standsAt k n x = record { place = standing n; contents = x; arrivals = k }
 
--- a run's start
+-- a run's start, with the flag clear
 abbrev pub startAt : ℕ → List ℕ → Configuration
-startAt n rs = standsAt 0 n rs
+startAt n rs = standsAt 0 n (record { registers = rs; flag = false })
 
 -- ---- the words of a run
 
@@ -55,10 +60,11 @@ unread = record { word = λ k. 0; lasts = λ k. true }
 
 -- ---- what runs: a graph with its starters, or a machine
 
--- where a block or a cycle leads, and the registers then
+-- where a block or a cycle leads, the registers then, and whether a sum of it goes over
 pub record Moved : Type 0 where
   pub place : Place
   pub registers : List ℕ
+  pub over : Bool
 
 pub record Runner : Type 0 where
   -- what one block or cycle does, from the sampled word, the block or state, and the registers
@@ -79,14 +85,24 @@ abbrev pub arrivalsAt : (ℕ → Bool) → Place → ℕ → ℕ
 arrivalsAt arrives (standing n) k = choose (arrives n) (suc k) k
 arrivalsAt arrives halted k = k
 
-abbrev pub moved : (ℕ → Bool) → ℕ → Moved → Configuration
-moved arrives k m = record { place = m .place; registers = m .registers; arrivals = arrivalsAt arrives (m .place) k }
+-- what is then in the registers, and the flag, which stays set once it is raised
+abbrev pub contentsAfter : Bool → Moved → Contents
+contentsAfter flag m = record { registers = m .registers; flag = flag || m .over }
 
--- halted, or with budget left dry, or spent: with the next block or state
-abbrev pub outcome : Place → Bool → ℕ → RunAnswer
-outcome halted left count = Halted count
-outcome (standing n) true count = Dry count n
-outcome (standing n) false count = Spent count n
+-- a configuration after a move
+abbrev pub moved : (ℕ → Bool) → Configuration → Moved → Configuration
+moved arrives c m =
+    record {
+      place = m .place;
+      contents = contentsAfter (c .contents .flag) m;
+      arrivals = arrivalsAt arrives (m .place) (c .arrivals);
+    }
+
+-- halted, or with budget left dry, or spent: with the count, the next block or state, and the flag
+abbrev pub outcome : Place → Bool → ℕ → Bool → RunAnswer
+outcome halted left count flag = Halted count flag
+outcome (standing n) true count flag = Dry count n flag
+outcome (standing n) false count flag = Spent count n flag
 
 -- it goes on: it has not halted and is not dry
 abbrev pub goes : Supply → Configuration → Bool
@@ -95,7 +111,7 @@ goes ws c = onward (c .place) (ws .lasts (c .arrivals)) false (λ n. true)
 module _ (r : Runner) (ws : Supply) where
   -- one step; a configuration that has halted or is dry stays
   unfoldable pub step : Configuration → Configuration
-  step c = onward (c .place) (ws .lasts (c .arrivals)) c (λ n. moved (r .arrives) (c .arrivals) (r .unit (ws .word (c .arrivals)) n (c .registers)))
+  step c = onward (c .place) (ws .lasts (c .arrivals)) c (λ n. moved (r .arrives) c (r .unit (ws .word (c .arrivals)) n (c .contents .registers)))
 
   unfoldable pub times : ℕ → Configuration → Configuration
   unfolding step
@@ -111,33 +127,42 @@ module _ (r : Runner) (ws : Supply) where
   -- the answer of a run with a budget, and the registers that it leaves
   unfoldable pub answer : ℕ → Configuration → RunAnswer
   unfolding times stepsRun
-  answer budget c = let count = stepsRun budget c in outcome (times budget c .place) (ltb count budget) count
+  answer budget c =
+      let count = stepsRun budget c in
+      let end = times budget c in
+      outcome (end .place) (ltb count budget) count (end .contents .flag)
 
   unfoldable pub registersAfter : ℕ → Configuration → List ℕ
   unfolding times
-  registersAfter budget c = times budget c .registers
+  registersAfter budget c = times budget c .contents .registers
 
--- paper 01's fields of an answer: the refusal's number, the outcome (0 spent, 1 halted, 2 dry), the count, what is next
+-- the papers' fields of an answer: the refusal's number, the outcome (0 spent, 1 halted, 2 dry), the count, what is next, the flag (1 raised, 0 clear)
 abbrev pub runNumber : RunAnswer → ℕ
 runNumber (Refused n) = n
-runNumber (Halted k) = 0
-runNumber (Spent k n) = 0
-runNumber (Dry k n) = 0
+runNumber (Halted k f) = 0
+runNumber (Spent k n f) = 0
+runNumber (Dry k n f) = 0
 
 abbrev pub runOutcome : RunAnswer → ℕ
 runOutcome (Refused n) = 0
-runOutcome (Halted k) = 1
-runOutcome (Spent k n) = 0
-runOutcome (Dry k n) = 2
+runOutcome (Halted k f) = 1
+runOutcome (Spent k n f) = 0
+runOutcome (Dry k n f) = 2
 
 abbrev pub runCount : RunAnswer → ℕ
 runCount (Refused n) = 0
-runCount (Halted k) = k
-runCount (Spent k n) = k
-runCount (Dry k n) = k
+runCount (Halted k f) = k
+runCount (Spent k n f) = k
+runCount (Dry k n f) = k
 
 abbrev pub runNext : RunAnswer → ℕ
 runNext (Refused n) = 0
-runNext (Halted k) = noPlace
-runNext (Spent k n) = n
-runNext (Dry k n) = n
+runNext (Halted k f) = noPlace
+runNext (Spent k n f) = n
+runNext (Dry k n f) = n
+
+abbrev pub runFlag : RunAnswer → ℕ
+runFlag (Refused n) = 0
+runFlag (Halted k f) = truth f
+runFlag (Spent k n f) = truth f
+runFlag (Dry k n f) = truth f

@@ -12,12 +12,12 @@ ghost use Rattle.word.specs.RegisterFile.{fileWords};
 pub enum RunAnswer {
     // The refusal's number.
     Refused(u32),
-    // The blocks or cycles run, the halting one included.
-    Halted(u32),
-    // The blocks or cycles run, and the block or state that comes next.
-    Spent(u32, u32),
+    // The blocks or cycles run, the halting one included, and whether a sum went over.
+    Halted(u32, bool),
+    // The blocks or cycles run, the block or state that comes next, and whether a sum went over.
+    Spent(u32, u32, bool),
     // The same, where budget is left and the words are used up.
-    Dry(u32, u32),
+    Dry(u32, u32, bool),
 }
 
 impl RunAnswer {

@@ -1,7 +1,7 @@
 -- What each code gives. A word is a natural number below 2 ^ 32; codes and terms are those of the scope paper, in its order. Assumes nothing.
 use Prim.Native.Nat.{ℕ, suc, _+_, _-_, _*_, _/_, _%_, _^_}
-use mathlib.Core.Bool.{Bool, true, false, not}
-use lib.IntN.{ℤ, pos, negsuc}
+use mathlib.Core.Bool.{Bool, true, false, not, _||_}
+use lib.IntN.{ℤ, pos, negsuc, _+ℤ_, _-ℤ_}
 use lib.Signed.{ltZ, leZ, shrZ}
 use mathlib.Core.List.{List, [], _∷_}
 use lib.ListN.{getD}
@@ -95,6 +95,12 @@ andNotOf a b = bitAnd a (2 ^ 32 - 1 - b)
 abbrev pub setCode : ℕ
 setCode = 1
 
+abbrev pub addCode : ℕ
+addCode = 3
+
+abbrev pub subCode : ℕ
+subCode = 4
+
 abbrev pub andCode : ℕ
 andCode = 5
 
@@ -160,6 +166,21 @@ results sampled a b c =
 -- what a code gives; 0 at a code that is none
 unfoldable pub evalOf : ℕ → ℕ → ℕ → ℕ → ℕ → ℕ
 evalOf sampled code a b c = getD (results sampled a b c) code 0
+
+-- ---- sums that go over
+
+-- a whole number that 32 bits do not hold as signed: they hold -2 ^ 31 to 2 ^ 31 - 1
+abbrev pub outside : ℤ → Bool
+outside z = ltZ z (negsuc (2 ^ 31 - 1)) || ltZ (pos (2 ^ 31 - 1)) z
+
+-- whether the signed result of a code leaves that range, by code from 0: add and sub can, the codes after them do not
+abbrev pub overs : ℕ → ℕ → List Bool
+overs a b = false ∷ false ∷ false ∷ outside (signedOf a +ℤ signedOf b) ∷ outside (signedOf a -ℤ signedOf b) ∷ []
+
+unfoldable pub overOf : ℕ → ℕ → ℕ → Bool
+overOf code a b = getD (overs a b) code false
+
+-- ---- what they read
 
 -- how many of a, b and c each code reads, from code 0
 abbrev pub arities : List ℕ

@@ -35,19 +35,19 @@ module _ (n : ℕ) (r : Runner) (ws : Supply) (Fits : Place → Type 0)
     (unit : (w x : ℕ) (rs : List ℕ) → Fits (standing x) → n ≤ length rs → Keeps n Fits rs (r .unit w x rs)) where
   record Reaches (c d : Configuration) : Type 0 where
     fits : Fits (d .place)
-    kept : Kept n (c .registers) (d .registers)
+    kept : Kept n (c .contents .registers) (d .contents .registers)
 
-  step-keeps : (c : Configuration) → Fits (c .place) → n ≤ length (c .registers) → Reaches c (step r ws c)
+  step-keeps : (c : Configuration) → Fits (c .place) → n ≤ length (c .contents .registers) → Reaches c (step r ws c)
   step-keeps c f l = go (goes ws c) refl
     where
       go : (b : Bool) → goes ws c ≡ b → Reaches c (step r ws c)
       go true e =
           let x = going-stands ws c e in
-          let k = unit (ws .word (c .arrivals)) (x .0) (c .registers) (rw (x .1) at f) l in
+          let k = unit (ws .word (c .arrivals)) (x .0) (c .contents .registers) (rw (x .1) at f) l in
           rw (step-going r ws c (x .0) (x .1) (going-lasts ws c e)) (record { fits = k .fits; kept = k .kept })
       go false e = rw (step-ended r ws c e) (record { fits = f; kept = record { long = refl; above = refl } })
 
-  times-keep : (k : ℕ) (c : Configuration) → Fits (c .place) → n ≤ length (c .registers) → Kept n (c .registers) (times r ws k c .registers)
+  times-keep : (k : ℕ) (c : Configuration) → Fits (c .place) → n ≤ length (c .contents .registers) → Kept n (c .contents .registers) (times r ws k c .contents .registers)
   times-keep zero c f l = rw (times-zero r ws c) (record { long = refl; above = refl })
   times-keep (suc k) c f l =
       let s = step-keeps c f l in

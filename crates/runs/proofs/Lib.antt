@@ -3,6 +3,7 @@ pub mod Sets
 pub mod ListLaws
 pub mod MembershipLaws
 pub mod RunLaws
+pub mod FlagLaws
 pub mod Every
 pub mod SupplyLaws
 pub mod OperationLaws

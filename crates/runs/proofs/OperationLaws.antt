@@ -7,11 +7,13 @@ use mathlib.Core.Path.{_≡_, refl, sym, ap, _∙_}
 use lib.ListN.{take, drop}
 use lib.Dec.{ltb}
 use borrow.Author.Tests.{ne-eqb}
+use Rattle.word.specs.Word.{truth}
 use Rattle.word.specs.RegisterFile.{fileWords}
-use Rattle.runs.specs.Runs.{Place, standing, halted, Configuration, startAt, Supply, Runner, times, stepsRun, outcome, answer, registersAfter, runNumber, runOutcome, runCount, runNext}
+use Rattle.runs.specs.Runs.{Place, standing, halted, Configuration, startAt, Supply, Runner, times, stepsRun, outcome, answer, registersAfter, runNumber, runOutcome, runCount, runNext, runFlag}
 use Rattle.runs.specs.Operations.{answered, registersLeft, nextAt, outcomeAt, RunValues}
 use Rattle.runs.specs.declared.RunAnswer.{RunAnswer}
 use Rattle.runs.specs.declared.RunAnswer.the-variants.{Refused}
+use Rattle.runs.proofs.FlagLaws.{flag-exactly, truth-one}
 use Rattle.runs.proofs.SupplyLaws.{Alike, answer-alike, registers-alike}
 
 module _ (r : Runner) (ws : Supply) (buffer : List ℕ) (start budget : ℕ) (n : ℕ) where
@@ -52,38 +54,46 @@ module _ (r : Runner) (ws : Supply) (buffer : List ℕ) (start budget : ℕ) (n 
 
 -- ---- the fields of an answer
 
-pub record OutcomeValues (p : Place) (left : Bool) (count : ℕ) (a : RunAnswer) : Type 0 where
+pub record OutcomeValues (p : Place) (left : Bool) (count : ℕ) (flag : Bool) (a : RunAnswer) : Type 0 where
   pub number : runNumber a ≡ 0
   pub ended : runOutcome a ≡ outcomeAt p left
   pub counted : runCount a ≡ count
   pub following : runNext a ≡ nextAt p
+  pub raised : runFlag a ≡ truth flag
 
-outcome-values : (p : Place) (left : Bool) (count : ℕ) → OutcomeValues p left count (outcome p left count)
-outcome-values halted left count = record { number = refl; ended = refl; counted = refl; following = refl }
-outcome-values (standing n) true count = record { number = refl; ended = refl; counted = refl; following = refl }
-outcome-values (standing n) false count = record { number = refl; ended = refl; counted = refl; following = refl }
+outcome-values : (p : Place) (left : Bool) (count : ℕ) (flag : Bool) → OutcomeValues p left count flag (outcome p left count flag)
+outcome-values halted left count flag = record { number = refl; ended = refl; counted = refl; following = refl; raised = refl }
+outcome-values (standing n) true count flag = record { number = refl; ended = refl; counted = refl; following = refl; raised = refl }
+outcome-values (standing n) false count flag = record { number = refl; ended = refl; counted = refl; following = refl; raised = refl }
 
 module _ (r : Runner) (ws : Supply) (budget : ℕ) (c : Configuration) where
   answer-values : RunValues 0 r ws budget c (answer r ws budget c)
   unfolding answer
   answer-values =
-      let v = outcome-values (times r ws budget c .place) (ltb (stepsRun r ws budget c) budget) (stepsRun r ws budget c) in
+      let end = times r ws budget c in
+      let v = outcome-values (end .place) (ltb (stepsRun r ws budget c) budget) (stepsRun r ws budget c) (end .contents .flag) in
       record {
         number = v .number;
         refused = λ f. absurd (f refl);
         outcome = λ e. v .ended;
         count = λ e. v .counted;
         next = λ e. v .following;
+        flag = λ e. v .raised;
+        raised = λ e h.
+            let x = flag-exactly r ws budget c h in
+            (λ f. x .0 (truth-one (end .contents .flag) (sym (v .raised) ∙ f)), λ s. v .raised ∙ ap truth (x .1 s));
       }
 
   refused-values : (m : ℕ) → RunValues (suc m) r ws budget c (Refused (suc m))
   refused-values m =
       record {
         number = refl;
-        refused = λ f. (refl, refl, refl);
+        refused = λ f. (refl, refl, refl, refl);
         outcome = λ e. absurd (omega arith);
         count = λ e. absurd (omega arith);
         next = λ e. absurd (omega arith);
+        flag = λ e. absurd (omega arith);
+        raised = λ e h. absurd (omega arith);
       }
 
 pub operation-values : (r : Runner) (ws : Supply) (buffer : List ℕ) (start budget n : ℕ)

@@ -8,7 +8,7 @@ use lib.Dec.{ltb}
 use borrow.Author.Tests.{lt-ltb, le-ltb}
 use Rattle.word.specs.Word.{choose}
 use Rattle.runs.specs.declared.RunAnswer.the-variants.{Halted, Spent, Dry}
-use Rattle.runs.specs.Runs.{Place, standing, halted, Configuration, standsAt, Supply, Moved, Runner, onward, arrivalsAt, moved, outcome, goes, step, times, stepsRun, answer, registersAfter}
+use Rattle.runs.specs.Runs.{Place, standing, halted, Contents, Configuration, standsAt, Supply, Moved, Runner, onward, arrivalsAt, contentsAfter, moved, outcome, goes, step, times, stepsRun, answer, registersAfter}
 
 pub never-both : (p : Place) (n : ℕ) → p ≡ standing n → p ≡ halted → ⊥
 never-both p n h k =
@@ -22,7 +22,7 @@ false-true h k =
 
 -- ---- where a run goes on, and where not
 
-ended-is : {X : Type 0} (p : Place) (w : Bool) (x : X) (f : ℕ → X) → onward p w false (λ n. true) ≡ false → onward p w x f ≡ x
+pub ended-is : {X : Type 0} (p : Place) (w : Bool) (x : X) (f : ℕ → X) → onward p w false (λ n. true) ≡ false → onward p w x f ≡ x
 ended-is (standing n) true x f h = absurd (false-true h refl)
 ended-is (standing n) false x f h = refl
 ended-is halted w x f h = refl
@@ -35,8 +35,14 @@ going-is halted w h = absurd (false-true refl h)
 pub place-of : {c d : Configuration} → c ≡ d → c .place ≡ d .place
 place-of e = ap (λ (c : Configuration). c .place) e
 
-pub registers-of : {c d : Configuration} → c ≡ d → c .registers ≡ d .registers
-registers-of e = ap (λ (c : Configuration). c .registers) e
+pub contents-of : {c d : Configuration} → c ≡ d → c .contents ≡ d .contents
+contents-of e = ap (λ (c : Configuration). c .contents) e
+
+pub flag-of : {c d : Configuration} → c ≡ d → c .contents .flag ≡ d .contents .flag
+flag-of e = ap (λ (c : Configuration). c .contents .flag) e
+
+pub registers-of : {c d : Configuration} → c ≡ d → c .contents .registers ≡ d .contents .registers
+registers-of e = ap (λ (c : Configuration). c .contents .registers) e
 
 pub arrivals-of : {c d : Configuration} → c ≡ d → c .arrivals ≡ d .arrivals
 arrivals-of e = ap (λ (c : Configuration). c .arrivals) e
@@ -68,11 +74,13 @@ module _ (ws : Supply) (c : Configuration) where
 
 -- ---- moves
 
-pub moved-to : (arrives : ℕ → Bool) (k : ℕ) (m : Moved) (x : ℕ) (b : Bool) → m .place ≡ standing x → arrives x ≡ b
-    → moved arrives k m ≡ standsAt (choose b (suc k) k) x (m .registers)
-moved-to arrives k m x b h e =
-    ap (λ (p : Place). record { place = p; registers = m .registers; arrivals = arrivalsAt arrives p k }) h
-    ∙ ap (λ (b : Bool). standsAt (choose b (suc k) k) x (m .registers)) e
+pub moved-to : (arrives : ℕ → Bool) (c : Configuration) (m : Moved) (x : ℕ) (b : Bool) → m .place ≡ standing x → arrives x ≡ b
+    → moved arrives c m ≡ standsAt (choose b (suc (c .arrivals)) (c .arrivals)) x (contentsAfter (c .contents .flag) m)
+moved-to arrives c m x b h e =
+    let k = c .arrivals in
+    let y = contentsAfter (c .contents .flag) m in
+    ap (λ (p : Place). record { place = p; contents = y; arrivals = arrivalsAt arrives p k }) h
+    ∙ ap (λ (b : Bool). standsAt (choose b (suc k) k) x y) e
 
 -- a move loses no arrival
 arrivals-kept : (arrives : ℕ → Bool) (p : Place) (k : ℕ) → k ≤ arrivalsAt arrives p k
@@ -87,14 +95,14 @@ module _ (r : Runner) (ws : Supply) where
   -- ---- one step unrolled
 
   pub step-going : (c : Configuration) (n : ℕ) → c .place ≡ standing n → ws .lasts (c .arrivals) ≡ true
-      → step r ws c ≡ moved (r .arrives) (c .arrivals) (r .unit (ws .word (c .arrivals)) n (c .registers))
+      → step r ws c ≡ moved (r .arrives) c (r .unit (ws .word (c .arrivals)) n (c .contents .registers))
   unfolding step
   step-going c n h k = rw (h, k)
 
   pub step-ended : (c : Configuration) → goes ws c ≡ false → step r ws c ≡ c
   unfolding step
   step-ended c h =
-      ended-is (c .place) (ws .lasts (c .arrivals)) c (λ n. moved (r .arrives) (c .arrivals) (r .unit (ws .word (c .arrivals)) n (c .registers))) h
+      ended-is (c .place) (ws .lasts (c .arrivals)) c (λ n. moved (r .arrives) c (r .unit (ws .word (c .arrivals)) n (c .contents .registers))) h
 
   pub times-zero : (c : Configuration) → times r ws 0 c ≡ c
   unfolding times
@@ -205,7 +213,7 @@ module _ (r : Runner) (ws : Supply) where
       go true e = absurd (omega (arith, stepsRun-all k c e))
       go false e = e
 
-  pub answer-is : (k : ℕ) (c : Configuration) → answer r ws k c ≡ outcome (times r ws k c .place) (ltb (stepsRun r ws k c) k) (stepsRun r ws k c)
+  pub answer-is : (k : ℕ) (c : Configuration) → answer r ws k c ≡ outcome (times r ws k c .place) (ltb (stepsRun r ws k c) k) (stepsRun r ws k c) (times r ws k c .contents .flag)
   unfolding answer
   answer-is k c = refl
 
@@ -218,7 +226,7 @@ module _ (r : Runner) (ws : Supply) where
       go true e =
           let n = going-stands ws c e in
           rw (step-going c (n .0) (n .1) (going-lasts ws c e))
-          (arrivals-kept (r .arrives) (r .unit (ws .word (c .arrivals)) (n .0) (c .registers) .place) (c .arrivals))
+          (arrivals-kept (r .arrives) (r .unit (ws .word (c .arrivals)) (n .0) (c .contents .registers) .place) (c .arrivals))
       go false e = rw (step-ended c e) (omega arith)
 
   pub times-arrivals : (k : ℕ) (c : Configuration) → c .arrivals ≤ times r ws k c .arrivals
@@ -230,9 +238,9 @@ module _ (r : Runner) (ws : Supply) (each : (n : ℕ) → r .arrives n ≡ true)
   step-arrives : (c : Configuration) (b : ℕ) → goes ws c ≡ true → step r ws c .place ≡ standing b → step r ws c .arrivals ≡ suc (c .arrivals)
   step-arrives c b e d =
       let x = going-stands ws c e in
-      let u = r .unit (ws .word (c .arrivals)) (x .0) (c .registers) in
+      let u = r .unit (ws .word (c .arrivals)) (x .0) (c .contents .registers) in
       let s = step-going r ws c (x .0) (x .1) (going-lasts ws c e) in
-      arrivals-of (s ∙ moved-to (r .arrives) (c .arrivals) u b true (sym (place-of s) ∙ d) (each b))
+      arrivals-of (s ∙ moved-to (r .arrives) c u b true (sym (place-of s) ∙ d) (each b))
 
   pub arrivals-run : (k : ℕ) (c : Configuration) (n : ℕ) → times r ws k c .place ≡ standing n → times r ws k c .arrivals ≡ c .arrivals + stepsRun r ws k c
   arrivals-run zero c n h = rw (times-zero r ws c, stepsRun-zero r ws c) (omega arith)
@@ -285,14 +293,14 @@ module _ (r : Runner) (ws : Supply) (budget : ℕ) (c₀ : Configuration) where
     pub at-end : budget ≤ count → times r ws budget c₀ ≡ c
     at-end k = let e : budget - count ≡ 0 = omega arith in reached .rest ∙ rw e (times-zero r ws c)
 
-    pub reached-spent : (n : ℕ) → c .place ≡ standing n → budget ≤ count → answer r ws budget c₀ ≡ Spent count n
+    pub reached-spent : (n : ℕ) → c .place ≡ standing n → budget ≤ count → answer r ws budget c₀ ≡ Spent count n (c .contents .flag)
     unfolding answer
     reached-spent n h k =
         let e : budget - count ≡ 0 = omega arith in
         let m : stepsRun r ws budget c₀ ≡ count = reached .counted ∙ rw (e, stepsRun-zero) (omega arith) in
         rw (at-end k, m, h, le-ltb count budget k)
 
-    pub registers-spent : budget ≤ count → registersAfter r ws budget c₀ ≡ c .registers
+    pub registers-spent : budget ≤ count → registersAfter r ws budget c₀ ≡ c .contents .registers
     unfolding registersAfter
     registers-spent k = registers-of (at-end k)
 
@@ -304,14 +312,14 @@ module _ (r : Runner) (ws : Supply) (budget : ℕ) (c₀ : Configuration) where
       counted-ended : stepsRun r ws budget c₀ ≡ count
       counted-ended = reached .counted ∙ rw (stepsRun-ended r ws (budget - count) c ended) (omega arith)
 
-      pub reached-halted : c .place ≡ halted → answer r ws budget c₀ ≡ Halted count
+      pub reached-halted : c .place ≡ halted → answer r ws budget c₀ ≡ Halted count (c .contents .flag)
       unfolding answer
       reached-halted h = rw (at-ended, counted-ended, h)
 
-      pub reached-dry : (n : ℕ) → c .place ≡ standing n → count < budget → answer r ws budget c₀ ≡ Dry count n
+      pub reached-dry : (n : ℕ) → c .place ≡ standing n → count < budget → answer r ws budget c₀ ≡ Dry count n (c .contents .flag)
       unfolding answer
       reached-dry n h k = rw (at-ended, counted-ended, h, lt-ltb count budget k)
 
-      pub registers-ended : registersAfter r ws budget c₀ ≡ c .registers
+      pub registers-ended : registersAfter r ws budget c₀ ≡ c .contents .registers
       unfolding registersAfter
       registers-ended = registers-of at-ended

@@ -33,7 +33,7 @@ module _ (r : Runner) (a b : Supply) where
       go true e =
           let n = going-stands a c e in
           rw (step-going r a c (n .0) (n .1) (going-lasts a c e))
-          (arrivals-next (r .arrives) (r .unit (a .word (c .arrivals)) (n .0) (c .registers) .place) (c .arrivals))
+          (arrivals-next (r .arrives) (r .unit (a .word (c .arrivals)) (n .0) (c .contents .registers) .place) (c .arrivals))
       go false e = rw (step-ended r a c e) (omega arith)
 
   module _ (n : ℕ) (alike : Alike n a b) where

@@ -1,14 +1,14 @@
 -- An operation that runs a graph or a machine on a register buffer: its answer, and the words that it leaves there. Assumes nothing.
 use Prim.Native.Nat.{ℕ}
 use mathlib.Core.Bool.{Bool, true, false}
-use mathlib.Core.Logic.{_≢_}
+use mathlib.Core.Logic.{_≢_, _↔_}
 use mathlib.Core.Path.{_≡_}
 use mathlib.Core.List.{List, _++_}
 use lib.ListN.{take, drop}
 use lib.Dec.{eqb, ltb}
 use Rattle.word.specs.Word.{choose, truth}
 use Rattle.word.specs.RegisterFile.{fileWords}
-use Rattle.runs.specs.Runs.{Place, standing, halted, noPlace, Configuration, startAt, Supply, Runner, times, stepsRun, answer, registersAfter, runNumber, runOutcome, runCount, runNext, runFlag}
+use Rattle.runs.specs.Runs.{Place, standing, halted, noPlace, Configuration, startAt, Supply, Runner, times, stepsRun, SomeOver, answer, registersAfter, runNumber, runOutcome, runCount, runNext, runFlag}
 use Rattle.runs.specs.declared.RunAnswer.{RunAnswer}
 use Rattle.runs.specs.declared.RunAnswer.the-variants.{Refused}
 
@@ -45,3 +45,5 @@ pub record RunValues (n : ℕ) (r : Runner) (ws : Supply) (budget : ℕ) (c : Co
   pub count : n ≡ 0 → runCount a ≡ stepsRun r ws budget c
   pub next : n ≡ 0 → runNext a ≡ nextAt (times r ws budget c .place)
   pub flag : n ≡ 0 → runFlag a ≡ truth (times r ws budget c .contents .flag)
+  -- from a clear flag, it is raised exactly when a block or cycle that the run passes goes over
+  pub raised : n ≡ 0 → c .contents .flag ≡ false → (runFlag a ≡ 1) ↔ SomeOver r ws budget c

@@ -1,7 +1,8 @@
 -- Runs ("Runs" of paper 01, R-1 and R-2 of paper 02), for graphs and machines alike. Assumes nothing.
-use Prim.Native.Nat.{ℕ, zero, suc}
+use Prim.Native.Nat.{ℕ, zero, suc, _<_}
 use mathlib.Core.Bool.{Bool, true, false, _||_}
 use mathlib.Core.List.{List}
+use mathlib.Core.Path.{_≡_}
 use lib.Dec.{ltb}
 use lib.ListN.{length, getD}
 use Rattle.word.specs.Word.{choose, truth}
@@ -123,6 +124,14 @@ module _ (r : Runner) (ws : Supply) where
   unfolding step
   stepsRun zero c = zero
   stepsRun (suc k) c = onward (c .place) (ws .lasts (c .arrivals)) zero (λ n. suc (stepsRun k (step c)))
+
+  -- whether the step from c goes over; none is run where c has halted or is dry
+  abbrev pub stepOver : Configuration → Bool
+  stepOver c = onward (c .place) (ws .lasts (c .arrivals)) false (λ n. r .unit (ws .word (c .arrivals)) n (c .contents .registers) .over)
+
+  -- one of the first k steps from c goes over
+  abbrev pub SomeOver : ℕ → Configuration → Type 0
+  SomeOver k c = (i : ℕ) × (i < k) × (stepOver (times i c) ≡ true)
 
   -- the answer of a run with a budget, and the registers that it leaves
   unfoldable pub answer : ℕ → Configuration → RunAnswer

@@ -1,13 +1,14 @@
 -- Demand 3, the per-cycle agreement on equal words: one statement on whole runs, over all starters, words, registers and every k. Assumes nothing.
--- To be read beside "The mission" and "Runs" of paper 01, and R-1 of paper 02.
+-- To be read beside "The mission" and "Runs" of paper 01, and R-1 and R-2 of paper 02. Equal contents are equal registers and equal flags.
 use Prim.Native.Nat.{ℕ, suc, _+_, _≤_, _<_}
 use mathlib.Core.Path.{_≡_}
 use mathlib.Core.Logic.{_⊎_, _↔_, _≢_}
 use mathlib.Core.Bool.{true, false}
 use mathlib.Core.List.{List, [], _++_}
 use lib.ListN.{length, getD, take, drop}
+use Rattle.word.specs.Word.{truth}
 use Rattle.runs.specs.Lists.{mem}
-use Rattle.runs.specs.Runs.{Place, standing, halted, Configuration, standsAt, startAt, Supply, listed, unread, Runner, goes, step, times, stepsRun, answer, runNumber, runOutcome, runCount, runNext}
+use Rattle.runs.specs.Runs.{Place, standing, halted, Contents, Configuration, standsAt, startAt, Supply, listed, unread, Runner, goes, step, times, stepsRun, answer, runNumber, runOutcome, runCount, runNext, runFlag}
 use Rattle.runs.specs.Operations.{nextAt}
 use Rattle.runs.specs.declared.RunAnswer.{RunAnswer}
 use Rattle.cfg.specs.Graph.{CFG, graphRunner, wordlessGraph}
@@ -31,22 +32,22 @@ module _ (g : CFG) (starters : List ℕ) (ws : Supply) (b₀ : ℕ) (rs : List �
   abbrev pub AllRun : ℕ → Type 0
   AllRun n = stepsRun (graphRunner g starters) ws n (startAt b₀ rs) ≡ n
 
-  -- Arrival k comes with step n: the graph then stands at the starter b with registers q. The start is arrival 0.
-  pub record Arrival (k n b : ℕ) (q : List ℕ) : Type 0 where
+  -- Arrival k comes with step n: the graph then stands at the starter b with contents q. The start is arrival 0.
+  pub record Arrival (k n b : ℕ) (q : Contents) : Type 0 where
     pub run : AllRun n
     pub stands : graphAfter n ≡ standsAt k b q
     pub starter : mem b starters ≡ true
 
-  -- The run halts with step n and registers q, without reaching arrival k.
-  pub record HaltBefore (k n : ℕ) (q : List ℕ) : Type 0 where
+  -- The run halts with step n and contents q, without reaching arrival k.
+  pub record HaltBefore (k n : ℕ) (q : Contents) : Type 0 where
     pub run : AllRun n
     pub stopped : graphAfter n .place ≡ halted
-    pub registers : graphAfter n .registers ≡ q
+    pub contents : graphAfter n .contents ≡ q
     pub counted : graphAfter n .arrivals < k
 
   -- n steps go with k cycles: step n makes arrival k, or halts before there is one; a halted run's n goes with every later k as well
   abbrev pub AfterCycles : ℕ → ℕ → Type 0
-  AfterCycles k n = ((b : ℕ) × (q : List ℕ) × Arrival k n b q) ⊎ ((q : List ℕ) × HaltBefore k n q)
+  AfterCycles k n = ((b : ℕ) × (q : Contents) × Arrival k n b q) ⊎ ((q : Contents) × HaltBefore k n q)
 
 -- ---- the machine's side
 
@@ -64,28 +65,28 @@ placeIn s halted = halted
 
 -- what a graph's configuration is in the machine: the block's state, and all else equal
 abbrev pub inMachine : Groups → Configuration → Configuration
-inMachine s c = record { place = placeIn s (c .place); registers = c .registers; arrivals = c .arrivals }
+inMachine s c = record { place = placeIn s (c .place); contents = c .contents; arrivals = c .arrivals }
 
 -- Graph and machine after k cycles, from the starter b₀ and its state, both with registers rs, on equal words.
 pub record AgreeAfter (g : CFG) (s : Groups) (m : Runner) (ws : Supply) (b₀ : ℕ) (rs : List ℕ) (k : ℕ) : Type 0 where
   -- the graph reaches arrival k, or halts without reaching it; never both
   pub either : (n : ℕ) × AfterCycles g (s .starters) ws b₀ rs k n
-  pub apart : (n b : ℕ) (q : List ℕ) → Arrival g (s .starters) ws b₀ rs k n b q → (n′ : ℕ) (q′ : List ℕ) → HaltBefore g (s .starters) ws b₀ rs k n′ q′ → ⊥
-  -- the machine has halted exactly when the graph's run halts without reaching arrival k, and then both have equal registers
-  pub halts : (q : List ℕ)
-      → ((machineAfter m ws (stateIn s b₀) rs k .place ≡ halted) × (machineAfter m ws (stateIn s b₀) rs k .registers ≡ q))
+  pub apart : (n b : ℕ) (q : Contents) → Arrival g (s .starters) ws b₀ rs k n b q → (n′ : ℕ) (q′ : Contents) → HaltBefore g (s .starters) ws b₀ rs k n′ q′ → ⊥
+  -- the machine has halted exactly when the graph's run halts without reaching arrival k, and then both have equal registers and flags
+  pub halts : (q : Contents)
+      → ((machineAfter m ws (stateIn s b₀) rs k .place ≡ halted) × (machineAfter m ws (stateIn s b₀) rs k .contents ≡ q))
       ↔ ((n : ℕ) × HaltBefore g (s .starters) ws b₀ rs k n q)
-  -- otherwise the graph reaches arrival k, and the machine stands in its starter's state with equal registers
-  pub stands : (b : ℕ) (q : List ℕ) → mem b (s .starters) ≡ true
+  -- otherwise the graph reaches arrival k, and the machine stands in its starter's state with equal registers and flags
+  pub stands : (b : ℕ) (q : Contents) → mem b (s .starters) ≡ true
       → (machineAfter m ws (stateIn s b₀) rs k ≡ standsAt k (stateIn s b) q) ↔ ((n : ℕ) × Arrival g (s .starters) ws b₀ rs k n b q)
   -- in the next cycle the graph runs at least one block and at most as many as the state has
-  pub blocks : (n b : ℕ) (q : List ℕ) → Arrival g (s .starters) ws b₀ rs k n b q → (n′ : ℕ) → AfterCycles g (s .starters) ws b₀ rs (suc k) n′
+  pub blocks : (n b : ℕ) (q : Contents) → Arrival g (s .starters) ws b₀ rs k n b q → (n′ : ℕ) → AfterCycles g (s .starters) ws b₀ rs (suc k) n′
       → (n + 1 ≤ n′) × (n′ ≤ n + length (members g s (stateIn s b)))
 
 -- ---- whole runs with budgets, on equal words
 
 -- With a budget of n blocks the graph's run ends as the machine's with k cycles: spent, halted or dry alike,
--- at the same arrival with equal registers, the one at a starter and the other in its state.
+-- at the same arrival with equal registers and flags, the one at a starter and the other in its state.
 pub record SameEnd (g : CFG) (s : Groups) (m : Runner) (ws : Supply) (b₀ : ℕ) (rs : List ℕ) (k n : ℕ) : Type 0 where
   pub outcome : runOutcome (answer (graphRunner g (s .starters)) ws n (startAt b₀ rs)) ≡ runOutcome (answer m ws k (startAt (stateIn s b₀) rs))
   pub same : machineAfter m ws (stateIn s b₀) rs k ≡ inMachine s (graphAfter g (s .starters) ws b₀ rs n)
@@ -116,8 +117,9 @@ pub record DryCycle (m : Runner) (ws : Supply) (q₀ : ℕ) (rs : List ℕ) (k c
 pub record Answers (m : Runner) (ws : Supply) (q₀ k : ℕ) (buffer after : List ℕ) (a : RunAnswer) : Type 0 where
   -- halted exactly when the machine has halted after k cycles
   pub halts : (runOutcome a ≡ 1) ↔ (machineAfter m ws q₀ (take maxRegisters buffer) k .place ≡ halted)
-  -- the registers of that moment, words past 16 as before
-  pub registers : after ≡ machineAfter m ws q₀ (take maxRegisters buffer) k .registers ++ drop maxRegisters buffer
+  -- the registers and the flag of that moment, words past 16 as before
+  pub registers : after ≡ machineAfter m ws q₀ (take maxRegisters buffer) k .contents .registers ++ drop maxRegisters buffer
+  pub flag : runFlag a ≡ truth (machineAfter m ws q₀ (take maxRegisters buffer) k .contents .flag)
   -- the state then stood in, or 255
   pub next : runNext a ≡ nextAt (machineAfter m ws q₀ (take maxRegisters buffer) k .place)
   -- the count: k, or the halting cycle's number, or the cycles before the arrival that has no word
@@ -136,11 +138,12 @@ pub record RunAgrees (m : Runner) (ws : Supply) (q₀ k : ℕ) (buffer after : L
 
 -- ---- Run graph with words and starters beside Run machine with words
 
--- the graph's answer and buffer, and the machine's: the same outcome, equal registers, and next the starter of the machine's next state
+-- the graph's answer and buffer, and the machine's: the same outcome, equal registers and flags, and next the starter of the machine's next state
 pub record SameAnswer (s : Groups) (graph machine : RunAnswer) (after after′ : List ℕ) : Type 0 where
   pub accepted : (runNumber graph ≡ 0) × (runNumber machine ≡ 0)
   pub outcome : runOutcome graph ≡ runOutcome machine
   pub registers : after ≡ after′
+  pub flag : runFlag graph ≡ runFlag machine
   pub next : (runOutcome machine ≡ 1) ⊎ ((mem (runNext graph) (s .starters) ≡ true) × (runNext machine ≡ stateIn s (runNext graph)))
 
 module _ (graphTable machineTable : List ℕ) (s : Groups) (buffer words starters : List ℕ) (b₀ k : ℕ) where
@@ -203,11 +206,11 @@ pub record AgreementWithoutWordsFor (s : Groups) (graphTable machineTable : List
   pub begins : stateIn s 0 ≡ 0
   pub runs : wordlessGraph (graphOf graphTable) ≡ true → (buffer : List ℕ) (k : ℕ)
       → RunAgrees (machineRunner (machineOf machineTable)) unread 0 k buffer (machineRegisters machineTable buffer 0 k) (machineAnswer machineTable buffer 0 k)
-  -- the graph's run without words, which knows no starters, goes through the same places and registers
+  -- the graph's run without words, which knows no starters, goes through the same places, registers and flags
   pub unmarked : (rs : List ℕ) (n : ℕ)
       → let run = graphAfter (graphOf graphTable) [] unread 0 rs n in
       let marked = graphAfter (graphOf graphTable) (s .starters) unread 0 rs n in
-      (run .place ≡ marked .place) × (run .registers ≡ marked .registers)
+      (run .place ≡ marked .place) × (run .contents ≡ marked .contents)
 
 abbrev pub AgreementWithoutWords : List ℕ → List ℕ → Type 0
 AgreementWithoutWords graphTable machineTable = AgreementWithoutWordsFor (groups (graphOf graphTable)) graphTable machineTable

@@ -1,10 +1,10 @@
--- A control-flow graph and what it does ("The graph" and "Runs" of paper 01). Assumes nothing.
+-- A control-flow graph and what it does ("The graph" and "Runs" of paper 01, R-2 of paper 02). Assumes nothing.
 use Prim.Native.Nat.{ℕ}
-use mathlib.Core.Bool.{Bool, true, not, _&&_, _||_}
+use mathlib.Core.Bool.{Bool, true, false, not, _&&_, _||_}
 use mathlib.Core.List.{List, [], _∷_}
 use lib.ListN.{length, getD, set, take, drop, replicate}
 use lib.Dec.{eqb, leb, ltb}
-use Rattle.word.specs.Word.{choose, evalOf, arity, compareOf, setCode, sxCode, inCode, firstCode}
+use Rattle.word.specs.Word.{choose, evalOf, overOf, arity, compareOf, setCode, sxCode, inCode, firstCode}
 use Rattle.runs.specs.Lists.{mem, every}
 use Rattle.runs.specs.Runs.{Place, standing, halted, Moved, Runner}
 use Rattle.cfg.specs.declared.Instruction.{Instruction}
@@ -58,6 +58,16 @@ unfolding execute
 executeAll sampled [] rs = rs
 executeAll sampled (i ∷ is) rs = executeAll sampled is (execute sampled i rs)
 
+-- whether an instruction goes over
+abbrev pub instructionOver : Instruction → List ℕ → Bool
+instructionOver i rs = overOf (i .code) (getD rs (i .a) 0) (getD rs (i .b) 0)
+
+-- whether one of them does, each on the registers that those before it leave
+unfoldable pub instructionsOver : ℕ → List Instruction → List ℕ → Bool
+unfolding execute overOf
+instructionsOver sampled [] rs = false
+instructionsOver sampled (i ∷ is) rs = instructionOver i rs || instructionsOver sampled is (execute sampled i rs)
+
 abbrev pub holds : Condition → List ℕ → Bool
 holds c rs = compareOf (c .comparison) (getD rs (c .a) 0) (getD rs (c .b) 0)
 
@@ -68,8 +78,10 @@ leave (Ite c t f) rs = standing (choose (holds c rs) t f)
 leave Halt rs = halted
 
 unfoldable pub runBlock : ℕ → Block → List ℕ → Moved
-unfolding executeAll leave
-runBlock sampled b rs = let after = executeAll sampled (instructionsOf b) rs in record { place = leave (b .ending) after; registers = after }
+unfolding executeAll instructionsOver leave
+runBlock sampled b rs =
+    let after = executeAll sampled (instructionsOf b) rs in
+    record { place = leave (b .ending) after; registers = after; over = instructionsOver sampled (instructionsOf b) rs }
 
 -- one step runs the block stood at; each that moves to a starter makes the next arrival
 abbrev pub graphRunner : CFG → List ℕ → Runner

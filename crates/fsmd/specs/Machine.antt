@@ -1,10 +1,10 @@
--- A machine and what it does ("Wires" and "Runs" of paper 01). Assumes nothing.
+-- A machine and what it does ("Wires" and "Runs" of paper 01, R-2 of paper 02). Assumes nothing.
 use Prim.Native.Nat.{ℕ, _+_}
-use mathlib.Core.Bool.{Bool, true, not}
+use mathlib.Core.Bool.{Bool, true, false, not, _&&_, _||_}
 use mathlib.Core.List.{List, [], _∷_, _++_, map}
-use lib.ListN.{length, getD, drop}
+use lib.ListN.{length, getD, take, drop}
 use lib.Dec.{eqb, ltb}
-use Rattle.word.specs.Word.{choose, evalOf, setCode, inCode}
+use Rattle.word.specs.Word.{choose, evalOf, overOf, arity, setCode, addCode, subCode, inCode}
 use Rattle.runs.specs.Lists.{every}
 use Rattle.runs.specs.Runs.{Place, standing, halted, Moved, Runner}
 use Rattle.fsmd.specs.declared.Wire.{Wire}
@@ -33,6 +33,20 @@ emptyState = record { wires = []; next = 0; nextRegisters = [] }
 abbrev pub stateOf : FSMD → ℕ → State
 stateOf m k = getD (m .states) k emptyState
 
+-- ---- what a wire reads
+
+-- how many of a, b and c: those that its code's value is of and, of an add or sub, c: the reference of its block's arrival
+unfoldable pub wireArity : ℕ → ℕ
+unfolding arity
+wireArity code = choose (eqb code addCode || eqb code subCode) 3 (arity code)
+
+-- its references; a set's a is its literal
+unfoldable pub reads : Wire → List ℕ
+unfolding wireArity
+reads w = choose (eqb (w .code) setCode) [] (take (wireArity (w .code)) (w .a ∷ w .b ∷ w .c ∷ []))
+
+-- ---- what a machine does
+
 -- a wire's word, where `at` reads a reference and `sampled` is the word of the cycle; a set's a is its literal
 unfoldable pub wireValue : ℕ → (ℕ → ℕ) → Wire → ℕ
 unfolding evalOf
@@ -44,18 +58,31 @@ unfolding wireValue
 worked sampled env [] = env
 worked sampled env (w ∷ ws) = worked sampled (env ++ (wireValue sampled (λ r. getD env r 0) w ∷ [])) ws
 
+-- whether a wire goes over and counts: its block is arrived at
+unfoldable pub wireOver : (ℕ → ℕ) → Wire → Bool
+unfolding overOf
+wireOver at w = overOf (w .code) (at (w .a)) (at (w .b)) && not (eqb (at (w .c)) 0)
+
+-- whether one of the wires does, each read as it is worked out
+unfoldable pub wiresOver : ℕ → List ℕ → List Wire → Bool
+unfolding wireValue wireOver
+wiresOver sampled env [] = false
+wiresOver sampled env (w ∷ ws) =
+    wireOver (λ r. getD env r 0) w || wiresOver sampled (env ++ (wireValue sampled (λ r. getD env r 0) w ∷ [])) ws
+
 -- a next state not below N halts
 abbrev pub toState : ℕ → ℕ → Place
 toState n k = choose (ltb k n) (standing k) halted
 
 -- the next state and all next registers below R at once; registers from R up keep their words
 unfoldable pub clock : FSMD → ℕ → State → List ℕ → Moved
-unfolding worked
+unfolding worked wiresOver
 clock m sampled q rs =
     let env = worked sampled rs (q .wires) in
     record {
       place = toState (length (m .states)) (getD env (q .next) 0);
       registers = map (λ r. getD env r 0) (q .nextRegisters) ++ drop (m .registers) rs;
+      over = wiresOver sampled rs (q .wires);
     }
 
 -- one step is a cycle of the state stood in, and each makes the next arrival

@@ -4,11 +4,11 @@ use mathlib.Core.Bool.{Bool, true, _&&_, _||_}
 use mathlib.Core.List.{List, [], _∷_, _++_, map}
 use lib.ListN.{length, getD, take, drop}
 use lib.Dec.{eqb, leb, ltb}
-use Rattle.word.specs.Word.{arity, setCode, firstCode, lastCode}
+use Rattle.word.specs.Word.{firstCode, lastCode}
 use Rattle.runs.specs.Lists.{upFrom, every, padded, concatMap}
 use Rattle.fsmd.specs.declared.Wire.{Wire}
 use Rattle.fsmd.specs.Layout.{maxStates, maxBlocks, maxRegisters, maxWires, wireAOffset, wireBOffset, wireCOffset, wireCountOffset, stateCountOffset, registerCountOffset, allRecordWords, allWireWords, startersOffset, blockStatesOffset, recordOffset, nextStateOffset, nextRegistersOffset, wireOffset, absent}
-use Rattle.fsmd.specs.Machine.{State, FSMD}
+use Rattle.fsmd.specs.Machine.{State, FSMD, reads}
 
 -- ---- words of a machine
 
@@ -85,14 +85,10 @@ machineOf t =
 abbrev pub validReference : ℕ → ℕ → ℕ → Bool
 validReference r n x = ltb x r || (leb maxRegisters x && ltb x (maxRegisters + n))
 
--- wire n of its state: a known code, and each operand that the code reads is a register or an earlier wire; a set reads none
+-- wire n of its state: a known code, and each reference that it reads is a register or an earlier wire
 unfoldable pub validWire : ℕ → ℕ → Wire → Bool
-unfolding arity
-validWire r n w =
-    leb firstCode (w .code) && leb (w .code) lastCode
-    && (eqb (w .code) setCode || (ltb (arity (w .code)) 1 || validReference r n (w .a)))
-    && (ltb (arity (w .code)) 2 || validReference r n (w .b))
-    && (ltb (arity (w .code)) 3 || validReference r n (w .c))
+unfolding reads
+validWire r n w = leb firstCode (w .code) && leb (w .code) lastCode && every (validReference r n) (reads w)
 
 unfoldable pub validWires : ℕ → ℕ → List Wire → Bool
 unfolding validWire

@@ -5,7 +5,7 @@ use mathlib.Core.Bool.{Bool, true, false, not}
 use mathlib.Core.List.{List, [], _∷_, _++_}
 use lib.ListN.{length, getD, set}
 use lib.Dec.{eqb, ltb}
-use Rattle.word.specs.Word.{choose, arity, comparisonCode, setCode, andCode, orCode, andNotCode, selectCode}
+use Rattle.word.specs.Word.{choose, comparisonCode, setCode, andCode, orCode, andNotCode, selectCode}
 use Rattle.runs.specs.Lists.{upFrom, mem, only}
 use Rattle.runs.specs.Runs.{Place, standing, halted}
 use Rattle.cfg.specs.declared.Instruction.{Instruction}
@@ -14,7 +14,7 @@ use Rattle.cfg.specs.declared.Ending.the-variants.{Goto, Ite, Halt}
 use Rattle.cfg.specs.Graph.{CFG, blockOf, instructionsOf}
 use Rattle.fsmd.specs.declared.Wire.{Wire}
 use Rattle.fsmd.specs.Layout.{maxRegisters, absent}
-use Rattle.fsmd.specs.Machine.{State}
+use Rattle.fsmd.specs.Machine.{State, wireArity}
 use Rattle.grouping.specs.Grouping.{Groups}
 use Rattle.placement.specs.Placement.{order}
 
@@ -86,14 +86,14 @@ arrive r (e ∷ es) ws = joins es (record { arrival = e .taken; values = e .valu
 unfoldable pub startBlock : ℕ → List Wire → BlockBuild
 startBlock r ws = record { arrival = fresh ws; values = upFrom 0 r; wires = ws ++ (set-wire 1 ∷ []) }
 
--- an instruction's wire: the same code over references, where `at` gives a register's; operands that the code does not read are 0
-unfoldable pub instructionWire : (ℕ → ℕ) → Instruction → Wire
-unfolding arity
-instructionWire at i =
+-- an instruction's wire: the same code over references, where `at` gives a register's and c is the block's arrival; words that the wire does not read are 0
+unfoldable pub instructionWire : (ℕ → ℕ) → ℕ → Instruction → Wire
+unfolding wireArity
+instructionWire at arrival i =
     wire (i .code)
-    (choose (ltb (arity (i .code)) 1) 0 (choose (eqb (i .code) setCode) (i .a) (at (i .a))))
-    (choose (ltb (arity (i .code)) 2) 0 (at (i .b)))
-    0
+    (choose (ltb (wireArity (i .code)) 1) 0 (choose (eqb (i .code) setCode) (i .a) (at (i .a))))
+    (choose (ltb (wireArity (i .code)) 2) 0 (at (i .b)))
+    (choose (ltb (wireArity (i .code)) 3) 0 arrival)
 
 unfoldable pub assign : Instruction → BlockBuild → BlockBuild
 unfolding instructionWire
@@ -101,7 +101,7 @@ assign i p =
     record {
       arrival = p .arrival;
       values = set (p .values) (i .d) (fresh (p .wires));
-      wires = p .wires ++ (instructionWire (λ r. getD (p .values) r 0) i ∷ []);
+      wires = p .wires ++ (instructionWire (λ r. getD (p .values) r 0) (p .arrival) i ∷ []);
     }
 
 unfoldable pub assigns : List Instruction → BlockBuild → BlockBuild

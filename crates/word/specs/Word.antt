@@ -173,12 +173,17 @@ evalOf sampled code a b c = getD (results sampled a b c) code 0
 abbrev pub outside : ℤ → Bool
 outside z = ltZ z (negsuc (2 ^ 31 - 1)) || ltZ (pos (2 ^ 31 - 1)) z
 
--- whether the signed result of a code leaves that range, by code from 0: add and sub can, the codes after them do not
-abbrev pub overs : ℕ → ℕ → List Bool
-overs a b = false ∷ false ∷ false ∷ outside (signedOf a +ℤ signedOf b) ∷ outside (signedOf a -ℤ signedOf b) ∷ []
+-- the signed results of add and sub as whole numbers, by code from 0; no other code has one, and 0 stands for it
+abbrev pub exacts : ℕ → ℕ → List ℤ
+exacts a b = pos 0 ∷ pos 0 ∷ pos 0 ∷ (signedOf a +ℤ signedOf b) ∷ (signedOf a -ℤ signedOf b) ∷ []
 
+unfoldable pub exactOf : ℕ → ℕ → ℕ → ℤ
+exactOf code a b = getD (exacts a b) code (pos 0)
+
+-- whether the signed result of a code leaves that range: only that of an add or a sub can
 unfoldable pub overOf : ℕ → ℕ → ℕ → Bool
-overOf code a b = getD (overs a b) code false
+unfolding exactOf
+overOf code a b = outside (exactOf code a b)
 
 -- ---- what they read
 

@@ -1,6 +1,9 @@
 // The synthesised machine, a finite state machine with its datapath: limits, wires, and the layout of its table.
 use runs::RunAnswer;
+use word::Code;
 use word::Registers;
+ghost use mathlib.Core.Path.{_≡_};
+ghost use Rattle.fsmd.specs.Machine.{wireArity};
 
 pub mod table; // table.rt: words of a machine table
 pub mod admission; // admission.rt: which machine tables are admitted
@@ -69,4 +72,17 @@ impl Wire {
     pub const C: usize = 3;
 
     pub const WORDS: usize = Wire::C + 1;
+
+    // How many of a, b and c a wire of this code reads: its operands and, where it may go over, the arrival of its block.
+    pub fn arity(code: u32) -> u32
+        ensures { λ r. ⌜ r ≡ wireArity code ⌝ }
+    {
+        if code == Code::ADD {
+            return 3;
+        }
+        if code == Code::SUB {
+            return 3;
+        }
+        word::arity(code)
+    }
 }

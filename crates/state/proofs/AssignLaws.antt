@@ -23,19 +23,19 @@ use Rattle.state.proofs.Folds.{fold, grow-fold, Folding, folding-start,
 -- ---- one instruction
 
 pub assign-made : (i : Instruction) (a n : ℕ) (vs t : List ℕ) (w : Wire) (ref : ℕ) (vs′ t′ : List ℕ)
-    → w ≡ instructionWire (λ x. getD vs x 0) i → ref ≡ maxRegisters + n → t′ ≡ appended n (w ∷ []) t → vs′ ≡ set vs (i .d) ref
+    → w ≡ instructionWire (λ x. getD vs x 0) a i → ref ≡ maxRegisters + n → t′ ≡ appended n (w ∷ []) t → vs′ ≡ set vs (i .d) ref
     → Held (assign i (blockBuildIn a vs n t)) t a vs′ (n + 1) t′
 unfolding assign
 assign-made i a n vs t w ref vs′ t′ ew er et ev =
     held-by (assign i (blockBuildIn a vs n t)) t a vs′ (n + 1) t′
     refl
     (ev ∙ ap (set vs (i .d)) (er ∙ ap (λ (k : ℕ). maxRegisters + k) (sym (length-wiresIn n t))))
-    (omega (arith, length-append (wiresIn n t) (instructionWire (λ x. getD vs x 0) i ∷ []), length-wiresIn n t))
+    (omega (arith, length-append (wiresIn n t) (instructionWire (λ x. getD vs x 0) a i ∷ []), length-wiresIn n t))
     (et ∙ ap (λ (v : Wire). appended n (v ∷ []) t) ew)
 
 pub length-assign : (i : Instruction) (p : BlockBuild) → length (assign i p .wires) ≡ length (p .wires) + 1
 unfolding assign
-length-assign i p = length-append (p .wires) (instructionWire (λ x. getD (p .values) x 0) i ∷ [])
+length-assign i p = length-append (p .wires) (instructionWire (λ x. getD (p .values) x 0) (p .arrival) i ∷ [])
 
 pub grow-assign : (i : Instruction) (p : BlockBuild) → length (p .wires) ≤ length (assign i p .wires)
 grow-assign i p = omega (arith, length-assign i p)

@@ -17,8 +17,9 @@ ghost use mathlib.Core.List.{List, [], _∷_, _++_};
 ghost use Prim.Native.Nat.{_+_, _-_, _*_, _≤_, _<_};
 ghost use lib.ListN.{length, getD, set};
 ghost use lib.Dec.{eqb, ltb};
-ghost use Rattle.word.specs.Word.{choose, arity, setCode, comparisonCode};
+ghost use Rattle.word.specs.Word.{choose, setCode, comparisonCode};
 ghost use Rattle.fsmd.specs.Layout.{maxRegisters, maxBlocks, maxWires};
+ghost use Rattle.fsmd.specs.Machine.{wireArity};
 ghost use Rattle.cfg.specs.Layout.{blockOffset, graphWords, maxInstructions};
 ghost use Rattle.cfg.specs.Graph.{instructionsOf};
 ghost use Rattle.cfg.specs.Table.{blockAt};
@@ -44,9 +45,9 @@ fn set_value(values: &mut [u32], register: u32, reference: u32)
 
 // A set's is its literal.
 fn first_operand(values: &[u32], i: Instruction) -> u32
-    ensures { λ r. ⌜ r ≡ choose (ltb (arity (i .code)) 1) 0 (choose (eqb (i .code) setCode) (i .a) (getD (now (values .entry)) (i .a) 0)) ⌝ }
+    ensures { λ r. ⌜ r ≡ choose (ltb (wireArity (i .code)) 1) 0 (choose (eqb (i .code) setCode) (i .a) (getD (now (values .entry)) (i .a) 0)) ⌝ }
 {
-    if word::arity(i.code) < 1 {
+    if Wire::arity(i.code) < 1 {
         return 0;
     }
     if i.code == Code::SET {
@@ -56,25 +57,33 @@ fn first_operand(values: &[u32], i: Instruction) -> u32
 }
 
 fn second_operand(values: &[u32], i: Instruction) -> u32
-    ensures { λ r. ⌜ r ≡ choose (ltb (arity (i .code)) 2) 0 (getD (now (values .entry)) (i .b) 0) ⌝ }
+    ensures { λ r. ⌜ r ≡ choose (ltb (wireArity (i .code)) 2) 0 (getD (now (values .entry)) (i .b) 0) ⌝ }
 {
-    if word::arity(i.code) < 2 {
+    if Wire::arity(i.code) < 2 {
         return 0;
     }
     value_of(values, i.b)
 }
 
+// The reference of the block's arrival, in the wire of a code that may go over.
+fn third_operand(arrival: u32, i: Instruction) -> u32
+    ensures { λ r. ⌜ r ≡ choose (ltb (wireArity (i .code)) 3) 0 arrival ⌝ }
+{
+    if Wire::arity(i.code) < 3 { 0 } else { arrival }
+}
+
 // The same code over references.
-fn instruction_wire(values: &[u32], i: Instruction) -> Wire
-    ensures { λ r. ⌜ r ≡ instructionWire (λ x. getD (now (values .entry)) x 0) i ⌝ }
+fn instruction_wire(values: &[u32], arrival: u32, i: Instruction) -> Wire
+    ensures { λ r. ⌜ r ≡ instructionWire (λ x. getD (now (values .entry)) x 0) arrival i ⌝ }
 {
     let a = first_operand(values, i);
     let b = second_operand(values, i);
+    let c = third_operand(arrival, i);
     Wire {
         code: i.code,
         a,
         b,
-        c: 0,
+        c,
     }
 }
 
@@ -88,7 +97,7 @@ fn assign(
     ensures { λ r. ⌜ Held (assigned i (blockBuildIn (front .arrival) (now (values .entry)) (front .wires) (now (wires .entry)))) (now (wires .entry)) (r .arrival) (now (values .exit)) (r .wires) (now (wires .exit)) ⌝ }
 {
     let at = front.wires;
-    wires::emit(wires, at, instruction_wire(values, i));
+    wires::emit(wires, at, instruction_wire(values, front.arrival, i));
     set_value(values, i.d, wires::reference(at));
     BlockProgress {
         arrival: front.arrival,

@@ -9,7 +9,7 @@ trap 'rm -rf "$work"' EXIT
 
 library=target/staticlib/libhost.a
 crate=bindings/rust/Cargo.toml
-files=(examples/swing.txt examples/turn.txt examples/turn-array.capture)
+files=(examples/swing.txt examples/turn.txt examples/turn-array.capture examples/wrap.txt)
 
 echo 'the header as C++'
 g++ -std=c++11 -Wall -Wextra -Werror -fsyntax-only -x c++ include/gutkavu.h

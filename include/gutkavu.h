@@ -21,6 +21,11 @@
  * arrival, in a graph each step to a block of a starter list makes the next one; a halt makes none. With budget left
  * and no word for the arrival the run is dry: it ends before that block or cycle, whether or not the word would be
  * read.
+ *
+ * Every run answers a flag: 1 where an add or sub went over in a block that the run passed, else 0. One goes over where
+ * the sum or difference of its signed operands is not in -2147483648 to 2147483647; its value is taken modulo 2^32 all
+ * the same. The flag is clear when a run starts and stays set once raised, so a host that runs a machine piece by piece
+ * joins the flags itself.
  */
 #ifndef GUTKAVU_H
 #define GUTKAVU_H
@@ -47,7 +52,12 @@ enum {
     GUTKAVU_DRY = 2     /* with budget left there was no word for an arrival */
 };
 
-/* Where things stand in a machine table, in words. Word 0 is the number of states, word 1 that of registers. */
+/* Where things stand in a machine table, in words. Word 0 is the number of states, word 1 that of registers.
+ *
+ * The wires of a state work out all its blocks, also those that the run does not pass. So word c of an add or sub wire
+ * (codes 3 and 4) is the reference of its block's arrival, checked as a and b are (refusal 10), and the wire counts for
+ * the flag where that value is nonzero. A table from before there was a flag has 0 there, the reference of register 0:
+ * it is still admitted and runs as it did, but its flag means nothing. */
 enum {
     GUTKAVU_STARTERS = 2,      /* the starter of each state */
     GUTKAVU_BLOCK_STATES = 66, /* the state of each block, GUTKAVU_NONE for an absent one */
@@ -69,32 +79,35 @@ uint32_t gutkavu_write(const uint32_t *table, size_t table_len, uint8_t *out, si
 uint32_t gutkavu_synthesise(const uint32_t *graph, size_t graph_len, uint32_t *machine, size_t machine_len);
 
 /* Runs a graph from a start block on, at most budget blocks. Refusals 7, 6, 12, 9. Sets halted to 1 or 0, the count of
- * blocks run, the halting one included, and the next block, GUTKAVU_NONE where it halted. Registers from R up keep
- * their words. */
+ * blocks run, the halting one included, the next block, GUTKAVU_NONE where it halted, and the flag. Registers from R up
+ * keep their words. */
 uint32_t gutkavu_run_graph(const uint32_t *graph, size_t graph_len, uint32_t *registers, size_t registers_len,
-                           uint32_t start, uint32_t budget, uint32_t *halted, uint32_t *count, uint32_t *next);
+                           uint32_t start, uint32_t budget, uint32_t *halted, uint32_t *count, uint32_t *next,
+                           uint32_t *flag);
 
 /* Runs a machine from a start state on, at most budget cycles. Refusals 7, 10, 12, 9. Sets halted to 1 or 0, the count
- * of cycles run, the halting one included, and the next state, GUTKAVU_NONE where it halted. Registers from R up keep
- * their words. */
+ * of cycles run, the halting one included, the next state, GUTKAVU_NONE where it halted, and the flag. Registers from R
+ * up keep their words. */
 uint32_t gutkavu_run_machine(const uint32_t *machine, size_t machine_len, uint32_t *registers, size_t registers_len,
-                             uint32_t start, uint32_t budget, uint32_t *halted, uint32_t *count, uint32_t *next);
+                             uint32_t start, uint32_t budget, uint32_t *halted, uint32_t *count, uint32_t *next,
+                             uint32_t *flag);
 
 /* Runs a graph with words from a start block on, at most budget blocks. Refusals 7, 6, 9, 11. The starter list is a
- * set: order and repeats do not matter. Sets the outcome, the count of blocks run, the halting one included, and the
- * next block, GUTKAVU_NONE where it halted. Registers from R up keep their words. With the starters of the graph's
- * machine, and from one of them, graph and machine use the same words. */
+ * set: order and repeats do not matter. Sets the outcome, the count of blocks run, the halting one included, the next
+ * block, GUTKAVU_NONE where it halted, and the flag. Registers from R up keep their words. With the starters of the
+ * graph's machine, and from one of them, graph and machine use the same words. */
 uint32_t gutkavu_run_graph_with_words(const uint32_t *graph, size_t graph_len, uint32_t *registers,
                                       size_t registers_len, uint32_t start, uint32_t budget, const uint32_t *words,
                                       size_t words_len, const uint32_t *starters, size_t starters_len,
-                                      uint32_t *outcome, uint32_t *count, uint32_t *next);
+                                      uint32_t *outcome, uint32_t *count, uint32_t *next, uint32_t *flag);
 
 /* Runs a machine with words from a start state on, at most budget cycles. Refusals 7, 10, 9. Sets the outcome, the
- * count of cycles run, the halting one included, and the next state, GUTKAVU_NONE where it halted. Registers from R up
- * keep their words. */
+ * count of cycles run, the halting one included, the next state, GUTKAVU_NONE where it halted, and the flag. Registers
+ * from R up keep their words. */
 uint32_t gutkavu_run_machine_with_words(const uint32_t *machine, size_t machine_len, uint32_t *registers,
                                         size_t registers_len, uint32_t start, uint32_t budget, const uint32_t *words,
-                                        size_t words_len, uint32_t *outcome, uint32_t *count, uint32_t *next);
+                                        size_t words_len, uint32_t *outcome, uint32_t *count, uint32_t *next,
+                                        uint32_t *flag);
 
 /* Compares two recordings of one run, the first an array's capture, say, and the second a model's run; either may
  * lack cycles, and both may have any length, 0 included. A line is `cycle,state,` and as many register words as

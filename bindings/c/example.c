@@ -1,9 +1,10 @@
-/* How a C program reads a graph, synthesises its machine, runs both, without words and with them, and compares a
- * recording of the machine with one of the array: example SWING TURN ARRAY, the paths of examples/swing.txt,
- * examples/turn.txt and examples/turn-array.capture. */
+/* How a C program reads a graph, synthesises its machine, runs both, without words and with them, compares a recording
+ * of the machine with one of the array, and learns that a sum went over: example SWING TURN ARRAY WRAP, the paths of
+ * examples/swing.txt, examples/turn.txt, examples/turn-array.capture and examples/wrap.txt. */
 #include "gutkavu.h"
 
 #include <inttypes.h>
+#include <stdbool.h>
 #include <stdio.h>
 #include <stdlib.h>
 #include <string.h>
@@ -78,39 +79,67 @@ static void print_machine(void)
     }
 }
 
-/* Runs graph and machine with a rate in register 0; they leave the same registers. */
+/* What the runs of a graph and of its machine answer, which both halted. */
+struct halts {
+    uint32_t blocks, cycles, flag;
+};
+
+/* Runs graph and machine until they halt; they leave the same registers and answer the same flag. */
+static struct halts run_both(uint32_t registers[GUTKAVU_REGISTER_WORDS])
+{
+    uint32_t others[GUTKAVU_REGISTER_WORDS];
+    uint32_t halted, halted_too, next, flag_too;
+    struct halts both;
+    memcpy(others, registers, sizeof others);
+    made(gutkavu_run_graph(graph, GUTKAVU_GRAPH_WORDS, registers, GUTKAVU_REGISTER_WORDS, 0, BUDGET, &halted,
+                           &both.blocks, &next, &both.flag));
+    made(gutkavu_run_machine(machine, GUTKAVU_MACHINE_WORDS, others, GUTKAVU_REGISTER_WORDS, 0, BUDGET, &halted_too,
+                             &both.cycles, &next, &flag_too));
+    if (!halted || !halted_too || both.flag != flag_too || memcmp(registers, others, sizeof others) != 0)
+        fail("graph and machine do not agree");
+    return both;
+}
+
+/* Runs graph and machine with a rate in register 0. */
 static void print_swing(int32_t rate)
 {
-    uint32_t registers[GUTKAVU_REGISTER_WORDS] = {(uint32_t)rate}, others[GUTKAVU_REGISTER_WORDS] = {(uint32_t)rate};
-    uint32_t halted, halted_too, blocks, cycles, next;
-    made(gutkavu_run_graph(graph, GUTKAVU_GRAPH_WORDS, registers, GUTKAVU_REGISTER_WORDS, 0, BUDGET, &halted, &blocks,
-                           &next));
-    made(gutkavu_run_machine(machine, GUTKAVU_MACHINE_WORDS, others, GUTKAVU_REGISTER_WORDS, 0, BUDGET, &halted_too,
-                             &cycles, &next));
-    if (!halted || !halted_too || memcmp(registers, others, sizeof registers) != 0)
-        fail("graph and machine do not agree");
+    uint32_t registers[GUTKAVU_REGISTER_WORDS] = {(uint32_t)rate};
+    struct halts both = run_both(registers);
     const char *how = registers[5] ? "hard turn" : "slow swing";
     const char *side = registers[3] == 1 ? "port" : "starboard";
     printf("  %" PRId32 ": %s to %s, rate %" PRIu32 "; ", rate, how, side, registers[4]);
-    printf("blocks %" PRIu32 ", cycles %" PRIu32 "\n", blocks, cycles);
+    printf("blocks %" PRIu32 ", cycles %" PRIu32 "\n", both.blocks, both.cycles);
 }
 
-/* Runs graph and machine with a word of the gyro for each cycle. Both are dry when the words end, and leave the same
- * registers. */
+/* Runs graph and machine with a rate that begins at 0 and is summed up in steps, as long as it is below a limit. */
+static void print_wrap(uint32_t limit)
+{
+    uint32_t registers[GUTKAVU_REGISTER_WORDS] = {[1] = 300000000, [2] = limit, [3] = 8};
+    uint32_t step = registers[1], steps = registers[3];
+    struct halts both = run_both(registers);
+    printf("  %" PRIu32 " steps of %" PRIu32 ", limit %" PRIu32 ": ", steps, step, limit);
+    printf("rate %" PRId32 ", flag %" PRIu32 "; ", (int32_t)registers[0], both.flag);
+    printf("blocks %" PRIu32 ", cycles %" PRIu32 "\n", both.blocks, both.cycles);
+}
+
+/* Runs graph and machine with a word of the gyro for each cycle. Both are dry when the words end, leave the same
+ * registers and answer the same flag. */
 static void print_turn(void)
 {
     uint32_t registers[GUTKAVU_REGISTER_WORDS], others[GUTKAVU_REGISTER_WORDS];
-    uint32_t outcome, outcome_too, blocks, cycles, next;
+    uint32_t outcome, outcome_too, blocks, cycles, next, flag, flag_too;
     memcpy(registers, limits, sizeof registers);
     memcpy(others, limits, sizeof others);
     uint32_t number = gutkavu_run_machine(machine, GUTKAVU_MACHINE_WORDS, others, GUTKAVU_REGISTER_WORDS, 0, BUDGET,
-                                          &outcome, &cycles, &next);
+                                          &outcome, &cycles, &next, &flag);
     printf("  without words: refused %" PRIu32 "\n", number);
     made(gutkavu_run_graph_with_words(graph, GUTKAVU_GRAPH_WORDS, registers, GUTKAVU_REGISTER_WORDS, 0, BUDGET, words,
-                                      word_count, machine + GUTKAVU_STARTERS, machine[0], &outcome, &blocks, &next));
+                                      word_count, machine + GUTKAVU_STARTERS, machine[0], &outcome, &blocks, &next,
+                                      &flag));
     made(gutkavu_run_machine_with_words(machine, GUTKAVU_MACHINE_WORDS, others, GUTKAVU_REGISTER_WORDS, 0, BUDGET,
-                                        words, word_count, &outcome_too, &cycles, &next));
-    if (outcome != GUTKAVU_DRY || outcome_too != GUTKAVU_DRY || memcmp(registers, others, sizeof registers) != 0)
+                                        words, word_count, &outcome_too, &cycles, &next, &flag_too));
+    bool dry = outcome == GUTKAVU_DRY && outcome_too == GUTKAVU_DRY;
+    if (!dry || flag != flag_too || memcmp(registers, others, sizeof registers) != 0)
         fail("graph and machine do not agree");
     printf("  %zu words: lowest %" PRId32 ", ", word_count, (int32_t)registers[1]);
     printf("highest %" PRId32 ", outside %" PRIu32 "; ", (int32_t)registers[2], registers[5]);
@@ -129,7 +158,7 @@ static size_t replace(const char *text, const char *old, const char *new, char *
 /* Runs the machine with words, a cycle a call, and writes down the state and registers that each cycle begins with. */
 static void record(char *out)
 {
-    uint32_t registers[GUTKAVU_REGISTER_WORDS], state = 0, outcome = GUTKAVU_SPENT, count;
+    uint32_t registers[GUTKAVU_REGISTER_WORDS], state = 0, outcome = GUTKAVU_SPENT, count, flag;
     memcpy(registers, limits, sizeof registers);
     for (size_t cycle = 0; outcome == GUTKAVU_SPENT; cycle++) {
         out += sprintf(out, "%zu,%" PRIu32, cycle, state);
@@ -137,7 +166,7 @@ static void record(char *out)
             out += sprintf(out, ",%" PRIu32, registers[i]);
         out += sprintf(out, "\n");
         made(gutkavu_run_machine_with_words(machine, GUTKAVU_MACHINE_WORDS, registers, GUTKAVU_REGISTER_WORDS, state, 1,
-                                            words + cycle, word_count - cycle, &outcome, &count, &state));
+                                            words + cycle, word_count - cycle, &outcome, &count, &state, &flag));
     }
 }
 
@@ -173,8 +202,8 @@ static void print_captures(const char *array)
 int main(int count, char **arguments)
 {
     static char text[TEXT_ROOM], other[TEXT_ROOM];
-    if (count != 4)
-        fail("usage: example SWING TURN ARRAY");
+    if (count != 5)
+        fail("usage: example SWING TURN ARRAY WRAP");
     size_t length = load(arguments[1], text);
     compile(text, length);
     print_machine();
@@ -195,5 +224,11 @@ int main(int count, char **arguments)
     load(arguments[3], text);
     printf("array against model\n");
     print_captures(text);
+    compile(text, load(arguments[4], text));
+    /* Up to the last step both limits give the same rate. Then, below the higher one, the sum goes over; the lower one
+     * is reached, and the step is left out. */
+    printf("a rate summed up\n");
+    print_wrap(INT32_MAX);
+    print_wrap(2000000000);
     return EXIT_SUCCESS;
 }

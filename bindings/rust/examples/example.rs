@@ -1,6 +1,7 @@
 //! How a Rust program reads a graph, synthesises its machine, runs both, without words and with
-//! them, and compares a recording of the machine with one of the array: `example SWING TURN ARRAY`,
-//! the paths of examples/swing.txt, examples/turn.txt and examples/turn-array.capture.
+//! them, compares a recording of the machine with one of the array, and learns that a sum went
+//! over: `example SWING TURN ARRAY WRAP`, the paths of examples/swing.txt, examples/turn.txt,
+//! examples/turn-array.capture and examples/wrap.txt.
 
 use gutkavu::captures::{self, Comparison, Line, Recording};
 use gutkavu::{Graph, Machine, Outcome};
@@ -25,25 +26,55 @@ fn print_machine(graph: &Graph, machine: &Machine) {
     }
 }
 
-/// Runs graph and machine with a rate in register 0; they leave the same registers.
+/// What the runs of a graph and of its machine answer, which both halted.
+struct Halts {
+    blocks: u32,
+    cycles: u32,
+    flag: bool,
+}
+
+/// Runs graph and machine until they halt; they leave the same registers and answer the same flag.
+fn run_both(
+    graph: &Graph,
+    machine: &Machine,
+    registers: &mut [u32; 16],
+) -> Result<Halts, Box<dyn Error>> {
+    let mut others = *registers;
+    let by_graph = graph.run(registers, 0, BUDGET)?;
+    let by_machine = machine.run(&mut others, 0, BUDGET)?;
+    let halted = by_graph.halted && by_machine.halted;
+    if !halted || by_graph.flag != by_machine.flag || *registers != others {
+        return Err("graph and machine do not agree".into());
+    }
+    Ok(Halts { blocks: by_graph.count, cycles: by_machine.count, flag: by_graph.flag })
+}
+
+/// Runs graph and machine with a rate in register 0.
 fn print_swing(graph: &Graph, machine: &Machine, rate: i32) -> Result<(), Box<dyn Error>> {
     let mut registers = [0; 16];
     registers[0] = rate as u32;
-    let mut others = registers;
-    let by_graph = graph.run(&mut registers, 0, BUDGET)?;
-    let by_machine = machine.run(&mut others, 0, BUDGET)?;
-    if !by_graph.halted || !by_machine.halted || registers != others {
-        return Err("graph and machine do not agree".into());
-    }
+    let Halts { blocks, cycles, .. } = run_both(graph, machine, &mut registers)?;
     let how = if registers[5] == 0 { "slow swing" } else { "hard turn" };
     let side = if registers[3] == 1 { "port" } else { "starboard" };
-    let (blocks, cycles) = (by_graph.count, by_machine.count);
     println!("  {rate}: {how} to {side}, rate {}; blocks {blocks}, cycles {cycles}", registers[4]);
     Ok(())
 }
 
+/// Runs graph and machine with a rate that begins at 0 and is summed up in steps, as long as it is
+/// below a limit.
+fn print_wrap(graph: &Graph, machine: &Machine, limit: u32) -> Result<(), Box<dyn Error>> {
+    let (step, steps) = (300_000_000, 8);
+    let mut registers = [0; 16];
+    registers[1..4].copy_from_slice(&[step, limit, steps]);
+    let Halts { blocks, cycles, flag } = run_both(graph, machine, &mut registers)?;
+    let (rate, flag) = (registers[0] as i32, u32::from(flag));
+    print!("  {steps} steps of {step}, limit {limit}: rate {rate}, flag {flag}; ");
+    println!("blocks {blocks}, cycles {cycles}");
+    Ok(())
+}
+
 /// Runs graph and machine with a word of the gyro for each cycle. Both are dry when the words end,
-/// and leave the same registers.
+/// leave the same registers and answer the same flag.
 fn print_turn(graph: &Graph, machine: &Machine) -> Result<(), Box<dyn Error>> {
     let (mut registers, mut others) = (LIMITS, LIMITS);
     if let Err(refused) = machine.run(&mut others, 0, BUDGET) {
@@ -53,7 +84,7 @@ fn print_turn(graph: &Graph, machine: &Machine) -> Result<(), Box<dyn Error>> {
     let by_graph = graph.run_with_words(&mut registers, 0, BUDGET, &WORDS, starters)?;
     let by_machine = machine.run_with_words(&mut others, 0, BUDGET, &WORDS)?;
     let dry = [by_graph.outcome, by_machine.outcome] == [Outcome::Dry; 2];
-    if !dry || registers != others {
+    if !dry || by_graph.flag != by_machine.flag || registers != others {
         return Err("graph and machine do not agree".into());
     }
     let (lowest, highest, outside) = (registers[1] as i32, registers[2] as i32, registers[5]);
@@ -110,8 +141,8 @@ fn print_captures(machine: &Machine, array: &str) -> Result<(), Box<dyn Error>> 
 
 fn main() -> Result<(), Box<dyn Error>> {
     let paths: Vec<String> = std::env::args().skip(1).collect();
-    let [swing, turn, array] = &paths[..] else {
-        return Err("usage: example SWING TURN ARRAY".into());
+    let [swing, turn, array, wrap] = &paths[..] else {
+        return Err("usage: example SWING TURN ARRAY WRAP".into());
     };
     let text = std::fs::read_to_string(swing)?;
     let graph: Graph = text.parse()?;
@@ -135,5 +166,12 @@ fn main() -> Result<(), Box<dyn Error>> {
     println!("rate of turn");
     print_turn(&graph, &machine)?;
     println!("array against model");
-    print_captures(&machine, &std::fs::read_to_string(array)?)
+    print_captures(&machine, &std::fs::read_to_string(array)?)?;
+    let graph: Graph = std::fs::read_to_string(wrap)?.parse()?;
+    let machine = graph.synthesise();
+    // Up to the last step both limits give the same rate. Then, below the higher one, the sum goes
+    // over; the lower one is reached, and the step is left out.
+    println!("a rate summed up");
+    print_wrap(&graph, &machine, i32::MAX as u32)?;
+    print_wrap(&graph, &machine, 2_000_000_000)
 }

@@ -40,7 +40,9 @@ pub mod machine {
     pub const RECORD_WORDS: usize = 19;
     /// The wires of all states.
     pub const WIRES: usize = RECORDS + super::MOST_STATES * RECORD_WORDS;
-    /// A wire: code, a, b, c.
+    /// A wire: code, a, b, c. In an add or sub wire (codes 3 and 4) c is the reference of its
+    /// block's arrival, checked as a and b are; the wire counts for the flag of a run where that
+    /// value is nonzero. A table from before there was a flag has 0 there, which is register 0.
     pub const WIRE_WORDS: usize = 4;
 
     // Within a record.

@@ -14,8 +14,22 @@
 //! let mut registers = [0; 16];
 //! (registers[0], registers[1]) = (12, 30);
 //! let run = machine.run(&mut registers, 0, 1_000)?;
-//! assert_eq!(run, Run { halted: true, count: 1, next: None });
+//! assert_eq!(run, Run { halted: true, count: 1, next: None, flag: false });
 //! assert_eq!(registers[0], 42);
+//! # Ok::<(), Box<dyn std::error::Error>>(())
+//! ```
+//!
+//! Sums and differences wrap. Every run answers a flag that says whether one went over, as signed
+//! numbers, in a block that the run passed.
+//!
+//! ```
+//! use gutkavu::Graph;
+//!
+//! let graph: Graph = "graph,1,2\nblock,0\nadd,0,0,1\nhalt\n".parse()?;
+//! let mut registers = [0; 16];
+//! (registers[0], registers[1]) = (2_147_483_647, 1);
+//! assert!(graph.run(&mut registers, 0, 1_000)?.flag);
+//! assert_eq!(registers[0] as i32, -2_147_483_648);
 //! # Ok::<(), Box<dyn std::error::Error>>(())
 //! ```
 //!
@@ -31,9 +45,10 @@
 //!
 //! let (mut registers, mut others) = ([0; 16], [0; 16]);
 //! let run = machine.run_with_words(&mut registers, 0, 1_000, &[12, 30])?;
-//! assert_eq!(run, RunWithWords { outcome: Outcome::Dry, count: 2, next: Some(0) });
+//! let dry = RunWithWords { outcome: Outcome::Dry, count: 2, next: Some(0), flag: false };
+//! assert_eq!(run, dry);
 //! let run = graph.run_with_words(&mut others, 0, 1_000, &[12, 30], machine.starters())?;
-//! assert_eq!(run.outcome, Outcome::Dry);
+//! assert_eq!(run, dry);
 //! assert_eq!((registers[0], registers), (42, others));
 //! # Ok::<(), Box<dyn std::error::Error>>(())
 //! ```

@@ -5,7 +5,8 @@ use crate::{operations, Refusal, Run, RunWithWords, MACHINE_WORDS};
 use std::fmt;
 
 /// A state machine. One made by synthesis runs from each of its states; one made of other words may
-/// be refused when it is run.
+/// be refused when it is run. The flag of a run means nothing where the table is from before there
+/// was a flag ([`WIRE_WORDS`]); the rest of the answer is as it was.
 #[derive(Clone, PartialEq, Eq, Hash)]
 pub struct Machine {
     words: Box<[u32; MACHINE_WORDS]>,

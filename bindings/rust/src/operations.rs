@@ -15,21 +15,24 @@ pub struct WriteFields {
     pub length: u32,
 }
 
+/// The flag is 1 where an add or sub went over in a block that the run passed.
 #[derive(Clone, Copy, Debug, PartialEq, Eq)]
 pub struct RunFields {
     pub number: u32,
     pub halted: u32,
     pub count: u32,
     pub next: u32,
+    pub flag: u32,
 }
 
-/// The outcome is 0 for spent, 1 for halted, 2 for dry.
+/// The outcome is 0 for spent, 1 for halted, 2 for dry; the flag is as in [`RunFields`].
 #[derive(Clone, Copy, Debug, PartialEq, Eq)]
 pub struct RunWithWordsFields {
     pub number: u32,
     pub outcome: u32,
     pub count: u32,
     pub next: u32,
+    pub flag: u32,
 }
 
 /// The fields of a comparison of two recordings. The recording, 1 or 2, and the line, counted from
@@ -76,7 +79,7 @@ pub fn synthesise(graph: &[u32], machine: &mut [u32]) -> u32 {
 }
 
 fn run(call: raw::Run, table: &[u32], registers: &mut [u32], start: u32, budget: u32) -> RunFields {
-    let (mut halted, mut count, mut next) = (UNSET, UNSET, UNSET);
+    let (mut halted, mut count, mut next, mut flag) = (UNSET, UNSET, UNSET, UNSET);
     // SAFETY: as in `read`.
     let number = unsafe {
         call(
@@ -89,9 +92,10 @@ fn run(call: raw::Run, table: &[u32], registers: &mut [u32], start: u32, budget:
             &mut halted,
             &mut count,
             &mut next,
+            &mut flag,
         )
     };
-    RunFields { number, halted, count, next }
+    RunFields { number, halted, count, next, flag }
 }
 
 /// Runs a graph from a start block, at most `budget` blocks.
@@ -114,7 +118,7 @@ pub fn run_graph_with_words(
     words: &[u32],
     starters: &[u32],
 ) -> RunWithWordsFields {
-    let (mut outcome, mut count, mut next) = (UNSET, UNSET, UNSET);
+    let (mut outcome, mut count, mut next, mut flag) = (UNSET, UNSET, UNSET, UNSET);
     // SAFETY: as in `read`.
     let number = unsafe {
         raw::gutkavu_run_graph_with_words(
@@ -131,9 +135,10 @@ pub fn run_graph_with_words(
             &mut outcome,
             &mut count,
             &mut next,
+            &mut flag,
         )
     };
-    RunWithWordsFields { number, outcome, count, next }
+    RunWithWordsFields { number, outcome, count, next, flag }
 }
 
 /// Runs a machine from a start state, at most `budget` cycles, with a word for each cycle.
@@ -144,7 +149,7 @@ pub fn run_machine_with_words(
     budget: u32,
     words: &[u32],
 ) -> RunWithWordsFields {
-    let (mut outcome, mut count, mut next) = (UNSET, UNSET, UNSET);
+    let (mut outcome, mut count, mut next, mut flag) = (UNSET, UNSET, UNSET, UNSET);
     // SAFETY: as in `read`.
     let number = unsafe {
         raw::gutkavu_run_machine_with_words(
@@ -159,9 +164,10 @@ pub fn run_machine_with_words(
             &mut outcome,
             &mut count,
             &mut next,
+            &mut flag,
         )
     };
-    RunWithWordsFields { number, outcome, count, next }
+    RunWithWordsFields { number, outcome, count, next, flag }
 }
 
 /// Compares two recordings of one run, of `registers` registers each.

@@ -11,6 +11,7 @@ pub type Run = unsafe extern "C" fn(
     *mut u32,
     *mut u32,
     *mut u32,
+    *mut u32,
 ) -> u32;
 
 extern "C" {
@@ -44,6 +45,7 @@ extern "C" {
         halted: *mut u32,
         count: *mut u32,
         next: *mut u32,
+        flag: *mut u32,
     ) -> u32;
     pub fn gutkavu_run_machine(
         machine: *const u32,
@@ -55,6 +57,7 @@ extern "C" {
         halted: *mut u32,
         count: *mut u32,
         next: *mut u32,
+        flag: *mut u32,
     ) -> u32;
     pub fn gutkavu_run_graph_with_words(
         graph: *const u32,
@@ -70,6 +73,7 @@ extern "C" {
         outcome: *mut u32,
         count: *mut u32,
         next: *mut u32,
+        flag: *mut u32,
     ) -> u32;
     pub fn gutkavu_run_machine_with_words(
         machine: *const u32,
@@ -83,6 +87,7 @@ extern "C" {
         outcome: *mut u32,
         count: *mut u32,
         next: *mut u32,
+        flag: *mut u32,
     ) -> u32;
     pub fn gutkavu_compare_captures(
         registers: u32,

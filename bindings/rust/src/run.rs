@@ -12,6 +12,10 @@ pub struct Run {
     pub count: u32,
     /// The block or state it then stands in; none where it halted.
     pub next: Option<u32>,
+    /// Whether an add or sub went over in a block that the run passed: the sum or difference of its
+    /// signed operands was not in -2147483648 to 2147483647. It is clear when a run starts and
+    /// stays set once raised.
+    pub flag: bool,
 }
 
 impl Run {
@@ -19,7 +23,7 @@ impl Run {
         Refusal::answer(fields.number)?;
         let halted = fields.halted == 1;
         let next = (!halted).then_some(fields.next);
-        Ok(Run { halted, count: fields.count, next })
+        Ok(Run { halted, count: fields.count, next, flag: fields.flag == 1 })
     }
 }
 
@@ -42,6 +46,8 @@ pub struct RunWithWords {
     pub count: u32,
     /// The block or state it then stands in; none where it halted.
     pub next: Option<u32>,
+    /// As in [`Run`]: whether an add or sub went over in a block that the run passed.
+    pub flag: bool,
 }
 
 impl RunWithWords {
@@ -54,6 +60,6 @@ impl RunWithWords {
             other => unreachable!("an outcome is 0 to 2, not {other}"),
         };
         let next = (outcome != Outcome::Halted).then_some(fields.next);
-        Ok(RunWithWords { outcome, count: fields.count, next })
+        Ok(RunWithWords { outcome, count: fields.count, next, flag: fields.flag == 1 })
     }
 }

@@ -8,7 +8,7 @@ use gutkavu::{GRAPH_WORDS, MACHINE_WORDS};
 const TEXT: &[u8] = b"graph,1,1\nblock,0\nset,0,-200\nhalt\n";
 
 fn refused(number: u32) -> RunFields {
-    RunFields { number, halted: 0, count: 0, next: 0 }
+    RunFields { number, halted: 0, count: 0, next: 0, flag: 0 }
 }
 
 #[test]
@@ -20,7 +20,7 @@ fn success() {
     let mut out = [9; 40];
     assert_eq!(write(&graph, &mut out), WriteFields { number: 0, length: TEXT.len() as u32 });
     assert_eq!((&out[..TEXT.len()], out[TEXT.len()]), (TEXT, 9));
-    let halted = RunFields { number: 0, halted: 1, count: 1, next: 255 };
+    let halted = RunFields { number: 0, halted: 1, count: 1, next: 255, flag: 0 };
     for start in [[5; 16], [4_294_967_095; 16]] {
         let (mut by_graph, mut by_machine) = (start, start);
         assert_eq!(run_graph(&graph, &mut by_graph, 0, 1), halted);
@@ -51,7 +51,7 @@ fn short_buffers() {
 }
 
 fn fields(number: u32, outcome: u32, count: u32, next: u32) -> RunWithWordsFields {
-    RunWithWordsFields { number, outcome, count, next }
+    RunWithWordsFields { number, outcome, count, next, flag: 0 }
 }
 
 #[test]

@@ -14,7 +14,7 @@ fn graph(text: &str) -> Graph {
 }
 
 fn run(outcome: Outcome, count: u32, next: Option<u32>) -> Result<RunWithWords, Refusal> {
-    Ok(RunWithWords { outcome, count, next })
+    Ok(RunWithWords { outcome, count, next, flag: false })
 }
 
 /// What a run of the graph answers with its machine's starters, and its first register.
@@ -126,11 +126,12 @@ fn graph_and_machine_agree_on_the_rate_of_turn() {
     for length in 0..=words.len() {
         let (mut registers, mut others) = ([7; 16], [7; 16]);
         let words = &words[..length];
-        let run = graph.run_with_words(&mut registers, 0, 1_000, words, machine.starters());
+        let answer = graph.run_with_words(&mut registers, 0, 1_000, words, machine.starters());
         let next = u32::from(length > 0);
-        assert_eq!(run.map(|run| (run.outcome, run.next)), Ok((Dry, Some(next))));
-        let run = machine.run_with_words(&mut others, 0, 1_000, words);
-        assert_eq!(run, Ok(RunWithWords { outcome: Dry, count: length as u32, next: Some(next) }));
+        let ended = answer.map(|run| (run.outcome, run.next, run.flag));
+        assert_eq!(ended, Ok((Dry, Some(next), false)));
+        let answer = machine.run_with_words(&mut others, 0, 1_000, words);
+        assert_eq!(answer, run(Dry, length as u32, Some(next)));
         assert_eq!(registers, others);
     }
 }

@@ -42,9 +42,9 @@ fn p8_runs_nine_blocks_in_four_cycles() {
     let graph = graph(P7);
     let (mut by_graph, mut by_machine) = (registers(&[12, 18]), registers(&[12, 18]));
     let run = graph.run(&mut by_graph, 0, 1_000);
-    assert_eq!(run, Ok(Run { halted: true, count: 9, next: None }));
+    assert_eq!(run, Ok(Run { halted: true, count: 9, next: None, flag: false }));
     let run = graph.synthesise().run(&mut by_machine, 0, 1_000);
-    assert_eq!(run, Ok(Run { halted: true, count: 4, next: None }));
+    assert_eq!(run, Ok(Run { halted: true, count: 4, next: None, flag: false }));
     assert_eq!((by_graph, by_machine), (registers(&[6, 6]), registers(&[6, 6])));
 }
 
@@ -52,7 +52,7 @@ fn p8_runs_nine_blocks_in_four_cycles() {
 fn budgets_are_spent_before_the_halt() {
     let graph = graph(P7);
     let machine = graph.synthesise();
-    let run = |count, next| Ok(Run { halted: false, count, next: Some(next) });
+    let run = |count, next| Ok(Run { halted: false, count, next: Some(next), flag: false });
     assert_eq!(graph.run(&mut registers(&[12, 18]), 0, 0), run(0, 0));
     assert_eq!(graph.run(&mut registers(&[12, 18]), 0, 8), run(8, 5));
     assert_eq!(machine.run(&mut registers(&[12, 18]), 0, 0), run(0, 0));

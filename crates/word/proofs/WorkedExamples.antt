@@ -5,7 +5,7 @@ use mathlib.Core.List.{List, [], _∷_}
 use lib.IntN.{ℤ, pos, negsuc}
 use lib.Signed.{leZ}
 use lib.Dec.{T, eqb}
-use Rattle.word.specs.Word.{evalOf, signedOf, exactOf, overOf}
+use Rattle.word.specs.Word.{evalOf, signedOf, overOf}
 
 -- code k gives r on these operands, with 9 sampled
 abbrev gives : ℕ → ℕ → ℕ → ℕ → ℕ → Bool
@@ -87,5 +87,5 @@ tests =
     ∷ []
 
 pub worked-examples : T (every tests)
-unfolding evalOf exactOf overOf
+unfolding evalOf overOf
 worked-examples = tt

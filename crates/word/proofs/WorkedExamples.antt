@@ -1,11 +1,11 @@
--- Worked examples, one computed table: P4, P5 and P6 of the scope paper, then both ends of each code. Assumes nothing.
+-- Worked examples, one computed table: P4, P5 and P6 of the scope paper, then both ends of each code, and sums that go over or just do not. Assumes nothing.
 use Prim.Native.Nat.{ℕ}
-use mathlib.Core.Bool.{Bool, true, _&&_}
+use mathlib.Core.Bool.{Bool, true, not, _&&_}
 use mathlib.Core.List.{List, [], _∷_}
 use lib.IntN.{ℤ, pos, negsuc}
 use lib.Signed.{leZ}
 use lib.Dec.{T, eqb}
-use Rattle.word.specs.Word.{evalOf, signedOf}
+use Rattle.word.specs.Word.{evalOf, signedOf, overOf}
 
 -- code k gives r on these operands, with 9 sampled
 abbrev gives : ℕ → ℕ → ℕ → ℕ → ℕ → Bool
@@ -14,6 +14,10 @@ gives k a b c r = eqb (evalOf 9 k a b c) r
 -- the word x is the signed number z
 abbrev reads : ℕ → ℤ → Bool
 reads x z = leZ (signedOf x) z && leZ z (signedOf x)
+
+-- the signed result of code k does not leave the range
+abbrev stays : ℕ → ℕ → ℕ → Bool
+stays k a b = not (overOf k a b)
 
 abbrev every : List Bool → Bool
 every [] = true
@@ -53,8 +57,35 @@ tests =
     ∷ gives 0 5 6 7 0
     ∷ gives 21 5 6 7 0
     ∷ gives 4294967295 5 6 7 0
+    -- sums, above and below the range
+    ∷ overOf 3 2147483647 1
+    ∷ stays 3 2147483646 1
+    ∷ overOf 3 2147483648 4294967295
+    ∷ stays 3 2147483649 4294967295
+    ∷ overOf 3 2147483648 2147483648
+    ∷ stays 3 2147483648 2147483647
+    -- a carry that is none of the signed sum: -1 + 1
+    ∷ stays 3 4294967295 1
+    -- differences, above and below the range
+    ∷ overOf 4 2147483647 4294967295
+    ∷ stays 4 2147483646 4294967295
+    ∷ overOf 4 2147483648 1
+    ∷ stays 4 2147483649 1
+    ∷ overOf 4 0 2147483648
+    ∷ stays 4 4294967295 2147483648
+    -- a borrow that is none of the signed difference: 1 - 2
+    ∷ stays 4 1 2
+    -- no other code goes over
+    ∷ stays 0 2147483647 1
+    ∷ stays 2 2147483647 1
+    ∷ stays 5 2147483647 1
+    ∷ stays 8 2147483647 1
+    ∷ stays 19 2147483647 1
+    ∷ stays 20 2147483647 1
+    ∷ stays 21 2147483647 1
+    ∷ stays 4294967295 2147483647 1
     ∷ []
 
 pub worked-examples : T (every tests)
-unfolding evalOf
+unfolding evalOf overOf
 worked-examples = tt

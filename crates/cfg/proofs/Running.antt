@@ -63,13 +63,13 @@ pub over-is : (i : Instruction) (rs : List ℕ) → Within i
     → overOf (i .code) (getD rs (i .a % maxRegisters) 0) (getD rs (i .b % maxRegisters) 0) ≡ instructionOver i rs
 over-is i rs w = go (eqb (i .code) 1) refl
   where
-    set : (a b : ℕ) → i .code ≡ 1 → overOf (i .code) a b ≡ false
-    set a b e = over-other (i .code) a b (λ h. omega arith) (λ h. omega arith)
+    of-set : (a b : ℕ) → i .code ≡ 1 → overOf (i .code) a b ≡ false
+    of-set a b e = over-other (i .code) a b (λ h. omega arith) (λ h. omega arith)
 
     go : (t : Bool) → eqb (i .code) 1 ≡ t → overOf (i .code) (getD rs (i .a % maxRegisters) 0) (getD rs (i .b % maxRegisters) 0) ≡ instructionOver i rs
     go true e =
         let h = eqb-true (i .code) 1 e in
-        set (getD rs (i .a % maxRegisters) 0) (getD rs (i .b % maxRegisters) 0) h ∙ sym (set (getD rs (i .a) 0) (getD rs (i .b) 0) h)
+        of-set (getD rs (i .a % maxRegisters) 0) (getD rs (i .b % maxRegisters) 0) h ∙ sym (of-set (getD rs (i .a) 0) (getD rs (i .b) 0) h)
     go false e =
         let l = w .first (eqb-false (i .code) 1 e) in
         let m = w .second in
@@ -96,7 +96,7 @@ over-cons : (s : ℕ) (i : Instruction) (is : List Instruction) (rs : List ℕ)
 unfolding instructionsOver
 over-cons s i is rs = refl
 
-module _ (s : ℕ) (k : Block) (fits : k .count ≤ length (k .instructions)) where
+module _ (k : Block) (fits : k .count ≤ length (k .instructions)) where
   -- the instructions from one on: it, and those after it
   from-next : (i : ℕ) → i < k .count → drop i (instructionsOf k) ≡ getD (k .instructions) i noInstruction ∷ drop (i + 1) (instructionsOf k)
   from-next i h =
@@ -109,14 +109,15 @@ module _ (s : ℕ) (k : Block) (fits : k .count ≤ length (k .instructions)) wh
       let n = length-take-le (k .count) (k .instructions) fits in
       drop-of-length-le (instructionsOf k) {i = i} (omega arith)
 
+module _ (s : ℕ) (k : Block) (fits : k .count ≤ length (k .instructions)) where
   pub code-next : (i : ℕ) (rs : List ℕ) → i < k .count
       → executeAll s (drop i (instructionsOf k)) rs ≡ executeAll s (drop (i + 1) (instructionsOf k)) (execute s (getD (k .instructions) i noInstruction) rs)
   code-next i rs h =
-      ap (λ (l : List Instruction). executeAll s l rs) (from-next i h)
+      ap (λ (l : List Instruction). executeAll s l rs) (from-next k fits i h)
       ∙ execute-cons s (getD (k .instructions) i noInstruction) (drop (i + 1) (instructionsOf k)) rs
 
   pub code-done : (i : ℕ) (rs : List ℕ) → k .count ≤ i → executeAll s (drop i (instructionsOf k)) rs ≡ rs
-  code-done i rs h = ap (λ (l : List Instruction). executeAll s l rs) (none-left i h) ∙ execute-nil s rs
+  code-done i rs h = ap (λ (l : List Instruction). executeAll s l rs) (none-left k fits i h) ∙ execute-nil s rs
 
   -- the flag that they leave, where it was f
   pub flag-next : (i : ℕ) (rs : List ℕ) (f : Bool) → i < k .count
@@ -125,13 +126,13 @@ module _ (s : ℕ) (k : Block) (fits : k .count ≤ length (k .instructions)) wh
   flag-next i rs f h =
       let j = getD (k .instructions) i noInstruction in
       let later = drop (i + 1) (instructionsOf k) in
-      ap (λ (l : List Instruction). f || instructionsOver s l rs) (from-next i h)
+      ap (λ (l : List Instruction). f || instructionsOver s l rs) (from-next k fits i h)
       ∙ ap (λ (b : Bool). f || b) (over-cons s j later rs)
       ∙ sym (or-assoc f (instructionOver j rs) (instructionsOver s later (execute s j rs)))
 
   pub flag-done : (i : ℕ) (rs : List ℕ) (f : Bool) → k .count ≤ i → (f || instructionsOver s (drop i (instructionsOf k)) rs) ≡ f
   flag-done i rs f h =
-      ap (λ (l : List Instruction). f || instructionsOver s l rs) (none-left i h)
+      ap (λ (l : List Instruction). f || instructionsOver s l rs) (none-left k fits i h)
       ∙ ap (λ (b : Bool). f || b) (over-nil s rs)
       ∙ or-none f
 

@@ -91,7 +91,8 @@ fn ended(answer: RunAnswer, registers: Registers) -> Ran
 
 // The table is checked before: nothing of admission is done here. There is a word for each of the first `limit` arrivals; a move to a
 // block with mark 1 makes the next one. A block's instructions run in order, each seeing the one before, in a loop of the same function:
-// to hand the register file to another and back took up to a third of the time.
+// to hand the register file to another and back took up to a third of the time. One that goes over raises the flag, which stays; `|`
+// takes no jump for it.
 fn run_blocks(
     table: &[u32],
     start: u32,

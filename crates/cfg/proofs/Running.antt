@@ -2,22 +2,24 @@
 use Prim.Native.Nat.{ℕ, suc, _+_, _%_, _≤_, _<_}
 use native.Mathlib.Numerals.{add-one}
 use native.Mathlib.Omega.{arith}
-use mathlib.Core.Path.{_≡_, refl, ap, subst, _∙_}
-use mathlib.Core.Bool.{Bool, true, false}
+use mathlib.Core.Path.{_≡_, refl, sym, ap, subst, _∙_}
+use mathlib.Core.Bool.{Bool, true, false, _||_, or-assoc}
 use mathlib.Core.List.{List, [], _∷_}
 use lib.Dec.{eqb}
 use lib.ListN.{length, getD, drop, set, drop-of-length-le}
 use lib.Seq.{drop-cons, getD-take, length-take-le}
 use borrow.Author.Tests.{eqb-true, eqb-false, eq-eqb, ne-eqb, lt-ltb, le-ltb}
-use Rattle.word.specs.Word.{choose, evalOf, arity}
-use Rattle.runs.specs.Runs.{Place, standing, Configuration, standsAt, Supply, Runner, moved, step}
-use Rattle.runs.proofs.RunLaws.{goes-standing, moved-to, step-going, Reached, reached-step}
+use Rattle.word.specs.Word.{choose, evalOf, overOf, arity}
+use Rattle.word.proofs.OverLaws.{over-other}
+use Rattle.runs.specs.Runs.{Place, standing, Contents, Configuration, standsAt, Supply, Runner, arrivalsAt, moved, step}
+use Rattle.runs.proofs.RunLaws.{goes-standing, step-going, Reached, reached-step}
+use Rattle.runs.proofs.Tests.{or-none}
 use Rattle.cfg.specs.declared.Instruction.{Instruction}
 use Rattle.cfg.specs.declared.Ending.{Ending}
 use Rattle.cfg.specs.declared.Ending.the-variants.{Goto, Ite, Halt}
 use Rattle.cfg.specs.declared.Block.{Block}
 use Rattle.cfg.specs.Layout.{maxRegisters, graphWords}
-use Rattle.cfg.specs.Graph.{noInstruction, instructionsOf, execute, executeAll, holds, leave, runBlock, wordlessGraph}
+use Rattle.cfg.specs.Graph.{noInstruction, instructionsOf, execute, executeAll, instructionOver, instructionsOver, holds, leave, runBlock, wordlessGraph}
 use Rattle.cfg.specs.Table.{blockAt, graphOf, admittedGraph}
 use Rattle.cfg.specs.Run.{startersFit, graphRefusal, graphWordsRefusal}
 use Rattle.cfg.specs.Steps.{Within, EndingWithin, BlockWithin, comparedOf, leaveBy, markedRunner}
@@ -56,6 +58,25 @@ execute-is s i rs w =
         let m : i .a % maxRegisters ≡ i .a = omega arith in
         rw m
 
+-- so may they to tell whether it goes over: a set, whose a is a literal, never does
+pub over-is : (i : Instruction) (rs : List ℕ) → Within i
+    → overOf (i .code) (getD rs (i .a % maxRegisters) 0) (getD rs (i .b % maxRegisters) 0) ≡ instructionOver i rs
+over-is i rs w = go (eqb (i .code) 1) refl
+  where
+    of-set : (a b : ℕ) → i .code ≡ 1 → overOf (i .code) a b ≡ false
+    of-set a b e = over-other (i .code) a b (λ h. omega arith) (λ h. omega arith)
+
+    go : (t : Bool) → eqb (i .code) 1 ≡ t → overOf (i .code) (getD rs (i .a % maxRegisters) 0) (getD rs (i .b % maxRegisters) 0) ≡ instructionOver i rs
+    go true e =
+        let h = eqb-true (i .code) 1 e in
+        of-set (getD rs (i .a % maxRegisters) 0) (getD rs (i .b % maxRegisters) 0) h ∙ sym (of-set (getD rs (i .a) 0) (getD rs (i .b) 0) h)
+    go false e =
+        let l = w .first (eqb-false (i .code) 1 e) in
+        let m = w .second in
+        let first : i .a % maxRegisters ≡ i .a = omega arith in
+        let second : i .b % maxRegisters ≡ i .b = omega arith in
+        rw (first, second)
+
 -- ---- a block's instructions, one after another
 
 execute-nil : (s : ℕ) (rs : List ℕ) → executeAll s [] rs ≡ rs
@@ -66,20 +87,54 @@ execute-cons : (s : ℕ) (i : Instruction) (is : List Instruction) (rs : List �
 unfolding executeAll
 execute-cons s i is rs = refl
 
+over-nil : (s : ℕ) (rs : List ℕ) → instructionsOver s [] rs ≡ false
+unfolding instructionsOver
+over-nil s rs = refl
+
+over-cons : (s : ℕ) (i : Instruction) (is : List Instruction) (rs : List ℕ)
+    → instructionsOver s (i ∷ is) rs ≡ (instructionOver i rs || instructionsOver s is (execute s i rs))
+unfolding instructionsOver
+over-cons s i is rs = refl
+
+module _ (k : Block) (fits : k .count ≤ length (k .instructions)) where
+  -- the instructions from one on: it, and those after it
+  from-next : (i : ℕ) → i < k .count → drop i (instructionsOf k) ≡ getD (k .instructions) i noInstruction ∷ drop (i + 1) (instructionsOf k)
+  from-next i h =
+      let n = length-take-le (k .count) (k .instructions) fits in
+      let e = getD-take (k .count) (k .instructions) i noInstruction h in
+      drop-cons (instructionsOf k) i noInstruction (omega arith) ∙ rw (e, add-one)
+
+  none-left : (i : ℕ) → k .count ≤ i → drop i (instructionsOf k) ≡ []
+  none-left i h =
+      let n = length-take-le (k .count) (k .instructions) fits in
+      drop-of-length-le (instructionsOf k) {i = i} (omega arith)
+
 module _ (s : ℕ) (k : Block) (fits : k .count ≤ length (k .instructions)) where
   pub code-next : (i : ℕ) (rs : List ℕ) → i < k .count
       → executeAll s (drop i (instructionsOf k)) rs ≡ executeAll s (drop (i + 1) (instructionsOf k)) (execute s (getD (k .instructions) i noInstruction) rs)
   code-next i rs h =
-      let n = length-take-le (k .count) (k .instructions) fits in
-      let e = getD-take (k .count) (k .instructions) i noInstruction h in
-      ap (λ (l : List Instruction). executeAll s l rs) (drop-cons (instructionsOf k) i noInstruction (omega arith))
-      ∙ execute-cons s (getD (instructionsOf k) i noInstruction) (drop (suc i) (instructionsOf k)) rs
-      ∙ rw (e, add-one)
+      ap (λ (l : List Instruction). executeAll s l rs) (from-next k fits i h)
+      ∙ execute-cons s (getD (k .instructions) i noInstruction) (drop (i + 1) (instructionsOf k)) rs
 
   pub code-done : (i : ℕ) (rs : List ℕ) → k .count ≤ i → executeAll s (drop i (instructionsOf k)) rs ≡ rs
-  code-done i rs h =
-      let n = length-take-le (k .count) (k .instructions) fits in
-      ap (λ (l : List Instruction). executeAll s l rs) (drop-of-length-le (instructionsOf k) {i = i} (omega arith)) ∙ execute-nil s rs
+  code-done i rs h = ap (λ (l : List Instruction). executeAll s l rs) (none-left k fits i h) ∙ execute-nil s rs
+
+  -- the flag that they leave, where it was f
+  pub flag-next : (i : ℕ) (rs : List ℕ) (f : Bool) → i < k .count
+      → (f || instructionsOver s (drop i (instructionsOf k)) rs)
+      ≡ ((f || instructionOver (getD (k .instructions) i noInstruction) rs) || instructionsOver s (drop (i + 1) (instructionsOf k)) (execute s (getD (k .instructions) i noInstruction) rs))
+  flag-next i rs f h =
+      let j = getD (k .instructions) i noInstruction in
+      let later = drop (i + 1) (instructionsOf k) in
+      ap (λ (l : List Instruction). f || instructionsOver s l rs) (from-next k fits i h)
+      ∙ ap (λ (b : Bool). f || b) (over-cons s j later rs)
+      ∙ sym (or-assoc f (instructionOver j rs) (instructionsOver s later (execute s j rs)))
+
+  pub flag-done : (i : ℕ) (rs : List ℕ) (f : Bool) → k .count ≤ i → (f || instructionsOver s (drop i (instructionsOf k)) rs) ≡ f
+  flag-done i rs f h =
+      ap (λ (l : List Instruction). f || instructionsOver s l rs) (none-left k fits i h)
+      ∙ ap (λ (b : Bool). f || b) (over-nil s rs)
+      ∙ or-none f
 
 -- ---- what admission gives of a block that is run
 
@@ -156,34 +211,36 @@ next-below t a n l rs m h = leave-below (getD t 0 0) (getD t 1 0) (blockAt t n .
 -- ---- one step
 
 run-is : (w : ℕ) (k : Block) (rs : List ℕ)
-    → runBlock w k rs ≡ record { place = leave (k .ending) (executeAll w (instructionsOf k) rs); registers = executeAll w (instructionsOf k) rs }
+    → runBlock w k rs ≡ record { place = leave (k .ending) (executeAll w (instructionsOf k) rs); registers = executeAll w (instructionsOf k) rs; over = instructionsOver w (instructionsOf k) rs }
 unfolding runBlock
 run-is w k rs = refl
 
 -- a turn of the loop, from arrival k, for which there is a word
-pub turn : (t marks : List ℕ) (ws : Supply) (budget : ℕ) (c₀ : Configuration) (count k n : ℕ) (rs after : List ℕ) (p : Place)
+pub turn : (t marks : List ℕ) (ws : Supply) (budget : ℕ) (c₀ : Configuration) (count k n : ℕ) (before after : Contents) (p : Place)
     → n < getD t 0 0 → count < budget → ws .lasts k ≡ true
-    → Reached (markedRunner (graphOf t) marks) ws budget c₀ count (standsAt k n rs)
-    → after ≡ executeAll (ws .word k) (instructionsOf (blockAt t n)) rs
-    → p ≡ leave (blockAt t n .ending) after
-    → Reached (markedRunner (graphOf t) marks) ws budget c₀ (count + 1) (moved (λ b. eqb (getD marks b 0) 1) k (record { place = p; registers = after }))
-turn t marks ws budget c₀ count k n rs after p l h w r e q =
+    → Reached (markedRunner (graphOf t) marks) ws budget c₀ count (standsAt k n before)
+    → after .registers ≡ executeAll (ws .word k) (instructionsOf (blockAt t n)) (before .registers)
+    → after .flag ≡ (before .flag || instructionsOver (ws .word k) (instructionsOf (blockAt t n)) (before .registers))
+    → p ≡ leave (blockAt t n .ending) (after .registers)
+    → Reached (markedRunner (graphOf t) marks) ws budget c₀ (count + 1) (record { place = p; contents = after; arrivals = arrivalsAt (λ b. eqb (getD marks b 0) 1) p k })
+turn t marks ws budget c₀ count k n before after p l h w r e f q =
     let g = markedRunner (graphOf t) marks in
-    let c = standsAt k n rs in
-    let m : step g ws c ≡ moved (g .arrives) k (record { place = p; registers = after }) =
+    let c = standsAt k n before in
+    let end : Configuration = record { place = p; contents = after; arrivals = arrivalsAt (g .arrives) p k } in
+    let m : step g ws c ≡ end =
     step-going g ws c n refl w
-    ∙ ap (λ (b : Block). moved (g .arrives) k (runBlock (ws .word k) b rs)) (block-below t n l)
-    ∙ ap (moved (g .arrives) k) (run-is (ws .word k) (blockAt t n) rs)
-    ∙ rw (← e, ← q) in
+    ∙ ap (λ (b : Block). moved (g .arrives) c (runBlock (ws .word k) b (before .registers))) (block-below t n l)
+    ∙ ap (moved (g .arrives) c) (run-is (ws .word k) (blockAt t n) (before .registers))
+    ∙ rw (← e, ← f, ← q) in
     rw (← m) (reached-step g ws budget c₀ count c r (goes-standing ws c n refl w) h)
 
 -- it stands at block x then, where m says whether that is an arrival
-pub moved-stands : (r : Runner) (ws : Supply) (budget : ℕ) (c₀ : Configuration) (count k x : ℕ) (rs : List ℕ) (m : Bool) → r .arrives x ≡ m
-    → Reached r ws budget c₀ count (moved (r .arrives) k (record { place = standing x; registers = rs }))
-    → Reached r ws budget c₀ count (standsAt (choose m (k + 1) k) x rs)
-moved-stands r ws budget c₀ count k x rs m h =
+pub stands-at : (r : Runner) (ws : Supply) (budget : ℕ) (c₀ : Configuration) (count k x : ℕ) (now : Contents) (m : Bool) → r .arrives x ≡ m
+    → Reached r ws budget c₀ count (record { place = standing x; contents = now; arrivals = arrivalsAt (r .arrives) (standing x) k })
+    → Reached r ws budget c₀ count (standsAt (choose m (k + 1) k) x now)
+stands-at r ws budget c₀ count k x now m h =
     subst (λ (c : Configuration). Reached r ws budget c₀ count c)
-    (moved-to (r .arrives) k (record { place = standing x; registers = rs }) x m refl h ∙ rw (add-one k))
+    (ap (λ (b : Bool). standsAt (choose b (suc k) k) x now) h ∙ rw (add-one k))
 
 -- ---- refusals
 

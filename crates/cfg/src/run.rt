@@ -91,7 +91,8 @@ fn ended(answer: RunAnswer, registers: Registers) -> Ran
 
 // The table is checked before: nothing of admission is done here. There is a word for each of the first `limit` arrivals; a move to a
 // block with mark 1 makes the next one. A block's instructions run in order, each seeing the one before, in a loop of the same function:
-// to hand the register file to another and back took up to a third of the time.
+// to hand the register file to another and back took up to a third of the time. One that goes over raises the flag, which stays; `|`
+// takes no jump for it.
 fn run_blocks(
     table: &[u32],
     start: u32,
@@ -106,11 +107,12 @@ fn run_blocks(
 {
     let mut at = start;
     let mut current = file;
+    let mut flag = false;
     let mut count = 0;
     let mut arrivals = 0;
     while count < budget {
         if limit <= arrivals {
-            return ended(RunAnswer::Dry(count, at), current);
+            return ended(RunAnswer::Dry(count, at, flag), current);
         }
         let block = decode::block_at(table, at as usize);
         let sampled = runs::sampled(words, arrivals);
@@ -121,7 +123,10 @@ fn run_blocks(
             // A set's literal names no register: whatever is read there is not used.
             let a = next.a as usize % Registers::COUNT;
             let b = next.b as usize % Registers::COUNT;
-            let value = value_of(sampled, next, current.words[a], current.words[b]);
+            let x = current.words[a];
+            let y = current.words[b];
+            flag = flag | word::over(next.code, x, y);
+            let value = value_of(sampled, next, x, y);
             let after = current.put(next.d as usize, value);
             current = after;
             i += 1;
@@ -132,14 +137,14 @@ fn run_blocks(
         let a = c.a as usize % Registers::COUNT;
         let b = c.b as usize % Registers::COUNT;
         let Next::To(t) = next_of(ending, current.words[a], current.words[b]) else {
-            return ended(RunAnswer::Halted(count), current);
+            return ended(RunAnswer::Halted(count, flag), current);
         };
         if marks[t as usize] == 1 {
             arrivals += 1;
         }
         at = t;
     }
-    ended(RunAnswer::Spent(count, at), current)
+    ended(RunAnswer::Spent(count, at, flag), current)
 }
 
 // A run on the registers of a buffer; its words from 16 up stay.

@@ -1,7 +1,7 @@
 -- `cfg::run::run_blocks` meets its contract: a turn of the outer loop is a step, the inner one runs the block's instructions. Assumes nothing.
 use Prim.Native.Nat.{ℕ, _+_, _-_, _%_, _≤_, _<_}
 use native.Mathlib.Omega.{arith}
-use mathlib.Core.Bool.{Bool, true, false}
+use mathlib.Core.Bool.{Bool, true, false, _||_}
 use mathlib.Core.List.{List}
 use mathlib.Core.Path.{_≡_, refl, sym, ap, subst, _∙_}
 use lib.Dec.{eqb}
@@ -10,33 +10,34 @@ use borrow.Author.Tests.{lt-ltb, le-ltb, eq-eqb, ne-eqb}
 use Rattle.runs.proofs.RunLaws.{dry-ends, Reached, reached-start, reached-spent, registers-spent, reached-halted, reached-dry, registers-ended}
 use Rattle.word.specs.Word.{choose}
 use Rattle.word.specs.declared.Registers.{Registers}
-use Rattle.runs.specs.Runs.{Place, standing, halted, Configuration, standsAt, startAt, Supply, upTo, moved}
+use Rattle.runs.specs.Runs.{Place, standing, halted, Contents, Configuration, standsAt, startAt, Supply, upTo, arrivalsAt}
 use Rattle.cfg.specs.declared.Condition.{Condition}
 use Rattle.cfg.specs.declared.Block.{Block}
 use Rattle.cfg.specs.Layout.{maxRegisters}
 use Rattle.cfg.specs.Steps.{EndingWithin, BlockWithin, leaveBy, placeOf, markedRunner}
 use Rattle.cfg.specs.Table.{blockCount, blockAt, graphOf}
-use Rattle.cfg.specs.Graph.{noInstruction, instructionsOf, executeAll, leave}
-use Rattle.cfg.proofs.Running.{execute-is, code-next, code-done, block-within, ending-within, leave-is, next-below, turn, moved-stands}
+use Rattle.cfg.specs.Graph.{noInstruction, instructionsOf, executeAll, instructionsOver, leave}
+use Rattle.cfg.proofs.Running.{execute-is, over-is, code-next, code-done, flag-next, flag-done, block-within, ending-within, leave-is, next-below, turn, stands-at}
 use Rattle.cfg.proofs.Admitted.{admitted-facts}
 use borrow.Author.Needs.{needs}
 use Rattle.cfg.proofs.run.run_blocks.Statement.{statement}
 use Rattle.cfg.proofs.run.run_blocks.Tie as tie
 
 abbrev Inv-loop2 : tie.InvT-loop2
-Inv-loop2 table start budget words limit marks at current₀ count arrivals block sampled used i₀ current i =
+Inv-loop2 table start budget words limit marks at current₀ flag₀ count arrivals block sampled used i₀ current flag i =
     (i ≤ block .count) × (executeAll sampled (instructionsOf block) (current₀ .words) ≡ executeAll sampled (drop i (instructionsOf block)) (current .words))
+    × ((flag₀ || instructionsOver sampled (instructionsOf block) (current₀ .words)) ≡ (flag || instructionsOver sampled (drop i (instructionsOf block)) (current .words)))
 
 abbrev μ-loop2 : tie.MeasureT-loop2
-μ-loop2 table start budget words limit marks at current₀ count arrivals block sampled used i₀ current i = block .count - i
+μ-loop2 table start budget words limit marks at current₀ flag₀ count arrivals block sampled used i₀ current flag i = block .count - i
 
 abbrev Inv-loop : tie.InvT-loop
-Inv-loop table start budget words limit marks at₀ current₀ count₀ arrivals₀ at current count arrivals =
+Inv-loop table start budget words limit marks at₀ current₀ flag₀ count₀ arrivals₀ at current flag count arrivals =
     (at < blockCount table) × (arrivals ≤ count)
-    × Reached (markedRunner (graphOf table) marks) (upTo limit words) budget (startAt start (current₀ .words)) count (standsAt arrivals at (current .words))
+    × Reached (markedRunner (graphOf table) marks) (upTo limit words) budget (startAt start (current₀ .words)) count (standsAt arrivals at (record { registers = current .words; flag = flag }))
 
 abbrev μ-loop : tie.MeasureT-loop
-μ-loop table start budget words limit marks at₀ current₀ count₀ arrivals₀ at current count arrivals = budget - count
+μ-loop table start budget words limit marks at₀ current₀ flag₀ count₀ arrivals₀ at current flag count arrivals = budget - count
 
 loop-holds : tie.Need-loop-holds Inv-loop2 μ-loop2 Inv-loop μ-loop
 loop-holds c =
@@ -53,7 +54,7 @@ returns c =
     let r = markedRunner (graphOf (k .args .table .now)) (k .args .marks .now) in
     let ws = upTo (k .args .limit) (k .args .words .now) in
     let c₀ = startAt (k .args .start) (k .args .file .words) in
-    let s = standsAt (l .arrivals) (l .at) (l .current .words) in
+    let s = standsAt (l .arrivals) (l .at) (record { registers = l .current .words; flag = l .flag }) in
     let d = dry-ends ws s (l .at) refl (le-ltb (l .arrivals) (k .args .limit) (omega (arith, c .before .if1 .taken))) in (
       c .ended .ensures .0 ∙ sym (reached-dry r ws (k .args .budget) c₀ (l .count) s (l .inv .2) d (l .at) refl (omega (arith, c .before .before .loop-test .taken))),
       ap (λ (f : Registers). f .words) (c .ended .ensures .1) ∙ sym (registers-ended r ws (k .args .budget) c₀ (l .count) s (l .inv .2) d),
@@ -83,22 +84,24 @@ module _ (d : tie.After-block-at Inv-loop2 μ-loop2 Inv-loop μ-loop) where
 element-copy-out-next : tie.Need-element-copy-out-next Inv-loop2 μ-loop2 Inv-loop μ-loop
 element-copy-out-next c = let f = inside (c .before .before .before) .few in omega (arith, c .loop2-test .taken)
 
-element-copy-out-value-of-2 :
-    tie.Need-element-copy-out-value-of-2 Inv-loop2 μ-loop2 Inv-loop μ-loop
-element-copy-out-value-of-2 c = search needs
-
 loop2-again : tie.Need-loop2-again Inv-loop2 μ-loop2 Inv-loop μ-loop
 loop2-again c =
-    let d = c .before .before .before .before .before .before .before .before .before .before .before in
+    let d = c .before .before .before .before .before .before .before .before .before .before .before .before in
     let b = d .block-at .result in
-    let s = c .before .before .before .before .before .before .before .before .before .before .sampled .result in
-    let l = c .before .before .before .before .before .before .before .before .before .loop2 in
+    let s = c .before .before .before .before .before .before .before .before .before .before .before .sampled .result in
+    let l = c .before .before .before .before .before .before .before .before .before .before .loop2 in
     let rs = l .current .words in
-    let below : l .i < b .count = omega (arith, c .before .before .before .before .before .before .before .before .loop2-test .taken) in
+    let below : l .i < b .count = omega (arith, c .before .before .before .before .before .before .before .before .before .loop2-test .taken) in
     let i = getD (b .instructions) (l .i) noInstruction in
+    let w = inside d .each (l .i) below in
+    let later = drop (l .i + 1) (instructionsOf b) in
     let written = ap (λ (f : Registers). f .words) (c .put .ensures) ∙ ap (set rs (i .d)) (c .before .before .value-of .ensures) in
-    let run = execute-is s i rs (inside d .each (l .i) below) ∙ sym written in
-    (omega arith, l .inv .1 ∙ code-next s b (inside d .fits) (l .i) rs below ∙ ap (executeAll s (drop (l .i + 1) (instructionsOf b))) run)
+    let run = execute-is s i rs w ∙ sym written in
+    let raised = sym (c .before .before .before .over .ensures ∙ over-is i rs w) in (
+      omega arith,
+      l .inv .1 ∙ code-next s b (inside d .fits) (l .i) rs below ∙ ap (executeAll s later) run,
+      l .inv .2 ∙ flag-next s b (inside d .fits) (l .i) rs (l .flag) below ∙ rw (run, raised),
+    )
 
 -- what is known once the block has run and its ending is told
 module _ (d : tie.After-next-of Inv-loop2 μ-loop2 Inv-loop μ-loop) where
@@ -114,50 +117,60 @@ module _ (d : tie.After-next-of Inv-loop2 μ-loop2 Inv-loop μ-loop) where
   abbrev from : Configuration
   from = startAt (d .before .before .before .before .before .before .before .before .before .before .before .before .before .before .before .before .args .start) (d .before .before .before .before .before .before .before .before .before .before .before .before .before .before .before .before .args .file .words)
 
-  abbrev after : List ℕ
-  after = d .before .before .before .before .before .before .before .loop2 .current .words
+  -- before the block and after it
+  abbrev old : Contents
+  old = record { registers = d .before .before .before .before .before .before .before .before .before .before .before .before .loop .current .words; flag = d .before .before .before .before .before .before .before .before .before .before .before .before .loop .flag }
 
-  ran : after ≡ executeAll (ws .word (d .before .before .before .before .before .before .before .before .before .before .before .before .loop .arrivals)) (instructionsOf (blockAt t (d .before .before .before .before .before .before .before .before .before .before .before .before .loop .at))) (d .before .before .before .before .before .before .before .before .before .before .before .before .loop .current .words)
+  abbrev new : Contents
+  new = record { registers = d .before .before .before .before .before .before .before .loop2 .current .words; flag = d .before .before .before .before .before .before .before .loop2 .flag }
+
+  -- what holds of the word and the block at hand holds of the run's
+  code-run : {X : Type 0} (f : ℕ → Block → X) → f (d .before .before .before .before .before .before .before .before .sampled .result) (d .before .before .before .before .before .before .before .before .before .block-at .result) ≡ f (ws .word (d .before .before .before .before .before .before .before .before .before .before .before .before .loop .arrivals)) (blockAt t (d .before .before .before .before .before .before .before .before .before .before .before .before .loop .at))
+  code-run f = ap (f (d .before .before .before .before .before .before .before .before .sampled .result)) (d .before .before .before .before .before .before .before .before .before .block-at .ensures) ∙ ap (λ (w : ℕ). f w (blockAt t (d .before .before .before .before .before .before .before .before .before .before .before .before .loop .at))) (d .before .before .before .before .before .before .before .before .sampled .ensures)
+
+  ran : new .registers ≡ executeAll (ws .word (d .before .before .before .before .before .before .before .before .before .before .before .before .loop .arrivals)) (instructionsOf (blockAt t (d .before .before .before .before .before .before .before .before .before .before .before .before .loop .at))) (old .registers)
   ran =
-      let b = d .before .before .before .before .before .before .before .before .before .block-at .result in
-      let s = d .before .before .before .before .before .before .before .before .sampled .result in
-      let rs = d .before .before .before .before .before .before .before .before .before .before .before .before .loop .current .words in
-      sym (d .before .before .before .before .before .before .before .loop2 .inv .1 ∙ code-done s b (inside (d .before .before .before .before .before .before .before .before .before) .fits) (d .before .before .before .before .before .before .before .loop2 .i) after (omega (arith, d .before .before .before .before .before .before .loop2-test .left)))
-      ∙ ap (λ (x : Block). executeAll s (instructionsOf x) rs) (d .before .before .before .before .before .before .before .before .before .block-at .ensures)
-      ∙ ap (λ (w : ℕ). executeAll w (instructionsOf (blockAt t (d .before .before .before .before .before .before .before .before .before .before .before .before .loop .at))) rs) (d .before .before .before .before .before .before .before .before .sampled .ensures)
+      sym (d .before .before .before .before .before .before .before .loop2 .inv .1 ∙ code-done (d .before .before .before .before .before .before .before .before .sampled .result) (d .before .before .before .before .before .before .before .before .before .block-at .result) (inside (d .before .before .before .before .before .before .before .before .before) .fits) (d .before .before .before .before .before .before .before .loop2 .i) (new .registers) (omega (arith, d .before .before .before .before .before .before .loop2-test .left)))
+      ∙ code-run (λ w b. executeAll w (instructionsOf b) (old .registers))
 
-  leads : (p : Place) → placeOf (d .next-of .result) ≡ p → p ≡ leave (blockAt t (d .before .before .before .before .before .before .before .before .before .before .before .before .loop .at) .ending) after
+  raised : new .flag ≡ (old .flag || instructionsOver (ws .word (d .before .before .before .before .before .before .before .before .before .before .before .before .loop .arrivals)) (instructionsOf (blockAt t (d .before .before .before .before .before .before .before .before .before .before .before .before .loop .at))) (old .registers))
+  raised =
+      sym (d .before .before .before .before .before .before .before .loop2 .inv .2 ∙ flag-done (d .before .before .before .before .before .before .before .before .sampled .result) (d .before .before .before .before .before .before .before .before .before .block-at .result) (inside (d .before .before .before .before .before .before .before .before .before) .fits) (d .before .before .before .before .before .before .before .loop2 .i) (new .registers) (new .flag) (omega (arith, d .before .before .before .before .before .before .loop2-test .left)))
+      ∙ code-run (λ w b. old .flag || instructionsOver w (instructionsOf b) (old .registers))
+
+  leads : (p : Place) → placeOf (d .next-of .result) ≡ p → p ≡ leave (blockAt t (d .before .before .before .before .before .before .before .before .before .before .before .before .loop .at) .ending) (new .registers)
   leads p e =
       let b = d .before .before .before .before .before .before .before .before .before .block-at .result in
       let h = ending-within t (admitted-facts t (d .before .before .before .before .before .before .before .before .before .before .before .before .before .before .before .before .pre .0)) (d .before .before .before .before .before .before .before .before .before .before .before .before .loop .at) (d .before .before .before .before .before .before .before .before .before .before .before .before .loop .inv .0) in
       sym e
       ∙ d .next-of .ensures
-      ∙ ap (λ (q : Condition). leaveBy (b .ending) (getD after (q .a % maxRegisters) 0) (getD after (q .b % maxRegisters) 0)) (d .before .before .before .before .before .compared .ensures)
-      ∙ leave-is (b .ending) after (subst (λ (x : Block). EndingWithin (x .ending)) (sym (d .before .before .before .before .before .before .before .before .before .block-at .ensures)) h)
-      ∙ ap (λ (x : Block). leave (x .ending) after) (d .before .before .before .before .before .before .before .before .before .block-at .ensures)
+      ∙ ap (λ (q : Condition). leaveBy (b .ending) (getD (new .registers) (q .a % maxRegisters) 0) (getD (new .registers) (q .b % maxRegisters) 0)) (d .before .before .before .before .before .compared .ensures)
+      ∙ leave-is (b .ending) (new .registers) (subst (λ (x : Block). EndingWithin (x .ending)) (sym (d .before .before .before .before .before .before .before .before .before .block-at .ensures)) h)
+      ∙ ap (λ (x : Block). leave (x .ending) (new .registers)) (d .before .before .before .before .before .before .before .before .before .block-at .ensures)
 
   runs-on : (p : Place) → placeOf (d .next-of .result) ≡ p
       → Reached (markedRunner (graphOf t) marks) ws (d .before .before .before .before .before .before .before .before .before .before .before .before .before .before .before .before .args .budget) from (d .before .before .before .before .before .before .before .before .before .before .before .before .loop .count + 1)
-      (moved (λ n. eqb (getD marks n 0) 1) (d .before .before .before .before .before .before .before .before .before .before .before .before .loop .arrivals) (record { place = p; registers = after }))
+      (record { place = p; contents = new; arrivals = arrivalsAt (λ n. eqb (getD marks n 0) 1) p (d .before .before .before .before .before .before .before .before .before .before .before .before .loop .arrivals) })
   runs-on p e =
       let k = d .before .before .before .before .before .before .before .before .before .before .before .before .before .before .before .before in
       let l = d .before .before .before .before .before .before .before .before .before .before .before .before .loop in
-      turn t marks ws (k .args .budget) from (l .count) (l .arrivals) (l .at) (l .current .words) after p (l .inv .0)
+      turn t marks ws (k .args .budget) from (l .count) (l .arrivals) (l .at) old new p (l .inv .0)
       (omega (arith, d .before .before .before .before .before .before .before .before .before .before .before .loop-test .taken))
       (lt-ltb (l .arrivals) (k .args .limit) (omega (arith, d .before .before .before .before .before .before .before .before .before .before .if1 .left)))
       (l .inv .2)
       ran
+      raised
       (leads p e)
 
   -- the next block is one, and standing there is an arrival where its mark is 1
   below : (x : ℕ) → placeOf (d .next-of .result) ≡ standing x → x < blockCount t
-  below x e = next-below t (admitted-facts t (d .before .before .before .before .before .before .before .before .before .before .before .before .before .before .before .before .pre .0)) (d .before .before .before .before .before .before .before .before .before .before .before .before .loop .at) (d .before .before .before .before .before .before .before .before .before .before .before .before .loop .inv .0) after x (sym (leads (standing x) e))
+  below x e = next-below t (admitted-facts t (d .before .before .before .before .before .before .before .before .before .before .before .before .before .before .before .before .pre .0)) (d .before .before .before .before .before .before .before .before .before .before .before .before .loop .at) (d .before .before .before .before .before .before .before .before .before .before .before .before .loop .inv .0) (new .registers) x (sym (leads (standing x) e))
 
   stands : (x : ℕ) (m : Bool) → placeOf (d .next-of .result) ≡ standing x → eqb (getD marks x 0) 1 ≡ m
       → Reached (markedRunner (graphOf t) marks) ws (d .before .before .before .before .before .before .before .before .before .before .before .before .before .before .before .before .args .budget) from (d .before .before .before .before .before .before .before .before .before .before .before .before .loop .count + 1)
-      (standsAt (choose m (d .before .before .before .before .before .before .before .before .before .before .before .before .loop .arrivals + 1) (d .before .before .before .before .before .before .before .before .before .before .before .before .loop .arrivals)) x after)
+      (standsAt (choose m (d .before .before .before .before .before .before .before .before .before .before .before .before .loop .arrivals + 1) (d .before .before .before .before .before .before .before .before .before .before .before .before .loop .arrivals)) x new)
   stands x m e h =
-      moved-stands (markedRunner (graphOf t) marks) ws (d .before .before .before .before .before .before .before .before .before .before .before .before .before .before .before .before .args .budget) from (d .before .before .before .before .before .before .before .before .before .before .before .before .loop .count + 1) (d .before .before .before .before .before .before .before .before .before .before .before .before .loop .arrivals) x after m h
+      stands-at (markedRunner (graphOf t) marks) ws (d .before .before .before .before .before .before .before .before .before .before .before .before .before .before .before .before .args .budget) from (d .before .before .before .before .before .before .before .before .before .before .before .before .loop .count + 1) (d .before .before .before .before .before .before .before .before .before .before .before .before .loop .arrivals) x new m h
       (runs-on (standing x) e)
 
 returns-2 : tie.Need-returns-2 Inv-loop2 μ-loop2 Inv-loop μ-loop
@@ -166,7 +179,7 @@ returns-2 c =
     let k = d .before .before .before .before .before .before .before .before .before .before .before .before .before .before .before .before in
     let l = d .before .before .before .before .before .before .before .before .before .before .before .before .loop in
     let r = markedRunner (graphOf (t d)) (marks d) in
-    let end : Configuration = record { place = halted; registers = after d; arrivals = l .arrivals } in
+    let end : Configuration = record { place = halted; contents = new d; arrivals = l .arrivals } in
     let h = runs-on d halted (ap placeOf (c .before .enum-told .given .1)) in (
       c .ended2 .ensures .0 ∙ sym (reached-halted r (ws d) (k .args .budget) (from d) (l .count + 1) end h refl refl),
       ap (λ (f : Registers). f .words) (c .ended2 .ensures .1) ∙ sym (registers-ended r (ws d) (k .args .budget) (from d) (l .count + 1) end h refl),
@@ -199,7 +212,7 @@ returns-3 c =
     let r = markedRunner (graphOf (k .args .table .now)) (k .args .marks .now) in
     let ws = upTo (k .args .limit) (k .args .words .now) in
     let c₀ = startAt (k .args .start) (k .args .file .words) in
-    let s = standsAt (l .arrivals) (l .at) (l .current .words) in (
+    let s = standsAt (l .arrivals) (l .at) (record { registers = l .current .words; flag = l .flag }) in (
       c .ended3 .ensures .0 ∙ sym (reached-spent r ws (k .args .budget) c₀ (l .count) s (l .inv .2) (l .at) refl (omega (arith, c .before .loop-test .left))),
       ap (λ (f : Registers). f .words) (c .ended3 .ensures .1) ∙ sym (registers-spent r ws (k .args .budget) c₀ (l .count) s (l .inv .2) (omega (arith, c .before .loop-test .left))),
     )
@@ -227,7 +240,8 @@ run-blocks-spec =
     (λ c. search needs)
     (λ c. search needs)
     (λ c. search needs)
-    element-copy-out-value-of-2
+    (λ c. search needs)
+    (λ c κs. search needs)
     (λ c κs. search needs)
     (λ c. search needs)
     (λ c κs. search needs)

@@ -1,35 +1,39 @@
--- Sums that go over: which codes can, and what it says of the word that they give. Assumes nothing.
-use Prim.Native.Nat.{ℕ, zero, suc, _<_}
-use mathlib.Core.Path.{_≡_, refl, sym, subst}
-use mathlib.Core.Bool.{Bool, true, false}
+-- Sums that go over: which codes can, what it says of the word that they give, and how `exact` works it out. Assumes nothing.
+use Prim.Native.Nat.{ℕ, zero, suc, _+_, _-_, _%_, _^_, _<_}
+use native.Mathlib.Omega.{arith}
+use mathlib.Core.Path.{_≡_, refl, sym, ap, _∙_}
+use mathlib.Core.Bool.{Bool, true, false, false≢true}
 use mathlib.Core.Logic.{_⊎_, inl, inr}
-use lib.Dec.{T, lit<}
-use Rattle.word.specs.Word.{addCode, subCode, exactOf, overOf, arity}
+use lib.IntN.{ℤ, pos, negsuc, subℕ, _+ℤ_, _-ℤ_}
+use lib.Dec.{ltb, eqb, lit<}
+use borrow.Author.Tests.{ltb-true, ltb-false, le-ltb, ne-eqb}
+use mir.Syntax.{w64}
+use mir.Val.{SFits}
+use Rattle.word.specs.Word.{choose, signedOf, addOf, subOf, addCode, subCode, evalOf, outside, exactOf, overOf, arity}
+use Rattle.word.proofs.Differences.{mag-difference, inside-difference}
+use Rattle.word.proofs.Levels.{level, level-difference, sum-level, difference-level, AddStays, add-level, SubStays, sub-level}
 
 -- ---- the codes that can
-
-never : {A : Type 0} → false ≡ true → A
-never e = absurd (subst T (sym e) tt)
 
 -- no code but add and sub goes over
 pub over-codes : (k a b : ℕ) → overOf k a b ≡ true → (k ≡ addCode) ⊎ (k ≡ subCode)
 unfolding overOf exactOf
-over-codes zero a b h = never h
-over-codes (suc zero) a b h = never h
-over-codes (suc (suc zero)) a b h = never h
+over-codes zero a b h = absurd (false≢true h)
+over-codes (suc zero) a b h = absurd (false≢true h)
+over-codes (suc (suc zero)) a b h = absurd (false≢true h)
 over-codes (suc (suc (suc zero))) a b h = inl refl
 over-codes (suc (suc (suc (suc zero)))) a b h = inr refl
-over-codes (suc (suc (suc (suc (suc k))))) a b h = never h
+over-codes (suc (suc (suc (suc (suc k))))) a b h = absurd (false≢true h)
 
 pub over-other : (k a b : ℕ) → (k ≡ addCode → ⊥) → (k ≡ subCode → ⊥) → overOf k a b ≡ false
 over-other k a b p q = go (overOf k a b) refl
   where
-    either : (k ≡ addCode) ⊎ (k ≡ subCode) → ⊥
-    either (inl e) = p e
-    either (inr e) = q e
+    neither : (k ≡ addCode) ⊎ (k ≡ subCode) → ⊥
+    neither (inl e) = p e
+    neither (inr e) = q e
 
     go : (t : Bool) → overOf k a b ≡ t → t ≡ false
-    go true e = absurd (either (over-codes k a b e))
+    go true e = absurd (neither (over-codes k a b e))
     go false e = refl
 
 -- operands past a code's arity do not matter
@@ -41,3 +45,76 @@ over-uses a b a′ b′ (suc (suc zero)) p q = refl
 over-uses a b a′ b′ (suc (suc (suc zero))) p q = rw (p (lit< tt), q (lit< tt))
 over-uses a b a′ b′ (suc (suc (suc (suc zero)))) p q = rw (p (lit< tt), q (lit< tt))
 over-uses a b a′ b′ (suc (suc (suc (suc (suc k))))) p q = refl
+
+-- ---- what is not over is exact, and what is exact is not over
+
+wrapped : (x : ℕ) → x % 2 ^ 32 < 2 ^ 32
+wrapped x = omega arith
+
+module _ (a b : ℕ) (h : a < 2 ^ 32) (k : b < 2 ^ 32) where
+  pub add-stays : overOf addCode a b ≡ false → AddStays a b
+  unfolding overOf exactOf
+  add-stays e =
+      let i = inside-difference (level a + level b) (2 ^ 31 + 2 ^ 31) (rw (sum-level a b h k) at e) in
+      record { least = omega arith; most = omega arith }
+
+  pub sub-stays : overOf subCode a b ≡ false → SubStays a b
+  unfolding overOf exactOf
+  sub-stays e =
+      let i = inside-difference (level a + 2 ^ 31) (2 ^ 31 + level b) (rw (difference-level a b h k) at e) in
+      record { least = omega arith; most = omega arith }
+
+  add-exact : AddStays a b → signedOf (addOf a b) ≡ signedOf a +ℤ signedOf b
+  add-exact s =
+      let e = add-level a b s in
+      level-difference (addOf a b) (level a + level b) (2 ^ 31 + 2 ^ 31) (wrapped (a + b)) (omega arith) ∙ sym (sum-level a b h k)
+
+  sub-exact : SubStays a b → signedOf (subOf a b) ≡ signedOf a -ℤ signedOf b
+  sub-exact s =
+      let e = sub-level a b k s in
+      level-difference (subOf a b) (level a + 2 ^ 31) (2 ^ 31 + level b) (wrapped (a + (2 ^ 32 - b))) (omega arith) ∙ sym (difference-level a b h k)
+
+-- a sum or a difference that does not go over is the word's signed reading
+pub not-over-exact : (s k a b c : ℕ) → (k ≡ addCode) ⊎ (k ≡ subCode) → a < 2 ^ 32 → b < 2 ^ 32 → overOf k a b ≡ false → signedOf (evalOf s k a b c) ≡ exactOf k a b
+unfolding evalOf exactOf
+not-over-exact s k a b c (inl i) h g e = rw i (add-exact a b h g (add-stays a b h g (rw i at e)))
+not-over-exact s k a b c (inr i) h g e = rw i (sub-exact a b h g (sub-stays a b h g (rw i at e)))
+
+signed-inside : (x : ℕ) → x < 2 ^ 32 → outside (signedOf x) ≡ false
+signed-inside x h = go (ltb x (2 ^ 31)) refl
+  where
+    go : (t : Bool) → ltb x (2 ^ 31) ≡ t → outside (choose t (pos x) (negsuc (2 ^ 32 - suc x))) ≡ false
+    go true e = let p = ltb-true x (2 ^ 31) e in le-ltb (2 ^ 31 - 1) x (omega arith)
+    go false e = let p = ltb-false x (2 ^ 31) e in rw (le-ltb (2 ^ 31 - 1) (2 ^ 32 - suc x) (omega arith))
+
+-- and no other is: a word whose signed reading is the exact result did not go over
+pub exact-not-over : (s k a b c : ℕ) → signedOf (evalOf s k a b c) ≡ exactOf k a b → overOf k a b ≡ false
+unfolding evalOf exactOf overOf
+exact-not-over s zero a b c e = refl
+exact-not-over s (suc zero) a b c e = refl
+exact-not-over s (suc (suc zero)) a b c e = refl
+exact-not-over s (suc (suc (suc zero))) a b c e = sym (ap outside e) ∙ signed-inside (addOf a b) (wrapped (a + b))
+exact-not-over s (suc (suc (suc (suc zero)))) a b c e = sym (ap outside e) ∙ signed-inside (subOf a b) (wrapped (a + (2 ^ 32 - b)))
+exact-not-over s (suc (suc (suc (suc (suc k))))) a b c e = refl
+
+-- ---- as `exact` works it out, in 64 bits
+
+pub sum-fits : (a b : ℕ) → a < 2 ^ 32 → b < 2 ^ 32 → SFits w64 (signedOf a +ℤ signedOf b)
+sum-fits a b h k =
+    let m = mag-difference (level a + level b) (2 ^ 31 + 2 ^ 31) in
+    rw (sum-level a b h k) (record { sfits = omega arith })
+
+pub difference-fits : (a b : ℕ) → a < 2 ^ 32 → b < 2 ^ 32 → SFits w64 (signedOf a -ℤ signedOf b)
+difference-fits a b h k =
+    let m = mag-difference (level a + 2 ^ 31) (2 ^ 31 + level b) in
+    rw (difference-level a b h k) (record { sfits = omega arith })
+
+pub exact-chosen : (k a b : ℕ) → choose (eqb k subCode) (signedOf a -ℤ signedOf b) (choose (eqb k addCode) (signedOf a +ℤ signedOf b) (pos 0)) ≡ exactOf k a b
+unfolding exactOf
+exact-chosen zero a b = refl
+exact-chosen (suc zero) a b = refl
+exact-chosen (suc (suc zero)) a b = refl
+exact-chosen (suc (suc (suc zero))) a b = refl
+exact-chosen (suc (suc (suc (suc zero)))) a b = refl
+exact-chosen (suc (suc (suc (suc (suc k))))) a b =
+    rw (ne-eqb (suc (suc (suc (suc (suc k))))) subCode (λ e. absurd (omega arith)), ne-eqb (suc (suc (suc (suc (suc k))))) addCode (λ e. absurd (omega arith)))

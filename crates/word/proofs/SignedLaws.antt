@@ -8,10 +8,10 @@ use lib.IntN.{ℤ, pos, negsuc, natAbs, _-ℤ_}
 use lib.Signed.{mag, leZ, nonNeg, shrZ, mag-shr}
 use lib.Dec.{T, ltb, leb·zero}
 use borrow.Author.Tests.{lt-ltb, le-ltb, ltb-true, ltb-false}
-use mir.Syntax.{w32}
+use mir.Syntax.{w32, w64}
 use mir.Val.{toZ, ofZ, sel, Fits, SFits}
 use mir.ValLaws.{sfits-le}
-use mir.Facts.{sfits-toZ, toZ-ofZ, toZ-pos}
+use mir.Facts.{sfits-toZ, sfits-widen, toZ-ofZ, toZ-pos}
 use Rattle.word.specs.Word.{choose, signedOf, wordOf, sxOf}
 
 -- ---- the machine's reading of a word is the definition's
@@ -49,6 +49,11 @@ word-pos (negsuc n) h t = absurd (subst T (sym t) tt)
 pub word-neg : (z : ℤ) → leZ (pos 0) z ≡ false → (negsuc 0 -ℤ z ≡ pos (mag z)) × (4294967295 - mag z ≡ wordOf z)
 word-neg (pos n) t = absurd (subst T (sym (leb·zero n) ∙ t) tt)
 word-neg (negsuc n) t = (less-negsuc n, omega arith)
+
+-- ---- a signed number of 32 bits, kept in 64
+
+pub widened : (z : ℤ) → SFits w32 z → toZ w64 (ofZ w64 (toZ w32 (ofZ w32 z))) ≡ z
+widened z h = rw (toZ-ofZ h) (toZ-ofZ (sfits-widen tt h))
 
 -- ---- shifts of signed readings
 

@@ -2,8 +2,8 @@
 use Prim.Native.Nat.{ℕ, _+_, _-_, _%_, _≤_}
 use native.Mathlib.Omega.{arith}
 use mathlib.Core.Bool.{Bool, true, _||_, or-assoc}
-use mathlib.Core.Path.{_≡_, refl, sym, ap, ap₂, _∙_}
-use lib.ListN.{length, take, drop, length-set, getD}
+use mathlib.Core.Path.{_≡_, refl, sym, ap, _∙_}
+use lib.ListN.{length, take, drop, set, length-set, getD}
 use denote.Ref.{now}
 use borrow.Author.Needs.{needs}
 use Rattle.runs.proofs.Tests.{or-none}
@@ -33,10 +33,41 @@ loop-less : tie.Need-loop-less Inv-loop μ-loop
 loop-less c = omega arith
 
 loop-again : tie.Need-loop-again Inv-loop μ-loop
-loop-again c = ?
+loop-again c =
+    let b = c .before .before .before .before .before .before in
+    let a = b .before .before .before .args in
+    let t = now (a .table) in
+    let n = b .loop .n in
+    let r = getD t 1 0 in
+    let i = c .before .before .before .before .wire in
+    let w = wireAt t (a .first + n) in
+    let below = c .before .before .before .before .before .loop-test .taken in
+    let valid = wire-valid t (a .first) (a .count) r n below (b .loop .inv .2) in
+    let f : ℕ → ℕ = λ x. getD (b .loop .words) (x % roomWords) 0 in
+    let v = c .value .ensures ∙ ap (wireValue (a .sampled) f) (i .ensures) ∙ value-within (a .sampled) (b .loop .words) r n w (omega arith) (omega arith) valid in
+    let o = c .before .before .goes-over .ensures ∙ ap (wireOver f) (i .ensures) ∙ over-within (a .sampled) (b .loop .words) r n w (omega arith) (omega arith) valid in
+    let rest = wiresOver (a .sampled) (take (maxRegisters + (n + 1)) (set (b .loop .words) (maxRegisters + n) (c .value .result))) (drop (n + 1) (wiresFrom t (a .first) (a .count))) in (
+      omega arith,
+      length-set (b .loop .words) (maxRegisters + n) (c .value .result) ∙ b .loop .inv .1,
+      sym (wires-pass t (a .first) (a .count) r n below valid) ∙ b .loop .inv .2,
+      sym (work-next (a .sampled) t (a .first) (a .count) n (b .loop .words) (c .value .result) below (omega arith) v) ∙ b .loop .inv .3,
+      or-assoc (b .loop .over) (c .before .before .goes-over .result) rest
+          ∙ ap (λ (x : Bool). b .loop .over || (x || rest)) o
+          ∙ ap (λ (x : Bool). b .loop .over || x) (sym (over-next (a .sampled) t (a .first) (a .count) n (b .loop .words) (c .value .result) below (omega arith) v))
+          ∙ b .loop .inv .4,
+    )
 
 returns : tie.Need-returns Inv-loop μ-loop
-returns c = ?
+returns c =
+    let b = c .before in
+    let a = b .before .before .before .args in
+    let t = now (a .table) in
+    let n = b .loop .n in
+    let l = take (maxRegisters + n) (b .loop .words) in
+    let e : n ≡ a .count = omega arith in (
+      ap (λ (i : ℕ). take (maxRegisters + i) (b .loop .words)) (sym e) ∙ sym (work-done (a .sampled) t (a .first) (a .count) n l (omega arith)) ∙ b .loop .inv .3,
+      sym (or-none (b .loop .over)) ∙ ap (λ (x : Bool). b .loop .over || x) (sym (over-done (a .sampled) t (a .first) (a .count) n l (omega arith))) ∙ b .loop .inv .4,
+    )
 
 pub work-spec : {M : Type 1} → statement M
 work-spec =

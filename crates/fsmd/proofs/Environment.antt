@@ -2,22 +2,25 @@
 use Prim.Native.Nat.{ℕ, suc, _+_, _%_, _<_, _≤_}
 use native.Mathlib.Omega.{arith}
 use mathlib.Core.List.{List, [], _∷_, _++_, map}
-use mathlib.Core.Bool.{Bool, true, false, _&&_, _||_}
+use mathlib.Core.Bool.{Bool, true, false, not, _&&_, _||_}
 use mathlib.Core.Path.{_≡_, refl, sym, ap, ap₂, _∙_}
 use lib.Dec.{eqb, leb, ltb}
 use lib.ListN.{length, getD, take, drop, set}
 use lib.Seq.{take-suc-set, getD-take}
 use borrow.Author.Tests.{eq-eqb, ne-eqb, ltb-true}
-use Rattle.word.specs.Word.{choose, evalOf, arity}
+use Rattle.word.specs.Word.{choose, evalOf, overOf, arity, setCode, addCode, subCode}
 use Rattle.word.proofs.WireLaws.{eval-uses}
-use Rattle.runs.proofs.ListLaws.{and-left, and-right}
+use Rattle.word.proofs.OverLaws.{over-other}
+use Rattle.runs.proofs.ListLaws.{and-right}
+use Rattle.runs.proofs.Tests.{Compared, compared, same, other}
 use Rattle.runs.specs.Runs.{Place, Moved}
 use Rattle.fsmd.specs.Layout.{maxRegisters, recordOffset, nextStateOffset, nextRegistersOffset, roomWords}
-use Rattle.fsmd.specs.Machine.{wireValue, worked, toState, clock}
+use Rattle.fsmd.specs.Machine.{wireArity, wireValue, worked, wireOver, wiresOver, toState, clock}
 use Rattle.fsmd.specs.Table.{wireAt, stateAt, machineOf, firstWireAt, wireCountAt, validReference, validWire}
 use Rattle.fsmd.specs.declared.Wire.{Wire}
 use Rattle.fsmd.proofs.Machines.{states-length}
 use Rattle.fsmd.proofs.Windows.{wiresFrom, wires-next, wires-end}
+use Rattle.fsmd.proofs.WireReads.{Valid, valid-facts, reads-operands, add-reads, sub-reads}
 
 -- ---- a wire
 
@@ -50,59 +53,95 @@ module _ (s : ℕ) (l : List ℕ) (r n : ℕ) (w : Wire) (few : r ≤ maxRegiste
       let m : x % roomWords ≡ x = omega arith in
       ap (λ (i : ℕ). getD l i 0) m ∙ sym (getD-take (maxRegisters + n) l x 0 h)
 
-  operand-same : (b : Bool) (x : ℕ) → (b || validReference r n x) ≡ true → (b ≡ true → ⊥) → getD l (x % roomWords) 0 ≡ getD (take (maxRegisters + n) l) x 0
-  operand-same true x e h = absurd (h refl)
-  operand-same false x e h = reads-same x e
-
-  first-same : (b c : Bool) → (b || (c || validReference r n (w .a))) ≡ true → (c ≡ true → ⊥) → choose b (w .a) (getD l (w .a % roomWords) 0) ≡ choose b (w .a) (getD (take (maxRegisters + n) l) (w .a) 0)
-  first-same true c e h = refl
-  first-same false c e h = operand-same c (w .a) e h
+  first-same : Valid r n w → 1 ≤ wireArity (w .code) → choose (eqb (w .code) setCode) (w .a) (getD l (w .a % roomWords) 0) ≡ choose (eqb (w .code) setCode) (w .a) (getD (take (maxRegisters + n) l) (w .a) 0)
+  first-same v h = go (compared (w .code) setCode)
+    where
+      go : Compared (w .code) setCode → choose (eqb (w .code) setCode) (w .a) (getD l (w .a % roomWords) 0) ≡ choose (eqb (w .code) setCode) (w .a) (getD (take (maxRegisters + n) l) (w .a) 0)
+      go (same b e) = rw b
+      go (other b e) = rw b (reads-same (w .a) (v .first e h))
 
   pub value-within : wireValue s (λ x. getD l (x % roomWords) 0) w ≡ wireValue s (λ x. getD (take (maxRegisters + n) l) x 0) w
-  unfolding wireValue validWire
+  unfolding wireValue
   value-within =
       let k = w .code in
-      let p = leb 1 k && leb k 20 in
-      let a = eqb k 1 || (ltb (arity k) 1 || validReference r n (w .a)) in
-      let b = ltb (arity k) 2 || validReference r n (w .b) in
-      let c = ltb (arity k) 3 || validReference r n (w .c) in
-      let e3 = and-left (p && a && b) c valid in
-      let e2 = and-left (p && a) b e3 in
+      let v = valid-facts r n w valid in
+      let m = reads-operands k in
       let f : ℕ → ℕ = λ x. getD l (x % roomWords) 0 in
       let g : ℕ → ℕ = λ x. getD (take (maxRegisters + n) l) x 0 in
-      eval-uses s (choose (eqb k 1) (w .a) (f (w .a))) (f (w .b)) (f (w .c)) (choose (eqb k 1) (w .a) (g (w .a))) (g (w .b)) (g (w .c)) k
-      (λ h. first-same (eqb k 1) (ltb (arity k) 1) (and-right p a e2) (λ q. let z = ltb-true (arity k) 1 q in omega arith))
-      (λ h. operand-same (ltb (arity k) 2) (w .b) (and-right (p && a) b e3) (λ q. let z = ltb-true (arity k) 2 q in omega arith))
-      (λ h. operand-same (ltb (arity k) 3) (w .c) (and-right (p && a && b) c valid) (λ q. let z = ltb-true (arity k) 3 q in omega arith))
+      eval-uses s (choose (eqb k setCode) (w .a) (f (w .a))) (f (w .b)) (f (w .c)) (choose (eqb k setCode) (w .a) (g (w .a))) (g (w .b)) (g (w .c)) k
+      (λ h. first-same v (omega arith))
+      (λ h. reads-same (w .b) (v .second (omega arith)))
+      (λ h. reads-same (w .c) (v .third (omega arith)))
 
--- wire n of those from `first` on is worked out, after the words before it
-pub work-next : (s : ℕ) (t : List ℕ) (first count n : ℕ) (l : List ℕ) (v : ℕ) → n < count → maxRegisters + n < length l
-    → v ≡ wireValue s (λ x. getD (take (maxRegisters + n) l) x 0) (wireAt t (first + n))
-    → worked s (take (maxRegisters + n) l) (drop n (wiresFrom t first count)) ≡ worked s (take (maxRegisters + (n + 1)) (set l (maxRegisters + n) v)) (drop (n + 1) (wiresFrom t first count))
-unfolding worked
-work-next s t first count n l v h k e =
+  -- an add or sub reads all three; no other code goes over, whatever is read
+  over-same : (w .code ≡ setCode → ⊥) → 3 ≤ wireArity (w .code) → wireOver (λ x. getD l (x % roomWords) 0) w ≡ wireOver (λ x. getD (take (maxRegisters + n) l) x 0) w
+  unfolding wireOver
+  over-same p h =
+      let v = valid-facts r n w valid in
+      let g : ℕ → ℕ = λ x. getD (take (maxRegisters + n) l) x 0 in
+      ap₂ (λ (x y : ℕ). overOf (w .code) x y && not (eqb (getD l (w .c % roomWords) 0) 0)) (reads-same (w .a) (v .first p (omega arith))) (reads-same (w .b) (v .second (omega arith)))
+      ∙ ap (λ (z : ℕ). overOf (w .code) (g (w .a)) (g (w .b)) && not (eqb z 0)) (reads-same (w .c) (v .third h))
+
+  pub over-within : wireOver (λ x. getD l (x % roomWords) 0) w ≡ wireOver (λ x. getD (take (maxRegisters + n) l) x 0) w
+  unfolding wireOver
+  over-within = go (compared (w .code) addCode) (compared (w .code) subCode)
+    where
+      go : Compared (w .code) addCode → Compared (w .code) subCode → wireOver (λ x. getD l (x % roomWords) 0) w ≡ wireOver (λ x. getD (take (maxRegisters + n) l) x 0) w
+      go (same b e) d = over-same (λ h. omega arith) (rw e (omega (arith, add-reads)))
+      go (other b e) (same d f) = over-same (λ h. omega arith) (rw f (omega (arith, sub-reads)))
+      go (other b e) (other d f) =
+          rw (over-other (w .code) (getD l (w .a % roomWords) 0) (getD l (w .b % roomWords) 0) e f, over-other (w .code) (getD (take (maxRegisters + n) l) (w .a) 0) (getD (take (maxRegisters + n) l) (w .b) 0) e f)
+
+-- ---- the wires from `first` on, one after another
+
+-- the word of wire n stands after those before it
+grown : (l : List ℕ) (n v : ℕ) → maxRegisters + n < length l → take (maxRegisters + (n + 1)) (set l (maxRegisters + n) v) ≡ take (maxRegisters + n) l ++ (v ∷ [])
+grown l n v k =
     let i : maxRegisters + (n + 1) ≡ suc (maxRegisters + n) = omega arith in
-    let e′ : take (maxRegisters + (n + 1)) (set l (maxRegisters + n) v) ≡ take (maxRegisters + n) l ++ (v ∷ []) = ap (λ (j : ℕ). take j (set l (maxRegisters + n) v)) i ∙ take-suc-set l (maxRegisters + n) v k in
-    ap (worked s (take (maxRegisters + n) l)) (wires-next t first count n h)
-    ∙ ap (λ (x : ℕ). worked s (take (maxRegisters + n) l ++ (x ∷ [])) (drop (n + 1) (wiresFrom t first count))) (sym e)
-    ∙ ap (λ (m : List ℕ). worked s m (drop (n + 1) (wiresFrom t first count))) (sym e′)
+    ap (λ (j : ℕ). take j (set l (maxRegisters + n) v)) i ∙ take-suc-set l (maxRegisters + n) v k
 
-pub work-done : (s : ℕ) (t : List ℕ) (first count n : ℕ) (l : List ℕ) → count ≤ n → worked s l (drop n (wiresFrom t first count)) ≡ l
-unfolding worked
-work-done s t first count n l h = rw (wires-end t first count n h)
+module _ (s : ℕ) (t : List ℕ) (first count n : ℕ) (l : List ℕ) where
+  module _ (v : ℕ) (h : n < count) (k : maxRegisters + n < length l) (e : v ≡ wireValue s (λ x. getD (take (maxRegisters + n) l) x 0) (wireAt t (first + n))) where
+    pub work-next : worked s (take (maxRegisters + n) l) (drop n (wiresFrom t first count)) ≡ worked s (take (maxRegisters + (n + 1)) (set l (maxRegisters + n) v)) (drop (n + 1) (wiresFrom t first count))
+    unfolding worked
+    work-next =
+        ap (worked s (take (maxRegisters + n) l)) (wires-next t first count n h)
+        ∙ ap (λ (x : ℕ). worked s (take (maxRegisters + n) l ++ (x ∷ [])) (drop (n + 1) (wiresFrom t first count))) (sym e)
+        ∙ ap (λ (m : List ℕ). worked s m (drop (n + 1) (wiresFrom t first count))) (sym (grown l n v k))
+
+    pub over-next : wiresOver s (take (maxRegisters + n) l) (drop n (wiresFrom t first count))
+        ≡ (wireOver (λ x. getD (take (maxRegisters + n) l) x 0) (wireAt t (first + n)) || wiresOver s (take (maxRegisters + (n + 1)) (set l (maxRegisters + n) v)) (drop (n + 1) (wiresFrom t first count)))
+    unfolding wiresOver
+    over-next =
+        let o = wireOver (λ x. getD (take (maxRegisters + n) l) x 0) (wireAt t (first + n)) in
+        ap (wiresOver s (take (maxRegisters + n) l)) (wires-next t first count n h)
+        ∙ ap (λ (x : ℕ). o || wiresOver s (take (maxRegisters + n) l ++ (x ∷ [])) (drop (n + 1) (wiresFrom t first count))) (sym e)
+        ∙ ap (λ (m : List ℕ). o || wiresOver s m (drop (n + 1) (wiresFrom t first count))) (sym (grown l n v k))
+
+  pub work-done : count ≤ n → worked s l (drop n (wiresFrom t first count)) ≡ l
+  unfolding worked
+  work-done h = rw (wires-end t first count n h)
+
+  pub over-done : count ≤ n → wiresOver s l (drop n (wiresFrom t first count)) ≡ false
+  unfolding wiresOver
+  over-done h = rw (wires-end t first count n h)
 
 -- ---- the cycle of state k, from what its references read
 
 pub clocked : (s : ℕ) (t : List ℕ) (k first count at r : ℕ) → first ≡ firstWireAt t k → count ≡ wireCountAt t k → at ≡ recordOffset k → r ≡ getD t 1 0
-    → (rs env next : List ℕ) (state : ℕ)
+    → (rs env next : List ℕ) (state : ℕ) (over : Bool)
     → env ≡ worked s rs (wiresFrom t first count)
+    → over ≡ wiresOver s rs (wiresFrom t first count)
     → state ≡ getD env (getD t (at + nextStateOffset) 0) 0
     → next ≡ map (λ x. getD env x 0) (take r (drop (at + nextRegistersOffset) t)) ++ drop r rs
-    → _≡_ {A = Moved} (record { place = toState (getD t 0 0) state; registers = next }) (clock (machineOf t) s (stateAt t k) rs)
+    → _≡_ {A = Moved} (record { place = toState (getD t 0 0) state; registers = next; over = over }) (clock (machineOf t) s (stateAt t k) rs)
 unfolding clock stateAt machineOf
-clocked s t k first count at r ef ec ea em rs env next state e es er =
+clocked s t k first count at r ef ec ea em rs env next state over e eo es er =
     let w = e ∙ ap₂ (λ (f n : ℕ). worked s rs (wiresFrom t f n)) ef ec in
-    ap₂ {C = Moved} (λ (p : Place) (l : List ℕ). record { place = p; registers = l })
+    let o = eo ∙ ap₂ (λ (f n : ℕ). wiresOver s rs (wiresFrom t f n)) ef ec in
+    ap₂ {C = Moved} (λ (p : Place) (x : List ℕ × Bool). record { place = p; registers = x .0; over = x .1 })
     (ap₂ toState (sym (states-length t)) (es ∙ ap₂ (λ (i : ℕ) (v : List ℕ). getD v (getD t (i + nextStateOffset) 0) 0) ea w))
+    (ap₂ {C = List ℕ × Bool} (λ (l : List ℕ) (b : Bool). (l, b))
     (er ∙ ap₂ (λ (i m : ℕ). map (λ x. getD env x 0) (take m (drop (i + nextRegistersOffset) t)) ++ drop m rs) ea em
     ∙ ap (λ (v : List ℕ). map (λ x. getD v x 0) (take (getD t 1 0) (drop (recordOffset k + nextRegistersOffset) t)) ++ drop (getD t 1 0) rs) w)
+    o)

@@ -1,4 +1,5 @@
 pub mod Windows
+pub mod WireReads
 pub mod Environment
 pub mod Machines
 pub mod Steps

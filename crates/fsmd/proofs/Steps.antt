@@ -7,7 +7,7 @@ use mathlib.Core.Path.{_≡_, refl, sym, ap, _∙_, subst}
 use lib.ListN.{length, getD}
 use borrow.Author.Tests.{lt-ltb, le-ltb}
 use Rattle.runs.proofs.RunLaws.{goes-standing, step-going, Reached, reached-step}
-use Rattle.runs.specs.Runs.{halted, Configuration, standsAt, Supply, Moved, moved}
+use Rattle.runs.specs.Runs.{halted, Contents, Configuration, standsAt, Supply, Moved, contentsAfter, moved}
 use Rattle.fsmd.specs.Clock.{afterCycle}
 use Rattle.fsmd.specs.Layout.{maxRegisters, machineWords}
 use Rattle.fsmd.specs.Machine.{clock, machineRunner, wordlessMachine}
@@ -19,22 +19,23 @@ use Rattle.fsmd.proofs.Machines.{state-is}
 -- ---- cycles
 
 -- where a machine stands after a cycle an arrival was made, so that their number is the count
-pub cycle-step : (t : List ℕ) (ws : Supply) (budget : ℕ) (c₀ : Configuration) (count k : ℕ) (rs : List ℕ) (m : Moved)
-    → Reached (machineRunner (machineOf t)) ws budget c₀ count (standsAt count k rs)
-    → k < getD t 0 0 → count < budget → ws .lasts count ≡ true → m ≡ clock (machineOf t) (ws .word count) (stateAt t k) rs
-    → Reached (machineRunner (machineOf t)) ws budget c₀ (count + 1) (moved (λ k. true) count m)
-cycle-step t ws budget c₀ count k rs m h b l w e =
+pub cycle-step : (t : List ℕ) (ws : Supply) (budget : ℕ) (c₀ : Configuration) (count k : ℕ) (x : Contents) (m : Moved)
+    → Reached (machineRunner (machineOf t)) ws budget c₀ count (standsAt count k x)
+    → k < getD t 0 0 → count < budget → ws .lasts count ≡ true → m ≡ clock (machineOf t) (ws .word count) (stateAt t k) (x .registers)
+    → Reached (machineRunner (machineOf t)) ws budget c₀ (count + 1) (moved (λ k. true) (standsAt count k x) m)
+cycle-step t ws budget c₀ count k x m h b l w e =
     let r = machineRunner (machineOf t) in
-    let c = standsAt count k rs in
+    let c = standsAt count k x in
     subst (λ (c : Configuration). Reached r ws budget c₀ (count + 1) c)
     (step-going r ws c k refl w
-    ∙ ap (λ q. moved (λ k. true) count (clock (machineOf t) (ws .word count) q rs)) (state-is t k b)
-    ∙ ap (moved (λ k. true) count) (sym e))
+    ∙ ap (λ q. moved (λ k. true) c (clock (machineOf t) (ws .word count) q (x .registers))) (state-is t k b)
+    ∙ ap (moved (λ k. true) c) (sym e))
     (reached-step r ws budget c₀ count c h (goes-standing ws c k refl w) l)
 
-module _ (t : List ℕ) (r : Next) (count : ℕ) where
-  pub after-standing : r .state < getD t 0 0 → moved (λ k. true) count (afterCycle t r) ≡ standsAt (count + 1) (r .state) (r .registers .words)
-  after-standing h = rw (lt-ltb (r .state) (getD t 0 0) h, add-one)
+module _ (t : List ℕ) (r : Next) where
+  pub after-standing : (count k : ℕ) (x : Contents) → r .state < getD t 0 0
+      → moved (λ k. true) (standsAt count k x) (afterCycle t r) ≡ standsAt (count + 1) (r .state) (contentsAfter (x .flag) (afterCycle t r))
+  after-standing count k x h = rw (lt-ltb (r .state) (getD t 0 0) h, add-one)
 
   pub after-halted : getD t 0 0 ≤ r .state → afterCycle t r .place ≡ halted
   after-halted h = rw (le-ltb (r .state) (getD t 0 0) h)

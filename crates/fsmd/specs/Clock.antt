@@ -20,4 +20,4 @@ pub record Ready (t : List ℕ) (k : ℕ) : Type 0 where
 
 -- what a cycle hands back
 abbrev pub afterCycle : List ℕ → Next → Moved
-afterCycle t r = record { place = toState (stateCount t) (r .state); registers = r .registers .words }
+afterCycle t r = record { place = toState (stateCount t) (r .state); registers = r .registers .words; over = r .over }

@@ -33,7 +33,7 @@ fn valid_reference(registers: usize, n: usize, x: u32) -> bool
     i - MachineTable::REGISTERS < n
 }
 
-// Operand number `place` of wire n, where the code reads that many.
+// Word number `place` of wire n, where the wire reads that many.
 fn valid_operand(registers: usize, n: usize, reads: u32, place: u32, x: u32) -> bool
     ensures { λ v. ⌜ v ≡ (ltb reads place || validReference registers n x) ⌝ }
 {
@@ -44,7 +44,7 @@ fn valid_operand(registers: usize, n: usize, reads: u32, place: u32, x: u32) -> 
     }
 }
 
-// Operand a of wire n: a set's is its literal and no reference.
+// Word a of wire n: a set's is its literal and no reference.
 fn valid_first(registers: usize, n: usize, code: u32, reads: u32, x: u32) -> bool
     ensures { λ v. ⌜ v ≡ (eqb code setCode || (ltb reads 1 || validReference registers n x)) ⌝ }
 {
@@ -55,7 +55,7 @@ fn valid_first(registers: usize, n: usize, code: u32, reads: u32, x: u32) -> boo
     }
 }
 
-// Wire n of its state has a known code, and the operands that the code reads are registers or earlier wires.
+// Wire n of its state has a known code, and the references that it reads are registers or earlier wires.
 fn valid_wire(registers: usize, n: usize, w: Wire) -> bool
     ensures { λ v. ⌜ v ≡ validWire registers n w ⌝ }
 {
@@ -66,7 +66,7 @@ fn valid_wire(registers: usize, n: usize, w: Wire) -> bool
     if Code::LAST < code {
         return false;
     }
-    let reads = word::arity(code);
+    let reads = Wire::arity(code);
     if !valid_first(registers, n, code, reads, w.a) {
         return false;
     }

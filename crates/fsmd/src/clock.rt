@@ -6,7 +6,7 @@ ghost use Prim.Native.Nat.{_+_, _%_, _<_, _≤_};
 ghost use lib.ListN.{length, getD, take, drop};
 ghost use Rattle.runs.specs.Lists.{upFrom};
 ghost use Rattle.fsmd.specs.Layout.{machineWords, maxRegisters, maxWires, roomWords};
-ghost use Rattle.fsmd.specs.Machine.{wireValue, worked, clock};
+ghost use Rattle.fsmd.specs.Machine.{wireValue, worked, wireOver, wiresOver, clock};
 ghost use Rattle.fsmd.specs.Table.{machineRegisterCount, wireAt, stateAt, machineOf, validWires};
 ghost use Rattle.fsmd.specs.Clock.{Ready, afterCycle};
 use super::MachineTable;
@@ -19,10 +19,11 @@ use buffers::word_index;
 use word::Code;
 use word::Registers;
 
-// What a cycle gives: the registers, and the word of the next state.
+// What a cycle gives: the registers, the word of the next state, and whether a sum goes over.
 pub struct Next {
     pub registers: Registers,
     pub state: u32,
+    pub over: bool,
 }
 
 // What reference x reads among the first n words; past them 0, which an admitted machine never reads.
@@ -49,22 +50,38 @@ fn value(words: &[u32], w: Wire, sampled: u32) -> u32
     word::eval(sampled, w.code, words[a], words[b], words[c])
 }
 
-// The wires in order, after the sixteen registers.
-fn work(words: &mut [u32], table: &[u32], first: usize, count: usize, sampled: u32)
+// Whether a wire goes over and counts: what its c reads is not zero. The words are those that `value` reads, so that each is loaded once.
+fn goes_over(words: &[u32], w: Wire) -> bool
+    requires { ⌜ length (now words) ≡ roomWords ⌝ }
+    ensures { λ v. ⌜ v ≡ wireOver (λ x. getD (now (words .entry)) (x % roomWords) 0) w ⌝ }
+{
+    let a = word_index(w.a) % MachineTable::REFERENCES;
+    let b = word_index(w.b) % MachineTable::REFERENCES;
+    let c = word_index(w.c) % MachineTable::REFERENCES;
+    word::over(w.code, words[a], words[b]) & (words[c] != 0)
+}
+
+// The wires in order, after the sixteen registers, and whether one goes over.
+fn work(words: &mut [u32], table: &[u32], first: usize, count: usize, sampled: u32) -> bool
     requires { ⌜ machineWords ≤ length (now table) ⌝ }
     requires { ⌜ first + count ≤ maxWires ⌝ }
     requires { ⌜ machineRegisterCount (now table) ≤ maxRegisters ⌝ }
     requires { ⌜ validWires (machineRegisterCount (now table)) 0 (map (wireAt (now table)) (upFrom first count)) ≡ true ⌝ }
     requires { ⌜ length (now words) ≡ roomWords ⌝ }
     ensures { λ _. ⌜ take (maxRegisters + count) (now (words .exit)) ≡ worked sampled (take maxRegisters (now (words .entry))) (map (wireAt (now (table .entry))) (upFrom first count)) ⌝ }
+    ensures { λ v. ⌜ v ≡ wiresOver sampled (take maxRegisters (now (words .entry))) (map (wireAt (now (table .entry))) (upFrom first count)) ⌝ }
 {
+    let mut over = false;
     let mut n = 0;
     while n < count {
         let at = MachineTable::REGISTERS + n;
-        let v = value(words, wire(table, first + n), sampled);
+        let w = wire(table, first + n);
+        over = over | goes_over(words, w);
+        let v = value(words, w, sampled);
         words[at] = v;
         n += 1;
     }
+    over
 }
 
 // The next registers, by the references from `at` on: the first `count` are taken, the others keep their words.
@@ -105,7 +122,7 @@ pub fn cycle(table: &[u32], k: usize, registers: Registers, sampled: u32, words:
     let count = wire_count(table, k);
     let n = MachineTable::REGISTERS + count;
     runs::store(words, registers);
-    work(words, table, first_wire(table, k), count, sampled);
+    let over = work(words, table, first_wire(table, k), count, sampled);
     let state = read(words, n, table[at + MachineTable::NEXT_STATE]);
     let next = taken(
         words,
@@ -118,5 +135,6 @@ pub fn cycle(table: &[u32], k: usize, registers: Registers, sampled: u32, words:
     Next {
         registers: next,
         state: state,
+        over: over,
     }
 }

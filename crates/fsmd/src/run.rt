@@ -44,25 +44,27 @@ pub fn run(
     let mut room = [0u32; MachineTable::REFERENCES];
     let mut file = registers;
     let mut state = start;
+    let mut flag = false;
     let mut count: u32 = 0;
     while count < limit {
         let sampled = runs::sampled(words, count);
         let next = cycle(table, word_index(state), file, sampled, &mut room);
         file = next.registers;
         state = next.state;
+        flag = flag | next.over;
         count += 1;
         if states <= state {
             return Ran {
                 registers: file,
-                answer: RunAnswer::Halted(count),
+                answer: RunAnswer::Halted(count, flag),
             };
         }
     }
     // No word is left, or no budget: where both are used up the answer is spent.
     let answer = if count < budget {
-        RunAnswer::Dry(count, state)
+        RunAnswer::Dry(count, state, flag)
     } else {
-        RunAnswer::Spent(count, state)
+        RunAnswer::Spent(count, state, flag)
     };
     Ran {
         registers: file,

@@ -11,7 +11,7 @@ use borrow.Author.Needs.{needs}
 use Rattle.runs.specs.Lists.{every}
 use Rattle.runs.proofs.ListLaws.{and-left}
 use Rattle.fsmd.specs.Layout.{maxRegisters, nextStateOffset, nextRegistersOffset}
-use Rattle.fsmd.specs.Machine.{worked}
+use Rattle.fsmd.specs.Machine.{worked, wiresOver}
 use Rattle.fsmd.specs.Table.{validReference, validWires}
 use Rattle.fsmd.proofs.Environment.{clocked}
 use Rattle.fsmd.proofs.Machines.{valid-state-is}
@@ -49,9 +49,11 @@ returns c =
     let p = l .before .before .before .«record» in
     let m = c .before .word-index in
     let h : length rs ≡ maxRegisters = omega (arith, s .pre .1, l .store .kept .0, ap length (l .store .ensures), length-append rs (drop maxRegisters ws), length-drop maxRegisters ws) in
+    let e = ap (take maxRegisters) (l .store .ensures) ∙ take-at rs (drop maxRegisters ws) maxRegisters h in
     clocked (a .sampled) t (a .k) (f .result) (n .result) (p .result) (m .result) (f .ensures .0) (n .ensures .0) (p .ensures) (m .ensures .0) rs
-    (take (maxRegisters + n .result) (b .work .last .0)) (c .taken .result .words) (c .before .before .before .before .read .result)
-    (b .work .ensures ∙ ap (λ (v : List ℕ). worked (a .sampled) v (wiresFrom t (f .result) (n .result))) (ap (take maxRegisters) (l .store .ensures) ∙ take-at rs (drop maxRegisters ws) maxRegisters h))
+    (take (maxRegisters + n .result) (b .work .last .0)) (c .taken .result .words) (c .before .before .before .before .read .result) (b .work .result)
+    (b .work .ensures .0 ∙ ap (λ (v : List ℕ). worked (a .sampled) v (wiresFrom t (f .result) (n .result))) e)
+    (b .work .ensures .1 ∙ ap (λ (v : List ℕ). wiresOver (a .sampled) v (wiresFrom t (f .result) (n .result))) e)
     (c .before .before .before .before .read .ensures)
     (c .taken .ensures)
 

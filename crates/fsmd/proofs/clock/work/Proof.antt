@@ -1,62 +1,73 @@
--- `fsmd::clock::work` meets its contract: the words so far, then the wires from n on, give what all wires give. Assumes nothing.
+-- `fsmd::clock::work` meets its contract: the words so far, then the wires from n on, give what all wires give, and whether one goes over. Assumes nothing.
 use Prim.Native.Nat.{ℕ, _+_, _-_, _%_, _≤_}
 use native.Mathlib.Omega.{arith}
-use mathlib.Core.Bool.{true}
+use mathlib.Core.Bool.{Bool, true, _||_, or-assoc}
 use mathlib.Core.Path.{_≡_, refl, sym, ap, _∙_}
-use lib.ListN.{length, take, drop, length-set, getD}
+use lib.ListN.{length, take, drop, set, length-set, getD}
 use denote.Ref.{now}
 use borrow.Author.Needs.{needs}
+use Rattle.runs.proofs.Tests.{or-none}
 use Rattle.fsmd.specs.Layout.{maxRegisters, roomWords}
-use Rattle.fsmd.specs.Machine.{worked, wireValue}
+use Rattle.fsmd.specs.Machine.{worked, wireValue, wireOver, wiresOver}
 use Rattle.fsmd.specs.Table.{wireAt, validWires}
-use Rattle.fsmd.proofs.Environment.{value-within, work-next, work-done}
+use Rattle.fsmd.proofs.Environment.{value-within, over-within, work-next, over-next, work-done, over-done}
 use Rattle.fsmd.proofs.Windows.{wiresFrom, wire-valid, wires-pass}
 use Rattle.fsmd.proofs.clock.work.Statement.{statement}
 use Rattle.fsmd.proofs.clock.work.Tie as tie
 
 abbrev Inv-loop : tie.InvT-loop
-Inv-loop words₀ table first count sampled n₀ words n =
+Inv-loop words₀ table first count sampled over₀ n₀ words over n =
     (n ≤ count)
     × (length words ≡ length words₀)
     × (validWires (getD table 1 0) n (drop n (wiresFrom table first count)) ≡ true)
     × (worked sampled (take (maxRegisters + n) words) (drop n (wiresFrom table first count)) ≡ worked sampled (take maxRegisters words₀) (wiresFrom table first count))
+    × ((over || wiresOver sampled (take (maxRegisters + n) words) (drop n (wiresFrom table first count))) ≡ wiresOver sampled (take maxRegisters words₀) (wiresFrom table first count))
 
 abbrev μ-loop : tie.MeasureT-loop
-μ-loop words₀ table first count sampled n₀ words n = count - n
+μ-loop words₀ table first count sampled over₀ n₀ words over n = count - n
 
 loop-holds : tie.Need-loop-holds Inv-loop μ-loop
-loop-holds c = (omega arith, refl, c .before .before .pre .1 .1 .1 .0, refl)
+loop-holds c = (omega arith, refl, c .before .before .pre .1 .1 .1 .0, refl, refl)
 
 loop-less : tie.Need-loop-less Inv-loop μ-loop
 loop-less c = omega arith
 
 loop-again : tie.Need-loop-again Inv-loop μ-loop
 loop-again c =
-    let b = c .before .before .before .before in
-    let s = b .before .before .before in
-    let a = s .args in
+    let b = c .before .before .before .before .before .before in
+    let a = b .before .before .before .args in
     let t = now (a .table) in
     let n = b .loop .n in
     let r = getD t 1 0 in
+    let i = c .before .before .before .before .wire in
     let w = wireAt t (a .first + n) in
-    let below = c .before .before .before .loop-test .taken in
-    let v = wire-valid t (a .first) (a .count) r n below (b .loop .inv .2) in
-    let f : ℕ → ℕ = λ x. getD (b .loop .words) (x % roomWords) 0 in (
+    let below = c .before .before .before .before .before .loop-test .taken in
+    let valid = wire-valid t (a .first) (a .count) r n below (b .loop .inv .2) in
+    let f : ℕ → ℕ = λ x. getD (b .loop .words) (x % roomWords) 0 in
+    let v = c .value .ensures ∙ ap (wireValue (a .sampled) f) (i .ensures) ∙ value-within (a .sampled) (b .loop .words) r n w (omega arith) (omega arith) valid in
+    let o = c .before .before .goes-over .ensures ∙ ap (wireOver f) (i .ensures) ∙ over-within (a .sampled) (b .loop .words) r n w (omega arith) (omega arith) valid in
+    let rest = wiresOver (a .sampled) (take (maxRegisters + (n + 1)) (set (b .loop .words) (maxRegisters + n) (c .value .result))) (drop (n + 1) (wiresFrom t (a .first) (a .count))) in (
       omega arith,
       length-set (b .loop .words) (maxRegisters + n) (c .value .result) ∙ b .loop .inv .1,
-      sym (wires-pass t (a .first) (a .count) r n below v) ∙ b .loop .inv .2,
-      sym (work-next (a .sampled) t (a .first) (a .count) n (b .loop .words) (c .value .result) below (omega arith)
-          (c .value .ensures ∙ ap (wireValue (a .sampled) f) (c .before .wire .ensures) ∙ value-within (a .sampled) (b .loop .words) r n w (omega arith) (omega arith) v))
-          ∙ b .loop .inv .3,
+      sym (wires-pass t (a .first) (a .count) r n below valid) ∙ b .loop .inv .2,
+      sym (work-next (a .sampled) t (a .first) (a .count) n (b .loop .words) (c .value .result) below (omega arith) v) ∙ b .loop .inv .3,
+      or-assoc (b .loop .over) (c .before .before .goes-over .result) rest
+          ∙ ap (λ (x : Bool). b .loop .over || (x || rest)) o
+          ∙ ap (λ (x : Bool). b .loop .over || x) (sym (over-next (a .sampled) t (a .first) (a .count) n (b .loop .words) (c .value .result) below (omega arith) v))
+          ∙ b .loop .inv .4,
     )
 
 returns : tie.Need-returns Inv-loop μ-loop
 returns c =
     let b = c .before in
     let a = b .before .before .before .args in
-    let e : b .loop .n ≡ a .count = omega arith in
-    ap (λ (i : ℕ). take (maxRegisters + i) (b .loop .words)) (sym e)
-    ∙ sym (work-done (a .sampled) (now (a .table)) (a .first) (a .count) (b .loop .n) (take (maxRegisters + b .loop .n) (b .loop .words)) (omega arith)) ∙ b .loop .inv .3
+    let t = now (a .table) in
+    let n = b .loop .n in
+    let l = take (maxRegisters + n) (b .loop .words) in
+    let e : n ≡ a .count = omega arith in (
+      ap (λ (i : ℕ). take (maxRegisters + i) (b .loop .words)) (sym e) ∙ sym (work-done (a .sampled) t (a .first) (a .count) n l (omega arith)) ∙ b .loop .inv .3,
+      sym (or-none (b .loop .over)) ∙ ap (λ (x : Bool). b .loop .over || x) (sym (over-done (a .sampled) t (a .first) (a .count) n l (omega arith))) ∙ b .loop .inv .4,
+    )
 
 pub work-spec : {M : Type 1} → statement M
 work-spec =
@@ -67,6 +78,7 @@ work-spec =
     loop-holds
     (λ c. search needs)
     (λ c. search needs)
+    (λ c κs. search needs)
     (λ c κs. search needs)
     (λ c κs. search needs)
     (λ c. search needs)

@@ -3,9 +3,9 @@
 use Prim.Native.Nat.{ℕ, suc, _+_, _≤_}
 use native.Mathlib.Omega.{arith}
 use native.Mathlib.Nat.{add-zero, add-suc, suc-add}
-use mathlib.Core.Path.{_≡_, refl, ap}
+use mathlib.Core.Path.{_≡_, refl, ap, _∙_}
 use mathlib.Core.Logic.{_⊎_, inl, inr}
-use mathlib.Core.Bool.{Bool, true, false, not}
+use mathlib.Core.Bool.{Bool, true, false, not, _||_}
 use mathlib.Core.List.{List, [], _∷_}
 use lib.ListN.{length, drop}
 use borrow.Author.Tests.{eqb-true}
@@ -14,23 +14,26 @@ use Rattle.runs.specs.Lists.{mem}
 use Rattle.runs.specs.Runs.{Place, standing, halted, Moved}
 use Rattle.cfg.specs.declared.Ending.{Ending}
 use Rattle.cfg.specs.declared.Ending.the-variants.{Goto, Ite, Halt}
-use Rattle.cfg.specs.Graph.{CFG, blockOf, instructionsOf, targets, successors, executeAll, holds, leave, runBlock}
+use Rattle.cfg.specs.Graph.{CFG, blockOf, instructionsOf, targets, successors, executeAll, instructionsOver, holds, leave, runBlock}
 use Rattle.fsmd.specs.Layout.{maxRegisters}
-use Rattle.fsmd.specs.Machine.{State, worked}
+use Rattle.fsmd.specs.Machine.{State, worked, wiresOver}
 use Rattle.grouping.specs.Grouping.{Groups}
 use Rattle.placement.specs.Placement.{order}
 use Rattle.state.specs.Wires.{towards, leadsTo, StateBuild, arrive, startBlock, enter, after, put, build, leaves, nextStateOf, closeState, stateMade}
 use Rattle.synthesis.proofs.GraphFacts.{GraphFits}
 use Rattle.placement.proofs.StateOrder.{Ahead, Ordered, StateOrder}
+use Rattle.runs.proofs.Tests.{or-none}
 use Rattle.synthesis.proofs.Readings.{Reads, start-reads}
+use Rattle.synthesis.proofs.FlagRaised.{arrive-over, start-over, close-state-over, block-over}
 use Rattle.synthesis.proofs.TakenEdges.{OneTaken, none-grow, one-grow, one-towards, one-away, arrive-grow, arrive-none, arrive-one}
-use Rattle.synthesis.proofs.TakenEdges.{blockMade, made-reached, made-passed, close-state-one}
+use Rattle.synthesis.proofs.TakenEdges.{blockMade, followed, made-reached, made-passed, close-state-one}
 
--- The graph's blocks from block b with registers r, on a sampled word: in j steps they come to c, and no step but the last moves to one of the blocks st.
+-- The graph's blocks from block b with registers r, on a sampled word: in j steps they come to c, where one has gone over or none, and no step but
+-- the last moves to one of the blocks st.
 pub data Trace (g : CFG) (st : List ℕ) (sampled b : ℕ) (r : List ℕ) : ℕ → Moved → Type 0 where
   first : {c : Moved} → c ≡ runBlock sampled (blockOf g b) r → Trace g st sampled b r 1 c
   next : {j : ℕ} {c c′ : Moved} → Trace g st sampled b r j c → (x : ℕ) → c .place ≡ standing x → mem x st ≡ false
-      → c′ ≡ runBlock sampled (blockOf g x) (c .registers) → Trace g st sampled b r (suc j) c′
+      → c′ ≡ followed (c .over) (runBlock sampled (blockOf g x) (c .registers)) → Trace g st sampled b r (suc j) c′
 
 -- ---- where the blocks still to place are come to
 
@@ -74,6 +77,7 @@ module _ (g : CFG) (s : Groups) (sampled : ℕ) (rs : List ℕ) (b₀ : ℕ) whe
     pub reached : Moved
     pub steps : ℕ
     pub taken : OneTaken (g .registers) (drop (g .registers) rs) (worked sampled rs (b .wires)) reached (b .edges)
+    pub raised : wiresOver sampled rs (b .wires) ≡ reached .over
     pub onward : Towards (s .starters) xs (reached .place)
     pub trace : Trace g (s .starters) sampled b₀ rs steps reached
     pub some : 1 ≤ steps
@@ -101,8 +105,10 @@ module _ (g : CFG) (s : Groups) (sampled : ℕ) (rs : List ℕ) (size : length r
       let R = g .registers in
       rw (put-starter g s b₀ none-built h) (record {
         reached = runBlock sampled (blockOf g b₀) rs;
+        raised = block-over sampled rs size R [] (blockOf g b₀) (startBlock R []) true (f .block b₀ .body) (start-reads sampled rs size R [] 1 (f .fewRegisters))
+            ∙ ap (λ (o : Bool). o || instructionsOver sampled (instructionsOf (blockOf g b₀)) rs) (start-over sampled rs R);
         steps = 1;
-        taken = made-reached sampled rs size R (blockOf g b₀) (f .block b₀) (startBlock R []) rs [] (start-reads sampled rs size R [] 1 (f .fewRegisters)) tt;
+        taken = made-reached sampled rs size R (blockOf g b₀) (f .block b₀) (startBlock R []) rs false [] (start-reads sampled rs size R [] 1 (f .fewRegisters)) tt;
         onward = towards-leave (s .starters) xs (blockOf g b₀ .ending) (executeAll sampled (instructionsOf (blockOf g b₀)) rs) a;
         trace = first refl;
         some = omega arith;
@@ -121,11 +127,13 @@ module _ (g : CFG) (s : Groups) (sampled : ℕ) (rs : List ℕ) (size : length r
       let c = t .reached in
       let E = worked sampled rs (b .wires) in
       let k = t .few in
+      let one = arrive-one sampled rs size R into (b .wires) c (one-towards R (drop R rs) E (leadsTo x) c (b .edges) h (t .taken)) in
       rw (put-inner g s x b (o .0)) (record {
-        reached = runBlock sampled (blockOf g x) (c .registers);
+        reached = followed (c .over) (runBlock sampled (blockOf g x) (c .registers));
+        raised = block-over sampled rs size R rest (blockOf g x) p true (f .block x .body) one
+            ∙ ap (λ (o : Bool). o || instructionsOver sampled (instructionsOf (blockOf g x)) (c .registers)) (arrive-over sampled rs R into (b .wires) ∙ t .raised);
         steps = suc (t .steps);
-        taken = made-reached sampled rs size R (blockOf g x) (f .block x) p (c .registers) rest
-            (arrive-one sampled rs size R into (b .wires) c (one-towards R (drop R rs) E (leadsTo x) c (b .edges) h (t .taken)))
+        taken = made-reached sampled rs size R (blockOf g x) (f .block x) p (c .registers) (c .over) rest one
             (none-grow R (drop R rs) E (worked sampled rs (p .wires)) (arrive-grow sampled rs size R into (b .wires)) rest
             (one-away R (drop R rs) E (λ p. not (leadsTo x p)) c (b .edges) (ap not h) (t .taken)));
         onward = towards-leave (s .starters) xs (blockOf g x .ending) (executeAll sampled (instructionsOf (blockOf g x)) (c .registers)) (o .1);
@@ -148,6 +156,8 @@ module _ (g : CFG) (s : Groups) (sampled : ℕ) (rs : List ℕ) (size : length r
       let none = arrive-none sampled rs size R (f .fewRegisters) into (b .wires) (one-away R (drop R rs) E (leadsTo x) c (b .edges) h (t .taken)) in
       rw (put-inner g s x b (o .0)) (record {
         reached = c;
+        raised = block-over sampled rs size R rest (blockOf g x) p false (f .block x .body) (none .1) ∙ or-none (wiresOver sampled rs (p .wires))
+            ∙ arrive-over sampled rs R into (b .wires) ∙ t .raised;
         steps = t .steps;
         taken = made-passed sampled rs size R (blockOf g x) (f .block x) p c rest (none .1)
             (one-grow R (drop R rs) E (worked sampled rs (p .wires)) (arrive-grow sampled rs size R into (b .wires)) c rest
@@ -177,7 +187,7 @@ abbrev pub StateReads : CFG → State → ℕ → List ℕ → ℕ → List ℕ 
 StateReads g q sampled rs v qs = Reads (g .registers) (drop (g .registers) rs) (worked sampled rs (q .wires)) (q .next) (q .nextRegisters) v qs
 
 -- the graph's run from block b with rs comes in `steps` steps to `reached`, where it arrives at a starter or has halted, and not before;
--- and the references of state k read that place's state and those registers
+-- and the references of state k read that place's state and those registers, and its wires go over where one of the blocks has
 pub record CycleAgrees (g : CFG) (s : Groups) (sampled : ℕ) (rs : List ℕ) (k b : ℕ) : Type 0 where
   pub reached : Moved
   pub steps : ℕ
@@ -186,6 +196,7 @@ pub record CycleAgrees (g : CFG) (s : Groups) (sampled : ℕ) (rs : List ℕ) (k
   pub some : 1 ≤ steps
   pub few : steps ≤ length (order g s k)
   pub state : StateReads g (stateMade g s k) sampled rs (nextStateOf s (reached .place)) (reached .registers)
+  pub raised : wiresOver sampled rs (stateMade g s k .wires) ≡ reached .over
 
 state-is : (g : CFG) (s : Groups) (k : ℕ) (xs : List ℕ) → order g s k ≡ xs
     → let z = build g s xs none-built in
@@ -210,6 +221,7 @@ cycle-agrees g s sampled rs size f k b h =
       leaving = l;
       some = t .some;
       few = rw (h .order-is) (omega arith);
+      raised = rw (state-is g s k (b ∷ xs) (h .order-is)) (close-state-over sampled rs s (towards (leaves s) (z .edges)) (z .wires) ∙ t .raised);
       state = rw (state-is g s k (b ∷ xs) (h .order-is)) (close-state-one sampled rs size R s (towards (leaves s) (z .edges)) (z .wires) (t .reached)
           (one-towards R (drop R rs) (worked sampled rs (z .wires)) (leaves s) (t .reached) (z .edges) l (t .taken)));
     }

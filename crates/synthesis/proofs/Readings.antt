@@ -84,7 +84,7 @@ module _ {R : ℕ} {high : List ℕ} where
       (reads-fresh E x (map (at E) (choose b vs₂ vs₁)) (choose b q₂ q₁) (s .0) (s .1))
 
   -- what the references of the registers read
-  reads-at : (E : List ℕ) {t : ℕ} {vs : List ℕ} {v : ℕ} {q : List ℕ} → Reads R high E t vs v q → (r : ℕ) → r < R → at E (getD vs r 0) ≡ getD q r 0
+  pub reads-at : (E : List ℕ) {t : ℕ} {vs : List ℕ} {v : ℕ} {q : List ℕ} → Reads R high E t vs v q → (r : ℕ) → r < R → at E (getD vs r 0) ≡ getD q r 0
   reads-at E {t} {vs} l r h =
       sym (getD-map (at E) vs r (let c = l .count in omega arith))
       ∙ sym (List·getD-append (map (at E) vs) high 0 r (let c = l .count in simp length-map (omega arith)))
@@ -92,12 +92,12 @@ module _ {R : ℕ} {high : List ℕ} where
 
   -- the wire of an instruction
   pub reads-execute : (sampled : ℕ) (E : List ℕ) (i : Instruction) {t : ℕ} {vs : List ℕ} {v : ℕ} {q : List ℕ} → ValidInstruction R i → Reads R high E t vs v q
-      → Reads R high (worked sampled E (instructionWire (λ r. getD vs r 0) i ∷ [])) t (set vs (i .d) (length E)) v (execute sampled i q)
+      → Reads R high (worked sampled E (instructionWire (λ r. getD vs r 0) t i ∷ [])) t (set vs (i .d) (length E)) v (execute sampled i q)
   unfolding execute
   reads-execute sampled E i {t} {vs} {v} {q} f l =
-      let w : Wire = instructionWire (λ r. getD vs r 0) i in
+      let w : Wire = instructionWire (λ r. getD vs r 0) t i in
       let x : ℕ = valueOf sampled (λ r. getD q r 0) (i .code) (i .a) (i .b) in
-      let e : wireValue sampled (at E) w ≡ x = instruction-value sampled (at E) (λ r. getD vs r 0) R q i f (reads-at E l) in
+      let e : wireValue sampled (at E) w ≡ x = instruction-value sampled (at E) (λ r. getD vs r 0) R t q i f (reads-at E l) in
       let m : Reads R high (E ++ (x ∷ [])) t vs v q = reads-append E (x ∷ []) l in
       rw (worked-cons sampled E w [] x e, worked-nil) (record {
         low = m .low;

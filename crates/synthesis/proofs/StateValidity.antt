@@ -126,14 +126,14 @@ assign-valid : (R : ℕ) (i : Instruction) (p : BlockBuild) → ValidInstruction
 unfolding assign
 assign-valid R i p v a =
     let n = length (p .wires) in
-    let w = instructionWire (λ r. getD (p .values) r 0) i in
+    let w = instructionWire (λ r. getD (p .values) r 0) (p .arrival) i in
     let m = length (p .wires ++ (w ∷ [])) in
     let l : m ≡ n + 1 = length-append (p .wires) (w ∷ []) in
     record {
       arrives = reference-more R n m (p .arrival) (omega arith) (a .arrives);
       count = length-set (p .values) (i .d) (fresh (p .wires)) ∙ a .count;
       reads = references-set R m (p .values) (i .d) (fresh (p .wires)) (references-more R n m (p .values) (omega arith) (a .reads)) (inr (omega arith, omega arith));
-      wired = one-wire R 0 (p .wires) w (a .wired) (rw zero-add (instruction-valid R n (p .values) i (a .count) (a .reads) v));
+      wired = one-wire R 0 (p .wires) w (a .wired) (rw zero-add (instruction-valid R n (p .values) (p .arrival) i (a .count) (a .reads) (a .arrives) v));
     }
 
 assigns-valid : (R : ℕ) (is : List Instruction) (p : BlockBuild) → ValidCode R is → PointValid R p → PointValid R (assigns is p)

@@ -2,7 +2,7 @@
 use Prim.Native.Nat.{ℕ, _+_, _≤_, _<_}
 use mathlib.Core.Path.{_≡_, refl, ap, _∙_}
 use mathlib.Core.Logic.{_⊎_, inl, inr}
-use mathlib.Core.Bool.{Bool, true, false, not, _&&_, or-false}
+use mathlib.Core.Bool.{Bool, true, false, not, _&&_, _||_, or-false}
 use mathlib.Core.List.{List, [], _∷_, _++_}
 use lib.ListN.{length, drop}
 use Rattle.word.specs.Word.{choose, truth}
@@ -13,7 +13,7 @@ use Rattle.cfg.specs.declared.Condition.{Condition}
 use Rattle.cfg.specs.declared.Ending.{Ending}
 use Rattle.cfg.specs.declared.Ending.the-variants.{Goto, Ite, Halt}
 use Rattle.cfg.specs.declared.Block.{Block}
-use Rattle.cfg.specs.Graph.{instructionsOf, executeAll, holds, leave, runBlock}
+use Rattle.cfg.specs.Graph.{instructionsOf, executeAll, instructionsOver, holds, leave, runBlock}
 use Rattle.fsmd.specs.Layout.{maxRegisters}
 use Rattle.fsmd.specs.declared.Wire.{Wire}
 use Rattle.fsmd.specs.Machine.{worked}
@@ -174,23 +174,27 @@ module _ (sampled : ℕ) (rs : List ℕ) (size : length rs ≡ maxRegisters) (R 
   close-none (Ite c t f) p {q} h l = let m = ite-reads c t f p false (h .0) (h .1) l in ((q, m .0), ((q, m .1), tt))
   close-none Halt p {q} f l = ((q, l), tt)
 
-  ite-one : (E : List ℕ) (b : Bool) (t f t₁ t₂ : ℕ) (p : BlockBuild) (q : List ℕ) → Reads R (drop R rs) E t₁ (p .values) (truth b) q
+  ite-one : (E : List ℕ) (b : Bool) (t f t₁ t₂ : ℕ) (p : BlockBuild) (q : List ℕ) (o : Bool) → Reads R (drop R rs) E t₁ (p .values) (truth b) q
       → Reads R (drop R rs) E t₂ (p .values) (truth (not b)) q
-      → OneTaken R (drop R rs) E (record { place = standing (choose b t f); registers = q }) (edge (standing t) t₁ p ∷ edge (standing f) t₂ p ∷ [])
-  ite-one E true t f t₁ t₂ p q l m = inl ((refl, l), ((q, m), tt))
-  ite-one E false t f t₁ t₂ p q l m = inr ((q, l), inl ((refl, m), tt))
+      → OneTaken R (drop R rs) E (record { place = standing (choose b t f); registers = q; over = o }) (edge (standing t) t₁ p ∷ edge (standing f) t₂ p ∷ [])
+  ite-one E true t f t₁ t₂ p q o l m = inl ((refl, l), ((q, m), tt))
+  ite-one E false t f t₁ t₂ p q o l m = inr ((q, l), inl ((refl, m), tt))
 
-  close-one : (e : Ending) (p : BlockBuild) (q : List ℕ) → Compares R e → PointReads sampled rs R p 1 q
-      → OneTaken R (drop R rs) (worked sampled rs (close e p .wires)) (record { place = leave e q; registers = q }) (close e p .edges)
+  close-one : (e : Ending) (p : BlockBuild) (q : List ℕ) (o : Bool) → Compares R e → PointReads sampled rs R p 1 q
+      → OneTaken R (drop R rs) (worked sampled rs (close e p .wires)) (record { place = leave e q; registers = q; over = o }) (close e p .edges)
   unfolding close leave
-  close-one (Goto t) p q f l = inl ((refl, l), tt)
-  close-one (Ite c t f) p q h l =
+  close-one (Goto t) p q o f l = inl ((refl, l), tt)
+  close-one (Ite c t f) p q o h l =
       let n = fresh (p .wires) in
       let m = ite-reads c t f p true (h .0) (h .1) l in
-      ite-one (worked sampled rs (close (Ite c t f) p .wires)) (holds c q) t f (1 + n) (2 + n) p q (m .0) (m .1)
-  close-one Halt p q f l = inl ((refl, l), tt)
+      ite-one (worked sampled rs (close (Ite c t f) p .wires)) (holds c q) t f (1 + n) (2 + n) p q o (m .0) (m .1)
+  close-one Halt p q o f l = inl ((refl, l), tt)
 
 -- ---- a whole block, with the edges that it leaves alone
+
+-- a block's move after others, of which one has gone over where o says so
+abbrev pub followed : Bool → Moved → Moved
+followed o m = record { place = m .place; registers = m .registers; over = o || m .over }
 
 abbrev pub blockMade : Block → BlockBuild → StateBuild
 blockMade b p = close (b .ending) (assigns (instructionsOf b) p)
@@ -201,14 +205,15 @@ module _ (sampled : ℕ) (rs : List ℕ) (size : length rs ≡ maxRegisters) (R 
       grows-trans (worked sampled rs (p .wires)) (worked sampled rs (assigns (instructionsOf b) p .wires)) (worked sampled rs (blockMade b p .wires))
       (assigns-grow sampled rs size R (instructionsOf b) p) (close-grow sampled rs size R (b .ending) (assigns (instructionsOf b) p))
 
-  -- the taken edge leads to the block: one of the block's own is taken after
-  pub made-reached : (p : BlockBuild) (q : List ℕ) (rest : List Edge) → PointReads sampled rs R p 1 q → NoneTaken R (drop R rs) (worked sampled rs (p .wires)) rest
-      → OneTaken R (drop R rs) (worked sampled rs (after rest (blockMade b p) .wires)) (runBlock sampled b q) (after rest (blockMade b p) .edges)
+  -- the taken edge leads to the block: one of the block's own is taken after, whatever has gone over before
+  pub made-reached : (p : BlockBuild) (q : List ℕ) (o : Bool) (rest : List Edge) → PointReads sampled rs R p 1 q → NoneTaken R (drop R rs) (worked sampled rs (p .wires)) rest
+      → OneTaken R (drop R rs) (worked sampled rs (after rest (blockMade b p) .wires)) (followed o (runBlock sampled b q)) (after rest (blockMade b p) .edges)
   unfolding after runBlock
-  made-reached p q rest l n =
-      none-one R (drop R rs) (worked sampled rs (blockMade b p .wires)) (runBlock sampled b q) rest (blockMade b p .edges)
+  made-reached p q o rest l n =
+      let s = o || instructionsOver sampled (instructionsOf b) q in
+      none-one R (drop R rs) (worked sampled rs (blockMade b p .wires)) (followed o (runBlock sampled b q)) rest (blockMade b p .edges)
       (none-grow R (drop R rs) (worked sampled rs (p .wires)) (worked sampled rs (blockMade b p .wires)) (made-grow p) rest n)
-      (close-one sampled rs size R (b .ending) (assigns (instructionsOf b) p) (executeAll sampled (instructionsOf b) q) (f .ends) (assigns-reads sampled rs size R (instructionsOf b) p (f .body) l))
+      (close-one sampled rs size R (b .ending) (assigns (instructionsOf b) p) (executeAll sampled (instructionsOf b) q) s (f .ends) (assigns-reads sampled rs size R (instructionsOf b) p (f .body) l))
 
   -- it leads elsewhere: it stays
   pub made-passed : (p : BlockBuild) {q : List ℕ} (c : Moved) (rest : List Edge) → PointReads sampled rs R p 0 q → OneTaken R (drop R rs) (worked sampled rs (p .wires)) c rest

@@ -82,7 +82,7 @@ enter-count R false x b h =
 assigns-count : (is : List Instruction) (p : BlockBuild) → length (assigns is p .wires) ≡ length (p .wires) + length is
 unfolding assigns assign
 assigns-count [] p = omega arith
-assigns-count (i ∷ is) p = omega (arith, length-append (p .wires) (instructionWire (λ r. getD (p .values) r 0) i ∷ []), assigns-count is (assign i p))
+assigns-count (i ∷ is) p = omega (arith, length-append (p .wires) (instructionWire (λ r. getD (p .values) r 0) (p .arrival) i ∷ []), assigns-count is (assign i p))
 
 close-count : (e : Ending) (p : BlockBuild) → length (close e p .wires) + 18 * length (close e p .edges) ≤ length (p .wires) + 39
 unfolding close

@@ -9,7 +9,7 @@ use mathlib.Core.List.{List, [], _∷_, _++_}
 use lib.ListN.{length, getD, set}
 use lib.Dec.{eqb, leb, ltb}
 use borrow.Author.Tests.{le-leb, lt-ltb, le-ltb, ne-eqb, ltb-false, eqb-false}
-use Rattle.word.specs.Word.{choose, arity, comparisonCode}
+use Rattle.word.specs.Word.{choose, arity, addCode, subCode, comparisonCode}
 use Rattle.word.specs.declared.Comparison.{Comparison}
 use Rattle.word.specs.declared.Comparison.the-variants.{Eq, Ne, Lt, Ge, Ltu, Geu}
 use Rattle.runs.specs.Lists.{upFrom, every}
@@ -18,7 +18,10 @@ use Rattle.cfg.specs.declared.Instruction.{Instruction}
 use Rattle.cfg.proofs.Admitted.{ValidInstruction}
 use Rattle.fsmd.specs.Layout.{maxRegisters}
 use Rattle.fsmd.specs.declared.Wire.{Wire}
+use Rattle.fsmd.specs.Machine.{wireArity}
 use Rattle.fsmd.specs.Table.{validReference, validWire, validWires}
+use Rattle.fsmd.proofs.WireReads.{other-reads, facts-valid}
+use Rattle.runs.proofs.Tests.{Compared, compared, same, other}
 use Rattle.state.specs.Wires.{wire, set-wire, select-wire, selects}
 use Rattle.state.specs.Wires.{instructionWire}
 use Rattle.synthesis.proofs.GraphFacts.{two-operands, code-range}
@@ -72,30 +75,20 @@ references-valid R n (v ∷ vs) a = and-both (validReference R n v) (every (vali
 
 -- ---- wires, over all codes
 
-or-made : (a b : Bool) → (a ≡ false → b ≡ true) → (a || b) ≡ true
-or-made true b h = refl
-or-made false b h = h refl
-
--- each operand that the code reads is a reference
-wire-valid : (R n : ℕ) (w : Wire) → 1 ≤ w .code → w .code ≤ 20 → (1 ≤ arity (w .code) → (w .code ≡ 1 → ⊥) → Reference R n (w .a))
-    → (2 ≤ arity (w .code) → Reference R n (w .b)) → (3 ≤ arity (w .code) → Reference R n (w .c)) → validWire R n w ≡ true
-unfolding validWire
+-- each word that the wire reads is a reference
+wire-valid : (R n : ℕ) (w : Wire) → 1 ≤ w .code → w .code ≤ 20 → (1 ≤ wireArity (w .code) → (w .code ≡ 1 → ⊥) → Reference R n (w .a))
+    → (2 ≤ wireArity (w .code) → Reference R n (w .b)) → (3 ≤ wireArity (w .code) → Reference R n (w .c)) → validWire R n w ≡ true
 wire-valid R n w low high a b c =
-    let k = w .code in
-    let a′ = ltb (arity k) 1 || validReference R n (w .a) in
-    let pa = eqb k 1 || a′ in
-    let pb = ltb (arity k) 2 || validReference R n (w .b) in
-    let pc = ltb (arity k) 3 || validReference R n (w .c) in
-    and-both (leb 1 k && leb k 20 && pa && pb) pc
-    (and-both (leb 1 k && leb k 20 && pa) pb
-    (and-both (leb 1 k && leb k 20) pa
-    (and-both (leb 1 k) (leb k 20) (le-leb 1 k low) (le-leb k 20 high))
-    (or-made (eqb k 1) a′ (λ e. or-made (ltb (arity k) 1) (validReference R n (w .a)) (λ l. reference-valid R n (w .a) (a (ltb-false (arity k) 1 l) (eqb-false k 1 e))))))
-    (or-made (ltb (arity k) 2) (validReference R n (w .b)) (λ e. reference-valid R n (w .b) (b (ltb-false (arity k) 2 e)))))
-    (or-made (ltb (arity k) 3) (validReference R n (w .c)) (λ e. reference-valid R n (w .c) (c (ltb-false (arity k) 3 e))))
+    facts-valid R n w (record {
+      least = low;
+      most = high;
+      first = λ e d. reference-valid R n (w .a) (a d e);
+      second = λ d. reference-valid R n (w .b) (b d);
+      third = λ d. reference-valid R n (w .c) (c d);
+    })
 
 pub set-valid : (R n x : ℕ) → validWire R n (set-wire x) ≡ true
-unfolding arity
+unfolding wireArity arity
 set-valid R n x = wire-valid R n (set-wire x) (omega arith) (omega arith) (λ d e. absurd (e refl)) (λ h. absurd (omega arith)) (λ h. absurd (omega arith))
 
 pub select-valid : (R n t v s : ℕ) → Reference R n t → Reference R n v → Reference R n s → validWire R n (select-wire t v s) ≡ true
@@ -105,25 +98,25 @@ select-valid R n t v s a b c = wire-valid R n (select-wire t v s) (omega arith) 
 pub record Two (code : ℕ) : Type 0 where
   pub low : 1 ≤ code
   pub high : code ≤ 20
-  pub few : arity code ≤ 2
+  pub few : wireArity code ≤ 2
 
 pub two-valid : (R n code a b : ℕ) → Two code → Reference R n a → Reference R n b → validWire R n (wire code a b 0) ≡ true
 two-valid R n code a b t ra rb = let few = t .few in wire-valid R n (wire code a b 0) (t .low) (t .high) (λ d e. ra) (λ h. rb) (λ h. absurd (omega arith))
 
 pub and-two : Two 5
-unfolding arity
+unfolding wireArity arity
 and-two = record { low = omega arith; high = omega arith; few = omega arith }
 
 pub or-two : Two 6
-unfolding arity
+unfolding wireArity arity
 or-two = record { low = omega arith; high = omega arith; few = omega arith }
 
 pub and-not-two : Two 18
-unfolding arity
+unfolding wireArity arity
 and-not-two = record { low = omega arith; high = omega arith; few = omega arith }
 
 pub comparison-two : (q : Comparison) → Two (comparisonCode q)
-unfolding arity
+unfolding wireArity arity
 comparison-two Eq = record { low = omega arith; high = omega arith; few = omega arith }
 comparison-two Ne = record { low = omega arith; high = omega arith; few = omega arith }
 comparison-two Lt = record { low = omega arith; high = omega arith; few = omega arith }
@@ -131,21 +124,33 @@ comparison-two Ge = record { low = omega arith; high = omega arith; few = omega 
 comparison-two Ltu = record { low = omega arith; high = omega arith; few = omega arith }
 comparison-two Geu = record { low = omega arith; high = omega arith; few = omega arith }
 
+-- the first two words that a wire reads are operands of its code
+wire-operands : (k : ℕ) → (1 ≤ wireArity k → 1 ≤ arity k) × (2 ≤ wireArity k → 2 ≤ arity k)
+unfolding arity
+wire-operands k = go (compared k addCode) (compared k subCode)
+  where
+    go : Compared k addCode → Compared k subCode → (1 ≤ wireArity k → 1 ≤ arity k) × (2 ≤ wireArity k → 2 ≤ arity k)
+    go (same b e) d = rw e (λ h. omega arith, λ h. omega arith)
+    go (other b e) (same c d) = rw d (λ h. omega arith, λ h. omega arith)
+    go (other b e) (other c d) = rw (other-reads k e d) (λ h. h, λ h. h)
+
 choose-read : (t : Bool) (a b : ℕ) (R n : ℕ) → t ≡ false → Reference R n b → Reference R n (choose t a b)
 choose-read t a b R n e r = rw e r
 
-pub instruction-valid : (R n : ℕ) (vs : List ℕ) (i : Instruction) → length vs ≡ R → References R n vs → ValidInstruction R i
-    → validWire R n (instructionWire (λ r. getD vs r 0) i) ≡ true
+pub instruction-valid : (R n : ℕ) (vs : List ℕ) (arrival : ℕ) (i : Instruction) → length vs ≡ R → References R n vs → Reference R n arrival → ValidInstruction R i
+    → validWire R n (instructionWire (λ r. getD vs r 0) arrival i) ≡ true
 unfolding instructionWire
-instruction-valid R n vs i c a v =
+instruction-valid R n vs arrival i c a r v =
     let f : ℕ → ℕ = λ r. getD vs r 0 in
-    let t = two-operands v in
+    let k = i .code in
+    let m = wireArity k in
+    let o = wire-operands k in
     let known = code-range v in
-    wire-valid R n (instructionWire f i) (known .0) (known .1)
-    (λ d e. choose-read (ltb (arity (i .code)) 1) 0 (choose (eqb (i .code) 1) (i .a) (f (i .a))) R n (le-ltb (arity (i .code)) 1 d)
-    (choose-read (eqb (i .code) 1) (i .a) (f (i .a)) R n (ne-eqb (i .code) 1 e) (reference-at R n vs (i .a) a (let l = v .first d e in omega arith))))
-    (λ h. choose-read (ltb (arity (i .code)) 2) 0 (f (i .b)) R n (le-ltb (arity (i .code)) 2 h) (reference-at R n vs (i .b) a (let l = v .second (omega arith) in omega arith)))
-    (λ h. absurd (omega arith))
+    wire-valid R n (instructionWire f arrival i) (known .0) (known .1)
+    (λ d e. choose-read (ltb m 1) 0 (choose (eqb k 1) (i .a) (f (i .a))) R n (le-ltb m 1 d)
+    (choose-read (eqb k 1) (i .a) (f (i .a)) R n (ne-eqb k 1 e) (reference-at R n vs (i .a) a (let l = v .first (o .0 d) e in omega arith))))
+    (λ d. choose-read (ltb m 2) 0 (f (i .b)) R n (le-ltb m 2 d) (reference-at R n vs (i .b) a (let l = v .second (let t = two-operands v in let w = o .1 d in omega arith) in omega arith)))
+    (λ d. choose-read (ltb m 3) 0 arrival R n (le-ltb m 3 d) r)
 
 pub wires-append : (R n : ℕ) (ws vs : List Wire) → validWires R n ws ≡ true → validWires R (n + length ws) vs ≡ true → validWires R n (ws ++ vs) ≡ true
 unfolding validWires

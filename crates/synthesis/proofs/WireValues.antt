@@ -1,21 +1,26 @@
 -- The values of the wires that synthesis makes, from the laws of words over all codes. Assumes nothing.
-use Prim.Native.Nat.{ℕ, _<_}
+use Prim.Native.Nat.{ℕ, _≤_, _<_}
 use native.Mathlib.Omega.{arith}
-use mathlib.Core.Path.{_≡_, refl, ap, ap₂, _∙_}
+use mathlib.Core.Path.{_≡_, refl, sym, ap, ap₂, _∙_, subst}
+use mathlib.Core.Logic.{_⊎_, inl, inr, _≢_}
 use mathlib.Core.Bool.{Bool, true, false, not, _&&_, _||_}
 use mathlib.Core.List.{List}
 use lib.ListN.{getD}
 use lib.Dec.{eqb, ltb}
 use lib.Bits.{bitAnd, bitOr}
-use borrow.Author.Tests.{le-ltb, eqb-false}
+use borrow.Author.Tests.{le-ltb, eq-eqb, ne-eqb, eqb-true, eqb-false}
 use Rattle.word.specs.declared.Comparison.{Comparison}
 use Rattle.word.specs.declared.Comparison.the-variants.{Eq, Ne, Lt, Ge, Ltu, Geu}
-use Rattle.word.specs.Word.{choose, truth, compareOf, comparisonCode, evalOf, andNotOf, arity}
+use Rattle.word.specs.Word.{choose, truth, compareOf, comparisonCode, evalOf, overOf, addCode, subCode, andNotOf, arity}
 use Rattle.word.proofs.WireLaws.{eval-uses, and-truth, or-truth, and-not-truth, select-truth}
 use Rattle.word.proofs.Laws.{eval-compare}
+use Rattle.word.proofs.OverLaws.{over-other}
 use Rattle.cfg.specs.declared.Instruction.{Instruction}
-use Rattle.cfg.specs.Graph.{valueOf}
-use Rattle.fsmd.specs.Machine.{wireValue}
+use Rattle.cfg.specs.Graph.{valueOf, instructionOver}
+use Rattle.fsmd.specs.declared.Wire.{Wire}
+use Rattle.fsmd.specs.Machine.{wireArity, wireValue, wireOver}
+use Rattle.fsmd.proofs.WireReads.{reads-operands}
+use Rattle.runs.proofs.Tests.{Compared, compared, same, other}
 use Rattle.synthesis.proofs.GraphFacts.{two-operands}
 use Rattle.state.specs.Wires.{wire, set-wire, and-wire, or-wire, and-not-wire, select-wire, instructionWire}
 use Rattle.cfg.proofs.Admitted.{ValidInstruction}
@@ -65,24 +70,84 @@ set-or-read true at refs a x h = refl
 set-or-read false at refs a x h = h refl
 
 -- it reads what the instruction reads, where the references of registers below R read the registers q
-pub instruction-value : (sampled : ℕ) (at refs : ℕ → ℕ) (R : ℕ) (q : List ℕ) (i : Instruction) → ValidInstruction R i
+pub instruction-value : (sampled : ℕ) (at refs : ℕ → ℕ) (R arrival : ℕ) (q : List ℕ) (i : Instruction) → ValidInstruction R i
     → ((r : ℕ) → r < R → at (refs r) ≡ getD q r 0)
-    → wireValue sampled at (instructionWire refs i) ≡ valueOf sampled (λ r. getD q r 0) (i .code) (i .a) (i .b)
+    → wireValue sampled at (instructionWire refs arrival i) ≡ valueOf sampled (λ r. getD q r 0) (i .code) (i .a) (i .b)
 unfolding wireValue instructionWire
-instruction-value sampled at refs R q i f h =
+instruction-value sampled at refs R arrival q i f h =
     let k = i .code in
     let t = eqb k 1 in
     let n = two-operands f in
-    let a = choose (ltb (arity k) 1) 0 (choose t (i .a) (refs (i .a))) in
+    let l = reads-operands k in
+    let a = choose (ltb (wireArity k) 1) 0 (choose t (i .a) (refs (i .a))) in
     eval-uses
     sampled
     (choose t a (at a))
-    (at (choose (ltb (arity k) 2) 0 (refs (i .b))))
-    (at 0)
+    (at (choose (ltb (wireArity k) 2) 0 (refs (i .b))))
+    (at (choose (ltb (wireArity k) 3) 0 arrival))
     (choose t (i .a) (getD q (i .a) 0))
     (getD q (i .b) 0)
     0
     k
-    (λ d. rw (le-ltb (arity k) 1 d) (set-or-read t at refs (i .a) (getD q (i .a) 0) (λ e. h (i .a) (f .first d (eqb-false k 1 e)))))
-    (λ d. rw (le-ltb (arity k) 2 (omega arith)) (h (i .b) (f .second (omega arith))))
+    (λ d. rw (le-ltb (wireArity k) 1 (omega arith)) (set-or-read t at refs (i .a) (getD q (i .a) 0) (λ e. h (i .a) (f .first d (eqb-false k 1 e)))))
+    (λ d. rw (le-ltb (wireArity k) 2 (omega arith)) (h (i .b) (f .second (omega arith))))
     (λ d. absurd (omega arith))
+
+-- ---- where an instruction's wire goes over
+
+and-swap : (a b : Bool) → (a && b) ≡ (b && a)
+and-swap true true = refl
+and-swap true false = refl
+and-swap false true = refl
+and-swap false false = refl
+
+nonzero-truth : (b : Bool) → not (eqb (truth b) 0) ≡ b
+nonzero-truth true = refl
+nonzero-truth false = refl
+
+-- a wire of another code does not
+pub quiet-wire : (f : ℕ → ℕ) (w : Wire) → w .code ≢ addCode → w .code ≢ subCode → wireOver f w ≡ false
+unfolding wireOver
+quiet-wire f w h k = ap (λ (b : Bool). b && not (eqb (f (w .c)) 0)) (over-other (w .code) (f (w .a)) (f (w .b)) h k)
+
+code-is : (refs : ℕ → ℕ) (arrival : ℕ) (i : Instruction) → instructionWire refs arrival i .code ≡ i .code
+unfolding instructionWire
+code-is refs arrival i = refl
+
+-- the wire of an add or sub, by its three references
+module _ (f refs : ℕ → ℕ) (arrival d a b : ℕ) where
+  abbrev OverBy : ℕ → Type 0
+  OverBy k = wireOver f (instructionWire refs arrival (record { code = k; d = d; a = a; b = b })) ≡ (overOf k (f (refs a)) (f (refs b)) && not (eqb (f arrival) 0))
+
+  over-reads : (k : ℕ) → (k ≡ addCode) ⊎ (k ≡ subCode) → OverBy k
+  unfolding wireOver instructionWire wireArity
+  over-reads k (inl e) = subst OverBy (sym e) refl
+  over-reads k (inr e) = subst OverBy (sym e) refl
+
+two-read : (k : ℕ) → (k ≡ addCode) ⊎ (k ≡ subCode) → (arity k ≡ 2) × (k ≢ 1)
+unfolding arity
+two-read k (inl e) = (rw e, λ h. absurd (omega arith))
+two-read k (inr e) = (rw e, λ h. absurd (omega arith))
+
+-- it goes over and counts where the instruction goes over and its block is arrived at
+pub instruction-over : (f refs : ℕ → ℕ) (R arrival : ℕ) (q : List ℕ) (b : Bool) (i : Instruction) → ValidInstruction R i
+    → ((r : ℕ) → r < R → f (refs r) ≡ getD q r 0) → f arrival ≡ truth b
+    → wireOver f (instructionWire refs arrival i) ≡ (b && instructionOver i q)
+instruction-over f refs R arrival q b i v h e = go (compared (i .code) addCode) (compared (i .code) subCode)
+  where
+    both : (i .code ≡ addCode) ⊎ (i .code ≡ subCode) → wireOver f (instructionWire refs arrival i) ≡ (b && instructionOver i q)
+    both k =
+        let n = two-read (i .code) k in
+        over-reads f refs arrival (i .d) (i .a) (i .b) (i .code) k
+        ∙ rw (h (i .a) (v .first (let m = n .0 in omega arith) (n .1)), h (i .b) (v .second (n .0)), e, nonzero-truth b)
+        (and-swap (instructionOver i q) b)
+
+    none : i .code ≢ addCode → i .code ≢ subCode → wireOver f (instructionWire refs arrival i) ≡ (b && instructionOver i q)
+    none p r =
+        quiet-wire f (instructionWire refs arrival i) (λ e. p (sym (code-is refs arrival i) ∙ e)) (λ e. r (sym (code-is refs arrival i) ∙ e))
+        ∙ rw (over-other (i .code) (getD q (i .a) 0) (getD q (i .b) 0) p r) (and-swap false b)
+
+    go : Compared (i .code) addCode → Compared (i .code) subCode → wireOver f (instructionWire refs arrival i) ≡ (b && instructionOver i q)
+    go (same t k) d = both (inl k)
+    go (other t k) (same u l) = both (inr l)
+    go (other t k) (other u l) = none k l

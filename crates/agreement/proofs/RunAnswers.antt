@@ -9,10 +9,11 @@ use mathlib.Core.List.{List, _++_}
 use lib.Dec.{ltb}
 use lib.ListN.{length, take, drop}
 use borrow.Author.Tests.{lt-ltb, le-ltb, ltb-true, ltb-false}
+use Rattle.word.specs.Word.{truth}
 use Rattle.runs.specs.Lists.{mem}
-use Rattle.runs.specs.Runs.{Place, standing, halted, Configuration, startAt, Supply, Runner, goes, times, stepsRun, outcome, answer, registersAfter, runNumber, runOutcome, runCount, runNext}
+use Rattle.runs.specs.Runs.{Place, standing, halted, Configuration, startAt, Supply, Runner, goes, times, stepsRun, outcome, answer, registersAfter, runNumber, runOutcome, runCount, runNext, runFlag}
 use Rattle.runs.specs.declared.RunAnswer.{RunAnswer}
-use Rattle.runs.proofs.RunLaws.{never-both, place-of, registers-of, arrivals-of, halted-ends, dry-lasts}
+use Rattle.runs.proofs.RunLaws.{never-both, place-of, registers-of, flag-of, arrivals-of, halted-ends, dry-lasts}
 use Rattle.runs.proofs.RunLaws.{stepsRun-le, going-before, at-count, left-ended, arrivals-run}
 use Rattle.runs.proofs.RunLaws.{Reached, reached-after, answer-is, reached-spent, reached-halted, reached-dry, at-ended}
 use Rattle.cfg.specs.Graph.{CFG, graphRunner}
@@ -28,38 +29,43 @@ use Rattle.agreement.proofs.WholeRun.{standing-of, Here, Over, Both}
 
 -- ---- the fields of an outcome
 
-outcome-number : (p : Place) (left : Bool) (c : ℕ) → runNumber (outcome p left c) ≡ 0
-outcome-number (standing n) true c = refl
-outcome-number (standing n) false c = refl
-outcome-number halted left c = refl
+outcome-number : (p : Place) (left : Bool) (c : ℕ) (f : Bool) → runNumber (outcome p left c f) ≡ 0
+outcome-number (standing n) true c f = refl
+outcome-number (standing n) false c f = refl
+outcome-number halted left c f = refl
 
-outcome-next : (p : Place) (left : Bool) (c : ℕ) → runNext (outcome p left c) ≡ nextAt p
-outcome-next (standing n) true c = refl
-outcome-next (standing n) false c = refl
-outcome-next halted left c = refl
+outcome-next : (p : Place) (left : Bool) (c : ℕ) (f : Bool) → runNext (outcome p left c f) ≡ nextAt p
+outcome-next (standing n) true c f = refl
+outcome-next (standing n) false c f = refl
+outcome-next halted left c f = refl
 
-outcome-count : (p : Place) (left : Bool) (c : ℕ) → runCount (outcome p left c) ≡ c
-outcome-count (standing n) true c = refl
-outcome-count (standing n) false c = refl
-outcome-count halted left c = refl
+outcome-count : (p : Place) (left : Bool) (c : ℕ) (f : Bool) → runCount (outcome p left c f) ≡ c
+outcome-count (standing n) true c f = refl
+outcome-count (standing n) false c f = refl
+outcome-count halted left c f = refl
 
-outcome-halted : (p : Place) (left : Bool) (c : ℕ) → runOutcome (outcome p left c) ≡ 1 → p ≡ halted
-outcome-halted (standing n) true c h = absurd (omega arith)
-outcome-halted (standing n) false c h = absurd (omega arith)
-outcome-halted halted left c h = refl
+outcome-flag : (p : Place) (left : Bool) (c : ℕ) (f : Bool) → runFlag (outcome p left c f) ≡ truth f
+outcome-flag (standing n) true c f = refl
+outcome-flag (standing n) false c f = refl
+outcome-flag halted left c f = refl
 
-halted-outcome : (p : Place) (left : Bool) (c : ℕ) → p ≡ halted → runOutcome (outcome p left c) ≡ 1
-halted-outcome p left c h = rw h
+outcome-halted : (p : Place) (left : Bool) (c : ℕ) (f : Bool) → runOutcome (outcome p left c f) ≡ 1 → p ≡ halted
+outcome-halted (standing n) true c f h = absurd (omega arith)
+outcome-halted (standing n) false c f h = absurd (omega arith)
+outcome-halted halted left c f h = refl
 
-outcome-spent : (p : Place) (left : Bool) (c : ℕ) → runOutcome (outcome p left c) ≡ 0 → left ≡ false
-outcome-spent (standing n) true c h = absurd (omega arith)
-outcome-spent (standing n) false c h = refl
-outcome-spent halted left c h = absurd (omega arith)
+halted-outcome : (p : Place) (left : Bool) (c : ℕ) (f : Bool) → p ≡ halted → runOutcome (outcome p left c f) ≡ 1
+halted-outcome p left c f h = rw h
 
-outcome-dry : (p : Place) (left : Bool) (c : ℕ) → runOutcome (outcome p left c) ≡ 2 → ((n : ℕ) × (p ≡ standing n)) × (left ≡ true)
-outcome-dry (standing n) true c h = ((n, refl), refl)
-outcome-dry (standing n) false c h = absurd (omega arith)
-outcome-dry halted left c h = absurd (omega arith)
+outcome-spent : (p : Place) (left : Bool) (c : ℕ) (f : Bool) → runOutcome (outcome p left c f) ≡ 0 → left ≡ false
+outcome-spent (standing n) true c f h = absurd (omega arith)
+outcome-spent (standing n) false c f h = refl
+outcome-spent halted left c f h = absurd (omega arith)
+
+outcome-dry : (p : Place) (left : Bool) (c : ℕ) (f : Bool) → runOutcome (outcome p left c f) ≡ 2 → ((n : ℕ) × (p ≡ standing n)) × (left ≡ true)
+outcome-dry (standing n) true c f h = ((n, refl), refl)
+outcome-dry (standing n) false c f h = absurd (omega arith)
+outcome-dry halted left c f h = absurd (omega arith)
 
 -- ---- an operation that is refused for a short buffer alone, of a machine: n is the number of its refusal
 
@@ -77,16 +83,19 @@ module _ (m : Runner) (each : (q : ℕ) → m .arrives q ≡ true) (ws : Supply)
   abbrev count : ℕ
   count = stepsRun m ws k c₀
 
+  abbrev flag : Bool
+  flag = machineAfter m ws q₀ rs k .contents .flag
+
   abbrev result : RunAnswer
   result = answered n m ws buffer q₀ k
 
   abbrev Agrees : Type 0
   Agrees = RunAgrees m ws q₀ k buffer (registersLeft n m ws buffer q₀ k) result
 
-  run-outcome : maxRegisters ≤ length buffer → result ≡ outcome place (ltb count k) count
+  run-outcome : maxRegisters ≤ length buffer → result ≡ outcome place (ltb count k) count flag
   run-outcome h = accepted m ws buffer q₀ k n (full h) ∙ answer-is m ws k c₀
 
-  run-registers : maxRegisters ≤ length buffer → registersLeft n m ws buffer q₀ k ≡ machineAfter m ws q₀ rs k .registers ++ drop maxRegisters buffer
+  run-registers : maxRegisters ≤ length buffer → registersLeft n m ws buffer q₀ k ≡ machineAfter m ws q₀ rs k .contents .registers ++ drop maxRegisters buffer
   unfolding registersAfter
   run-registers h = accepted-left m ws buffer q₀ k n (full h)
 
@@ -115,23 +124,24 @@ module _ (m : Runner) (each : (q : ℕ) → m .arrives q ≡ true) (ws : Supply)
   long-enough h =
       let e = run-outcome h in
       let left = ltb count k in
-      let number = ap runNumber e ∙ outcome-number place left count in
-      let counted = ap runCount e ∙ outcome-count place left count in
+      let number = ap runNumber e ∙ outcome-number place left count flag in
+      let counted = ap runCount e ∙ outcome-count place left count flag in
       record {
         not9 = λ d. absurd (omega arith);
         not10 = λ d. absurd (omega arith);
         not12 = λ d. absurd (omega arith);
         accepted = λ d. number;
         answers = λ z. record {
-          halts = (λ d. outcome-halted place left count (sym (ap runOutcome e) ∙ d), λ d. ap runOutcome e ∙ halted-outcome place left count d);
+          halts = (λ d. outcome-halted place left count flag (sym (ap runOutcome e) ∙ d), λ d. ap runOutcome e ∙ halted-outcome place left count flag d);
           registers = run-registers h;
-          next = ap runNext e ∙ outcome-next place left count;
+          flag = ap runFlag e ∙ outcome-flag place left count flag;
+          next = ap runNext e ∙ outcome-next place left count flag;
           spent = λ d.
-              let l = ltb-false count k (outcome-spent place left count (sym (ap runOutcome e) ∙ d)) in
+              let l = ltb-false count k (outcome-spent place left count flag (sym (ap runOutcome e) ∙ d)) in
               counted ∙ omega (arith, stepsRun-le m ws k c₀);
-          ended = λ d. rw counted (halting (outcome-halted place left count (sym (ap runOutcome e) ∙ d)));
+          ended = λ d. rw counted (halting (outcome-halted place left count flag (sym (ap runOutcome e) ∙ d)));
           dried = λ d.
-              let p = outcome-dry place left count (sym (ap runOutcome e) ∙ d) in
+              let p = outcome-dry place left count flag (sym (ap runOutcome e) ∙ d) in
               rw counted (drying (p .0 .0) (p .0 .1) (ltb-true count k (p .1)));
         };
       }
@@ -182,8 +192,8 @@ module _ (g : CFG) (s : Groups) (ws : Supply) (b₀ : ℕ) (rs : List ℕ) (k : 
       ∙ arrivals-run machine ws (λ q. refl) k (startAt (stateIn s b₀) rs) (stateIn s b) (place-of (both .machine) ∙ ap (placeIn s) h)
       ∙ omega arith
 
-  machine-outcome : runOutcome (answer machine ws k (startAt (stateIn s b₀) rs)) ≡ runOutcome (outcome (placeIn s (end .place)) (ltb cycles k) cycles)
-  machine-outcome = ap runOutcome (answer-is machine ws k (startAt (stateIn s b₀) rs)) ∙ ap (λ (p : Place). runOutcome (outcome p (ltb cycles k) cycles)) (place-of (both .machine))
+  machine-outcome : runOutcome (answer machine ws k (startAt (stateIn s b₀) rs)) ≡ runOutcome (outcome (placeIn s (end .place)) (ltb cycles k) cycles (end .contents .flag))
+  machine-outcome = ap runOutcome (answer-is machine ws k (startAt (stateIn s b₀) rs)) ∙ ap (λ (c : Configuration). runOutcome (outcome (c .place) (ltb cycles k) cycles (c .contents .flag))) (both .machine)
 
   spent-alike : Here s k end → RunsAlike g s machine ws b₀ rs k
   spent-alike h =
@@ -201,7 +211,7 @@ module _ (g : CFG) (s : Groups) (ws : Supply) (b₀ : ℕ) (rs : List ℕ) (k : 
 
   -- ended with the block budget n, and so with every larger one
   ended-alike : (o : Over s ws k end) (n : ℕ) (l : both .steps ≤ n)
-      → runOutcome (answer graph ws n from) ≡ runOutcome (outcome (placeIn s (end .place)) (ltb cycles k) cycles) → SameEnd g s machine ws b₀ rs k n
+      → runOutcome (answer graph ws n from) ≡ runOutcome (outcome (placeIn s (end .place)) (ltb cycles k) cycles (end .contents .flag)) → SameEnd g s machine ws b₀ rs k n
   ended-alike o n l e =
       let z : graphAfter g (s .starters) ws b₀ rs n ≡ end = at-ended graph ws n from (both .steps) end (frame n l) (o .ended) in
       record {
@@ -239,16 +249,19 @@ module _ (g : CFG) (s : Groups) (m : Runner) (ws : Supply) (b₀ : ℕ) (rs : Li
   right = answer m ws k (startAt (stateIn s b₀) rs)
 
   answer-number : (r : Runner) (k : ℕ) (c : Configuration) → runNumber (answer r ws k c) ≡ 0
-  answer-number r k c = ap runNumber (answer-is r ws k c) ∙ outcome-number (times r ws k c .place) (ltb (stepsRun r ws k c) k) (stepsRun r ws k c)
+  answer-number r k c = ap runNumber (answer-is r ws k c) ∙ outcome-number (times r ws k c .place) (ltb (stepsRun r ws k c) k) (stepsRun r ws k c) (times r ws k c .contents .flag)
 
   answer-next : (r : Runner) (k : ℕ) (c : Configuration) → runNext (answer r ws k c) ≡ nextAt (times r ws k c .place)
-  answer-next r k c = ap runNext (answer-is r ws k c) ∙ outcome-next (times r ws k c .place) (ltb (stepsRun r ws k c) k) (stepsRun r ws k c)
+  answer-next r k c = ap runNext (answer-is r ws k c) ∙ outcome-next (times r ws k c .place) (ltb (stepsRun r ws k c) k) (stepsRun r ws k c) (times r ws k c .contents .flag)
+
+  answer-flag : (r : Runner) (k : ℕ) (c : Configuration) → runFlag (answer r ws k c) ≡ truth (times r ws k c .contents .flag)
+  answer-flag r k c = ap runFlag (answer-is r ws k c) ∙ outcome-flag (times r ws k c .place) (ltb (stepsRun r ws k c) k) (stepsRun r ws k c) (times r ws k c .contents .flag)
 
   next-alike : (p : Place) → graphAfter g (s .starters) ws b₀ rs n .place ≡ p
       → (runOutcome right ≡ 1) ⊎ ((mem (runNext left) (s .starters) ≡ true) × (runNext right ≡ stateIn s (runNext left)))
   next-alike halted h =
       inl (ap runOutcome (answer-is m ws k (startAt (stateIn s b₀) rs))
-      ∙ halted-outcome (times m ws k (startAt (stateIn s b₀) rs) .place) (ltb (stepsRun m ws k (startAt (stateIn s b₀) rs)) k) (stepsRun m ws k (startAt (stateIn s b₀) rs))
+      ∙ halted-outcome (times m ws k (startAt (stateIn s b₀) rs) .place) (ltb (stepsRun m ws k (startAt (stateIn s b₀) rs)) k) (stepsRun m ws k (startAt (stateIn s b₀) rs)) (times m ws k (startAt (stateIn s b₀) rs) .contents .flag)
       (place-of (e .same) ∙ ap (placeIn s) h))
   next-alike (standing b) h =
       let l : runNext left ≡ b = answer-next (graphRunner g (s .starters)) n (startAt b₀ rs) ∙ ap nextAt h in
@@ -266,5 +279,6 @@ module _ (g : CFG) (s : Groups) (m : Runner) (ws : Supply) (b₀ : ℕ) (rs : Li
         accepted = (answer-number (graphRunner g (s .starters)) n (startAt b₀ rs), answer-number m k (startAt (stateIn s b₀) rs));
         outcome = e .outcome;
         registers = ap (λ (q : List ℕ). q ++ high) (sym (registers-of (e .same)));
+        flag = answer-flag (graphRunner g (s .starters)) n (startAt b₀ rs) ∙ ap truth (sym (flag-of (e .same))) ∙ sym (answer-flag m k (startAt (stateIn s b₀) rs));
         next = next-alike (graphAfter g (s .starters) ws b₀ rs n .place) refl;
       }

@@ -195,8 +195,8 @@ without-words-for s t table a = record {
   runs = λ h buffer k. rw (a .begins) at (a .wordlessRuns (a .silent h) 0 (a .entry) buffer k);
   unmarked = λ rs n.
       let g = graphOf t in
-      let l = times-level (graphRunner g [] .unit) (λ b. mem b []) (λ b. mem b (s .starters)) n (startAt 0 rs) (startAt 0 rs) (record { place = refl; registers = refl }) in
-      (l .place, l .registers);
+      let l = times-level (graphRunner g [] .unit) (λ b. mem b []) (λ b. mem b (s .starters)) n (startAt 0 rs) (startAt 0 rs) (record { place = refl; contents = refl }) in
+      (l .place, l .contents);
 }
 
 pub without-words : (t table : List ℕ) → Agreement t table → AgreementWithoutWords t table

@@ -9,12 +9,12 @@ use mathlib.Core.List.{List}
 use lib.ListN.{length, getD, drop, length-append, length-map, length-drop}
 use borrow.Author.Tests.{lt-ltb, le-ltb}
 use Rattle.runs.specs.Lists.{mem}
-use Rattle.runs.specs.Runs.{Place, standing, halted, Configuration, standsAt, startAt, Supply, Moved, onward, arrivalsAt, moved, goes, step, times}
-use Rattle.runs.proofs.RunLaws.{never-both, false-true, place-of, registers-of, arrivals-of, going-lasts, goes-standing, halted-ends, dry-ends}
+use Rattle.runs.specs.Runs.{Place, standing, halted, Contents, Configuration, standsAt, startAt, Supply, Moved, onward, arrivalsAt, contentsAfter, moved, goes, step, times}
+use Rattle.runs.proofs.RunLaws.{never-both, false-true, place-of, contents-of, registers-of, arrivals-of, going-lasts, goes-standing, halted-ends, dry-ends}
 use Rattle.runs.proofs.RunLaws.{moved-to, step-going, step-ended, times-zero, times-add, times-last, stepsRun-zero, stepsRun-add}
 use Rattle.cfg.specs.Graph.{CFG, graphRunner}
 use Rattle.fsmd.specs.Layout.{maxRegisters, absent}
-use Rattle.fsmd.specs.Machine.{State, FSMD, stateOf as stateAt, worked, toState, clock, machineRunner}
+use Rattle.fsmd.specs.Machine.{State, FSMD, stateOf as stateAt, worked, wiresOver, toState, clock, machineRunner}
 use Rattle.grouping.specs.Grouping.{Groups}
 use Rattle.placement.specs.Placement.{order, members}
 use Rattle.state.specs.Wires.{leaves, nextStateOf, stateMade}
@@ -29,18 +29,20 @@ use Rattle.agreement.proofs.Arrivals.{arrival-or-halt, end-once, end-la
 
 -- ---- one cycle of the machine
 
-clock-reads : (m : FSMD) (w : ℕ) (q : State) (rs : List ℕ) (v : ℕ) (qs : List ℕ)
+clock-reads : (m : FSMD) (w : ℕ) (q : State) (rs : List ℕ) (v : ℕ) (qs : List ℕ) (o : Bool)
     → Reads (m .registers) (drop (m .registers) rs) (worked w rs (q .wires)) (q .next) (q .nextRegisters) v qs
-    → clock m w q rs ≡ record { place = toState (length (m .states)) v; registers = qs }
+    → wiresOver w rs (q .wires) ≡ o
+    → clock m w q rs ≡ record { place = toState (length (m .states)) v; registers = qs; over = o }
 unfolding clock
-clock-reads m w q rs v qs l = λ i. record { place = toState (length (m .states)) (l .reads i); registers = l .words i }
+clock-reads m w q rs v qs o l e = λ i. record { place = toState (length (m .states)) (l .reads i); registers = l .words i; over = e i }
 
-clocked : (g : CFG) (s : Groups) (w k : ℕ) (rs : List ℕ) (v : ℕ) (qs : List ℕ) → k < length (s .starters) → StateReads g (stateMade g s k) w rs v qs
-    → clock (machineFor g s) w (stateAt (machineFor g s) k) rs ≡ record { place = toState (length (s .starters)) v; registers = qs }
-clocked g s w k rs v qs h l =
+clocked : (g : CFG) (s : Groups) (w k : ℕ) (rs : List ℕ) (v : ℕ) (qs : List ℕ) (o : Bool) → k < length (s .starters) → StateReads g (stateMade g s k) w rs v qs
+    → wiresOver w rs (stateMade g s k .wires) ≡ o
+    → clock (machineFor g s) w (stateAt (machineFor g s) k) rs ≡ record { place = toState (length (s .starters)) v; registers = qs; over = o }
+clocked g s w k rs v qs o h l e =
     ap (λ (q : State). clock (machineFor g s) w q rs) (state-at g s k h)
-    ∙ clock-reads (machineFor g s) w (stateMade g s k) rs v qs (rw (registers-are g s) l)
-    ∙ ap (λ (n : ℕ). record { place = toState n v; registers = qs }) (states-count g s)
+    ∙ clock-reads (machineFor g s) w (stateMade g s k) rs v qs o (rw (registers-are g s) l) e
+    ∙ ap (λ (n : ℕ). record { place = toState n v; registers = qs; over = o }) (states-count g s)
 
 reads-length : {R : ℕ} {high E : List ℕ} {t : ℕ} {vs : List ℕ} {v : ℕ} {q : List ℕ} → Reads R high E t vs v q → length q ≡ R + length high
 reads-length {R} {high} {E} {t} {vs} l = sym (ap length (l .words)) ∙ simp (length-append, length-map) (let c = l .count in omega arith)
@@ -65,12 +67,12 @@ module _ (g : CFG) (s : Groups) (a : Arranged g s) where
   arrivals-in (standing b) k h = rw h
   arrivals-in halted k h = refl
 
-  moved-in : (k : ℕ) (m : Moved) → leaves s (m .place) ≡ true
-      → moved (λ q. true) k (record { place = toState (length (s .starters)) (nextStateOf s (m .place)); registers = m .registers })
-      ≡ inMachine s (moved (λ b. mem b (s .starters)) k m)
-  moved-in k m h =
-      ap (λ (p : Place). moved (λ q. true) k (record { place = p; registers = m .registers })) (to-place (m .place) h)
-      ∙ ap (λ (n : ℕ). record { place = placeIn s (m .place); registers = m .registers; arrivals = n }) (arrivals-in (m .place) k h)
+  moved-in : (c : Configuration) (m : Moved) → leaves s (m .place) ≡ true
+      → moved (λ q. true) (inMachine s c) (record { place = toState (length (s .starters)) (nextStateOf s (m .place)); registers = m .registers; over = m .over })
+      ≡ inMachine s (moved (λ b. mem b (s .starters)) c m)
+  moved-in c m h =
+      ap (λ (p : Place). moved (λ q. true) (inMachine s c) (record { place = p; registers = m .registers; over = m .over })) (to-place (m .place) h)
+      ∙ ap (λ (n : ℕ). record { place = placeIn s (m .place); contents = contentsAfter (c .contents .flag) m; arrivals = n }) (arrivals-in (m .place) (c .arrivals) h)
 
 -- ---- whole runs
 
@@ -86,15 +88,15 @@ pub record Over (s : Groups) (ws : Supply) (k : ℕ) (c : Configuration) : Type 
   pub ended : goes ws c ≡ false
   pub counted : c .arrivals < k
 
-here-is : {s : Groups} {k : ℕ} {c : Configuration} → (h : Here s k c) → c ≡ standsAt k (h .block) (c .registers)
-here-is {s} {k} {c} h = λ i. record { place = h .place i; registers = c .registers; arrivals = h .counted i }
+here-is : {s : Groups} {k : ℕ} {c : Configuration} → (h : Here s k c) → c ≡ standsAt k (h .block) (c .contents)
+here-is {s} {k} {c} h = λ i. record { place = h .place i; contents = c .contents; arrivals = h .counted i }
 
 module _ (g : CFG) (s : Groups) (ws : Supply) (b₀ : ℕ) (rs : List ℕ) where
   -- the graph's run comes with `steps` steps to where the machine stands after k cycles
   pub record Both (k : ℕ) : Type 0 where
     pub steps : ℕ
     pub run : AllRun g (s .starters) ws b₀ rs steps
-    pub size : length (graphAfter g (s .starters) ws b₀ rs steps .registers) ≡ maxRegisters
+    pub size : length (graphAfter g (s .starters) ws b₀ rs steps .contents .registers) ≡ maxRegisters
     pub machine : machineAfter (machineRunner (machineFor g s)) ws (stateIn s b₀) rs k ≡ inMachine s (graphAfter g (s .starters) ws b₀ rs steps)
     pub met : Here s k (graphAfter g (s .starters) ws b₀ rs steps) ⊎ Over s ws k (graphAfter g (s .starters) ws b₀ rs steps)
 
@@ -107,14 +109,14 @@ module _ (g : CFG) (s : Groups) (f : GraphFits g) (a : Arranged g s) (ws : Suppl
 
   -- the next cycle, from an arrival for which there is a word
   module _ (k : ℕ) (r : Both g s ws b₀ rs k) (h : Here s k (G (r .steps))) (lasts : ws .lasts k ≡ true) where
-    abbrev q : List ℕ
-    q = G (r .steps) .registers
+    abbrev q : Contents
+    q = G (r .steps) .contents
 
-    agrees : CycleAgrees g s (ws .word k) q (stateIn s (h .block)) (h .block)
-    agrees = cycle-agrees g s (ws .word k) q (r .size) f (stateIn s (h .block)) (h .block) (a .placed (h .block) (h .starter))
+    agrees : CycleAgrees g s (ws .word k) (q .registers) (stateIn s (h .block)) (h .block)
+    agrees = cycle-agrees g s (ws .word k) (q .registers) (r .size) f (stateIn s (h .block)) (h .block) (a .placed (h .block) (h .starter))
 
     abbrev reached : Configuration
-    reached = moved (λ b. mem b (s .starters)) k (agrees .reached)
+    reached = moved (λ b. mem b (s .starters)) (standsAt k (h .block) q) (agrees .reached)
 
     reached-at : G (r .steps + agrees .steps) ≡ reached
     reached-at =
@@ -133,14 +135,15 @@ module _ (g : CFG) (s : Groups) (f : GraphFits g) (a : Arranged g s) (ws : Suppl
         times-last m ws k (startAt (stateIn s b₀) rs)
         ∙ ap (step m ws) (r .machine ∙ ap (inMachine s) (here-is h))
         ∙ step-going m ws (standsAt k (stateIn s (h .block)) q) (stateIn s (h .block)) refl lasts
-        ∙ ap (moved (λ q. true) k) (clocked g s (ws .word k) (stateIn s (h .block)) q (nextStateOf s (agrees .reached .place)) (agrees .reached .registers)
-        (a .home (h .block) (h .starter)) (agrees .state))
-        ∙ moved-in g s a k (agrees .reached) (agrees .leaving)
+        ∙ ap (moved (λ q. true) (standsAt k (stateIn s (h .block)) q))
+        (clocked g s (ws .word k) (stateIn s (h .block)) (q .registers) (nextStateOf s (agrees .reached .place)) (agrees .reached .registers) (agrees .reached .over)
+        (a .home (h .block) (h .starter)) (agrees .state) (agrees .raised))
+        ∙ moved-in g s a (standsAt k (h .block) q) (agrees .reached) (agrees .leaving)
 
     met-next : (p : Place) → agrees .reached .place ≡ p → Here s (suc k) reached ⊎ Over s ws (suc k) reached
     met-next (standing b) e =
         let m : mem b (s .starters) ≡ true = rw e at (agrees .leaving) in
-        inl (record { block = b; place = e; starter = m; counted = arrivals-of (moved-to (λ b. mem b (s .starters)) k (agrees .reached) b true e m) })
+        inl (record { block = b; place = e; starter = m; counted = arrivals-of (moved-to (λ b. mem b (s .starters)) (standsAt k (h .block) q) (agrees .reached) b true e m) })
     met-next halted e = inr (record { place = agrees .leaving; ended = halted-ends ws reached e; counted = rw e (omega arith) })
 
     advance : (n : Both g s ws b₀ rs (suc k)) × (r .steps + 1 ≤ n .steps) × (n .steps ≤ r .steps + length (order g s (stateIn s (h .block))))
@@ -201,10 +204,10 @@ module _ (g : CFG) (s : Groups) (f : GraphFits g) (a : Arranged g s) (ws : Suppl
     where
       over : (p : Place) → G (r .steps) .place ≡ p → Over s ws k (G (r .steps)) → AfterCycles g (s .starters) ws b₀ rs k (r .steps)
       over (standing b) e o = absurd (false-true (o .ended) (goes-standing ws (G (r .steps)) b e (lasts (G (r .steps) .arrivals) (o .counted))))
-      over halted e o = inr (G (r .steps) .registers, record { run = r .run; stopped = e; registers = refl; counted = o .counted })
+      over halted e o = inr (G (r .steps) .contents, record { run = r .run; stopped = e; contents = refl; counted = o .counted })
 
       go : Here s k (G (r .steps)) ⊎ Over s ws k (G (r .steps)) → AfterCycles g (s .starters) ws b₀ rs k (r .steps)
-      go (inl h) = inl (h .block, G (r .steps) .registers, record { run = r .run; stands = here-is h; starter = h .starter })
+      go (inl h) = inl (h .block, G (r .steps) .contents, record { run = r .run; stands = here-is h; starter = h .starter })
       go (inr o) = over (G (r .steps) .place) refl o
 
 -- ---- the statement on the machine of a grouping
@@ -230,19 +233,19 @@ module _ (g : CFG) (s : Groups) (f : GraphFits g) (a : Arranged g s) (ws : Suppl
   machine-alike : (n : ℕ) → AfterCycles g (s .starters) ws b₀ rs k n → machine ≡ inMachine s (graph n)
   machine-alike n e = rw (← end-once g (s .starters) ws b₀ rs k (both .steps) n end-of-cycle e) (both .machine)
 
-  halted-graph : (q : List ℕ) → machine .place ≡ halted → machine .registers ≡ q → (n : ℕ) × HaltBefore g (s .starters) ws b₀ rs k n q
+  halted-graph : (q : Contents) → machine .place ≡ halted → machine .contents ≡ q → (n : ℕ) × HaltBefore g (s .starters) ws b₀ rs k n q
   halted-graph q e d = go end-of-cycle
     where
       go : AfterCycles g (s .starters) ws b₀ rs k (both .steps) → (n : ℕ) × HaltBefore g (s .starters) ws b₀ rs k n q
       go (inl r) = absurd (never-both (machine .place) (stateIn s (r .0)) (place-of (both .machine ∙ ap (inMachine s) (r .2 .stands))) e)
-      go (inr h) = (both .steps, record { run = h .1 .run; stopped = h .1 .stopped; registers = sym (registers-of (both .machine)) ∙ d; counted = h .1 .counted })
+      go (inr h) = (both .steps, record { run = h .1 .run; stopped = h .1 .stopped; contents = sym (contents-of (both .machine)) ∙ d; counted = h .1 .counted })
 
-  halted-machine : (n : ℕ) (q : List ℕ) → HaltBefore g (s .starters) ws b₀ rs k n q → (machine .place ≡ halted) × (machine .registers ≡ q)
+  halted-machine : (n : ℕ) (q : Contents) → HaltBefore g (s .starters) ws b₀ rs k n q → (machine .place ≡ halted) × (machine .contents ≡ q)
   halted-machine n q h =
       let e = machine-alike n (inr (q, h)) in
-      (place-of e ∙ ap (placeIn s) (h .stopped), registers-of e ∙ h .registers)
+      (place-of e ∙ ap (placeIn s) (h .stopped), contents-of e ∙ h .contents)
 
-  standing-graph : (b : ℕ) (q : List ℕ) → mem b (s .starters) ≡ true → machine ≡ standsAt k (stateIn s b) q
+  standing-graph : (b : ℕ) (q : Contents) → mem b (s .starters) ≡ true → machine ≡ standsAt k (stateIn s b) q
       → (n : ℕ) × Arrival g (s .starters) ws b₀ rs k n b q
   standing-graph b q m e = go end-of-cycle
     where
@@ -251,10 +254,10 @@ module _ (g : CFG) (s : Groups) (f : GraphFits g) (a : Arranged g s) (ws : Suppl
           let z : standsAt k (stateIn s (r .0)) (r .1) ≡ standsAt k (stateIn s b) q = sym (both .machine ∙ ap (inMachine s) (r .2 .stands)) ∙ e in
           let c : r .0 ≡ b =
           sym (a .own (r .0) (r .2 .starter)) ∙ ap (λ (k : ℕ). getD (s .starters) k absent) (standing-of (place-of z)) ∙ a .own b m in
-          (both .steps, rw (c, registers-of z) at (r .2))
+          (both .steps, rw (c, contents-of z) at (r .2))
       go (inr h) = absurd (never-both (machine .place) (stateIn s b) (place-of e) (halted-machine (both .steps) (h .0) (h .1) .0))
 
-  next-blocks : (n b : ℕ) (q : List ℕ) → Arrival g (s .starters) ws b₀ rs k n b q → (n′ : ℕ) → AfterCycles g (s .starters) ws b₀ rs (suc k) n′
+  next-blocks : (n b : ℕ) (q : Contents) → Arrival g (s .starters) ws b₀ rs k n b q → (n′ : ℕ) → AfterCycles g (s .starters) ws b₀ rs (suc k) n′
       → (n + 1 ≤ n′) × (n′ ≤ n + length (members g s (stateIn s b)))
   next-blocks n b q r n′ e =
       let t : both .steps ≡ n = end-once g (s .starters) ws b₀ rs k (both .steps) n end-of-cycle (inl (b, q, r)) in

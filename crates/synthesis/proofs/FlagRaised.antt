@@ -3,13 +3,12 @@ use Prim.Native.Nat.{ℕ, _≤_, _<_}
 use native.Mathlib.Omega.{arith}
 use mathlib.Core.Path.{_≡_, refl, sym, ap, ap₂, _∙_}
 use mathlib.Core.Logic.{_≢_}
-use mathlib.Core.Bool.{Bool, true, false, not, _&&_, _||_}
+use mathlib.Core.Bool.{Bool, true, false, _&&_, _||_, or-assoc, or-false}
 use mathlib.Core.List.{List, [], _∷_, _++_}
 use lib.ListN.{length, getD, drop}
 use Rattle.word.specs.Word.{truth, overOf, addCode, subCode, comparisonCode}
 use Rattle.word.specs.declared.Comparison.{Comparison}
 use Rattle.word.specs.declared.Comparison.the-variants.{Eq, Ne, Lt, Ge, Ltu, Geu}
-use Rattle.runs.proofs.Tests.{or-none}
 use Rattle.cfg.specs.declared.Instruction.{Instruction}
 use Rattle.cfg.specs.declared.Ending.{Ending}
 use Rattle.cfg.specs.declared.Ending.the-variants.{Goto, Ite, Halt}
@@ -26,10 +25,6 @@ use Rattle.synthesis.proofs.WireValues.{quiet-wire, instruction-over}
 use Rattle.synthesis.proofs.Environments.{at}
 use Rattle.synthesis.proofs.Readings.{Reads, reads-at, PointReads, assign-reads}
 
-or-assoc : (a b c : Bool) → ((a || b) || c) ≡ (a || (b || c))
-or-assoc true b c = refl
-or-assoc false b c = refl
-
 -- ---- wires one after another
 
 over-append : (sampled : ℕ) (E : List ℕ) (ws vs : List Wire) → wiresOver sampled E (ws ++ vs) ≡ (wiresOver sampled E ws || wiresOver sampled (worked sampled E ws) vs)
@@ -42,7 +37,7 @@ over-append sampled E (w ∷ ws) vs =
 
 over-one : (sampled : ℕ) (E : List ℕ) (w : Wire) → wiresOver sampled E (w ∷ []) ≡ wireOver (at E) w
 unfolding wiresOver
-over-one sampled E w = or-none (wireOver (at E) w)
+over-one sampled E w = or-false (wireOver (at E) w)
 
 -- ---- wires that do not go over, whatever they read
 
@@ -61,7 +56,7 @@ quiet-append : (sampled : ℕ) (E : List ℕ) (ws vs : List Wire) → Quiet vs �
 quiet-append sampled E ws vs q =
     over-append sampled E ws vs
     ∙ ap (λ (b : Bool). wiresOver sampled E ws || b) (quiet-none sampled (worked sampled E ws) vs q)
-    ∙ or-none (wiresOver sampled E ws)
+    ∙ or-false (wiresOver sampled E ws)
 
 abbrev Other : ℕ → Type 0
 Other k = (k ≢ addCode) × (k ≢ subCode)
@@ -138,7 +133,7 @@ module _ (sampled : ℕ) (rs : List ℕ) where
 
 both-over : (b x y z : Bool) → ((x || (b && y)) || (b && z)) ≡ (x || (b && (y || z)))
 both-over true x y z = or-assoc x y z
-both-over false x y z = or-none (x || false) ∙ refl
+both-over false x y z = or-false (x || false) ∙ refl
 
 module _ (sampled : ℕ) (rs : List ℕ) (size : length rs ≡ maxRegisters) (R : ℕ) where
   assign-over : (i : Instruction) (p : BlockBuild) (b : Bool) {q : List ℕ} → ValidInstruction R i → PointReads sampled rs R p (truth b) q
@@ -154,8 +149,8 @@ module _ (sampled : ℕ) (rs : List ℕ) (size : length rs ≡ maxRegisters) (R 
   assigns-over : (is : List Instruction) (p : BlockBuild) (b : Bool) {q : List ℕ} → ValidCode R is → PointReads sampled rs R p (truth b) q
       → wiresOver sampled rs (assigns is p .wires) ≡ (wiresOver sampled rs (p .wires) || (b && instructionsOver sampled is q))
   unfolding assigns instructionsOver
-  assigns-over [] p true f l = sym (or-none (wiresOver sampled rs (p .wires)))
-  assigns-over [] p false f l = sym (or-none (wiresOver sampled rs (p .wires)))
+  assigns-over [] p true f l = sym (or-false (wiresOver sampled rs (p .wires)))
+  assigns-over [] p false f l = sym (or-false (wiresOver sampled rs (p .wires)))
   assigns-over (i ∷ is) p b {q} f l =
       assigns-over is (assign i p) b (f .1) (assign-reads sampled rs size R i p (f .0) l)
       ∙ ap (λ (x : Bool). x || (b && instructionsOver sampled is (execute sampled i q))) (assign-over i p b (f .0) l)

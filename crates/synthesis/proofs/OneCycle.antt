@@ -5,7 +5,7 @@ use native.Mathlib.Omega.{arith}
 use native.Mathlib.Nat.{add-zero, add-suc, suc-add}
 use mathlib.Core.Path.{_≡_, refl, ap, _∙_}
 use mathlib.Core.Logic.{_⊎_, inl, inr}
-use mathlib.Core.Bool.{Bool, true, false, not, _||_}
+use mathlib.Core.Bool.{Bool, true, false, not, _||_, or-false}
 use mathlib.Core.List.{List, [], _∷_}
 use lib.ListN.{length, drop}
 use borrow.Author.Tests.{eqb-true}
@@ -22,7 +22,6 @@ use Rattle.placement.specs.Placement.{order}
 use Rattle.state.specs.Wires.{towards, leadsTo, StateBuild, arrive, startBlock, enter, after, put, build, leaves, nextStateOf, closeState, stateMade}
 use Rattle.synthesis.proofs.GraphFacts.{GraphFits}
 use Rattle.placement.proofs.StateOrder.{Ahead, Ordered, StateOrder}
-use Rattle.runs.proofs.Tests.{or-none}
 use Rattle.synthesis.proofs.Readings.{Reads, start-reads}
 use Rattle.synthesis.proofs.FlagRaised.{arrive-over, start-over, close-state-over, block-over}
 use Rattle.synthesis.proofs.TakenEdges.{OneTaken, none-grow, one-grow, one-towards, one-away, arrive-grow, arrive-none, arrive-one}
@@ -156,7 +155,7 @@ module _ (g : CFG) (s : Groups) (sampled : ℕ) (rs : List ℕ) (size : length r
       let none = arrive-none sampled rs size R (f .fewRegisters) into (b .wires) (one-away R (drop R rs) E (leadsTo x) c (b .edges) h (t .taken)) in
       rw (put-inner g s x b (o .0)) (record {
         reached = c;
-        raised = block-over sampled rs size R rest (blockOf g x) p false (f .block x .body) (none .1) ∙ or-none (wiresOver sampled rs (p .wires))
+        raised = block-over sampled rs size R rest (blockOf g x) p false (f .block x .body) (none .1) ∙ or-false (wiresOver sampled rs (p .wires))
             ∙ arrive-over sampled rs R into (b .wires) ∙ t .raised;
         steps = t .steps;
         taken = made-passed sampled rs size R (blockOf g x) (f .block x) p c rest (none .1)

@@ -3,7 +3,7 @@ use Prim.Native.Nat.{ℕ, _≤_, _<_}
 use native.Mathlib.Omega.{arith}
 use mathlib.Core.Path.{_≡_, refl, sym, ap, ap₂, _∙_, subst}
 use mathlib.Core.Logic.{_⊎_, inl, inr, _≢_}
-use mathlib.Core.Bool.{Bool, true, false, not, _&&_, _||_}
+use mathlib.Core.Bool.{Bool, true, false, not, _&&_, _||_, and-comm}
 use mathlib.Core.List.{List}
 use lib.ListN.{getD}
 use lib.Dec.{eqb, ltb}
@@ -95,12 +95,6 @@ instruction-value sampled at refs R arrival q i f h =
 
 -- ---- where an instruction's wire goes over
 
-and-swap : (a b : Bool) → (a && b) ≡ (b && a)
-and-swap true true = refl
-and-swap true false = refl
-and-swap false true = refl
-and-swap false false = refl
-
 nonzero-truth : (b : Bool) → not (eqb (truth b) 0) ≡ b
 nonzero-truth true = refl
 nonzero-truth false = refl
@@ -140,12 +134,12 @@ instruction-over f refs R arrival q b i v h e = go (compared (i .code) addCode) 
         let n = two-read (i .code) k in
         over-reads f refs arrival (i .d) (i .a) (i .b) (i .code) k
         ∙ rw (h (i .a) (v .first (let m = n .0 in omega arith) (n .1)), h (i .b) (v .second (n .0)), e, nonzero-truth b)
-        (and-swap (instructionOver i q) b)
+        (and-comm (instructionOver i q) b)
 
     none : i .code ≢ addCode → i .code ≢ subCode → wireOver f (instructionWire refs arrival i) ≡ (b && instructionOver i q)
     none p r =
         quiet-wire f (instructionWire refs arrival i) (λ e. p (sym (code-is refs arrival i) ∙ e)) (λ e. r (sym (code-is refs arrival i) ∙ e))
-        ∙ rw (over-other (i .code) (getD q (i .a) 0) (getD q (i .b) 0) p r) (and-swap false b)
+        ∙ rw (over-other (i .code) (getD q (i .a) 0) (getD q (i .b) 0) p r) (and-comm false b)
 
     go : Compared (i .code) addCode → Compared (i .code) subCode → wireOver f (instructionWire refs arrival i) ≡ (b && instructionOver i q)
     go (same t k) d = both (inl k)

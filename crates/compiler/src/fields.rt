@@ -1,6 +1,6 @@
 // The numbers that an answer stands for: the refusal's number, 0 for success, and its other values.
 ghost use mathlib.Core.Path.{_≡_};
-ghost use Rattle.runs.specs.Runs.{runNumber, runOutcome, runCount, runNext};
+ghost use Rattle.runs.specs.Runs.{runNumber, runOutcome, runCount, runNext, runFlag};
 use capture::CaptureAnswer;
 use capture::Difference;
 use cfg_text::ReadAnswer;
@@ -62,9 +62,9 @@ pub fn run_number(answer: RunAnswer) -> u32
 {
     match answer {
         RunAnswer::Refused(number) => number,
-        RunAnswer::Halted(_) => 0,
-        RunAnswer::Spent(_, _) => 0,
-        RunAnswer::Dry(_, _) => 0,
+        RunAnswer::Halted(_, _) => 0,
+        RunAnswer::Spent(_, _, _) => 0,
+        RunAnswer::Dry(_, _, _) => 0,
     }
 }
 
@@ -74,9 +74,9 @@ pub fn run_outcome(answer: RunAnswer) -> u32
 {
     match answer {
         RunAnswer::Refused(_) => 0,
-        RunAnswer::Halted(_) => 1,
-        RunAnswer::Spent(_, _) => 0,
-        RunAnswer::Dry(_, _) => 2,
+        RunAnswer::Halted(_, _) => 1,
+        RunAnswer::Spent(_, _, _) => 0,
+        RunAnswer::Dry(_, _, _) => 2,
     }
 }
 
@@ -85,9 +85,9 @@ pub fn run_count(answer: RunAnswer) -> u32
 {
     match answer {
         RunAnswer::Refused(_) => 0,
-        RunAnswer::Halted(count) => count,
-        RunAnswer::Spent(count, _) => count,
-        RunAnswer::Dry(count, _) => count,
+        RunAnswer::Halted(count, _) => count,
+        RunAnswer::Spent(count, _, _) => count,
+        RunAnswer::Dry(count, _, _) => count,
     }
 }
 
@@ -97,9 +97,21 @@ pub fn run_next(answer: RunAnswer) -> u32
 {
     match answer {
         RunAnswer::Refused(_) => 0,
-        RunAnswer::Halted(_) => RunAnswer::NONE,
-        RunAnswer::Spent(_, next) => next,
-        RunAnswer::Dry(_, next) => next,
+        RunAnswer::Halted(_, _) => RunAnswer::NONE,
+        RunAnswer::Spent(_, next, _) => next,
+        RunAnswer::Dry(_, next, _) => next,
+    }
+}
+
+// 1 where a sum went over, else 0.
+pub fn run_flag(answer: RunAnswer) -> u32
+    ensures { λ r. ⌜ r ≡ runFlag answer ⌝ }
+{
+    match answer {
+        RunAnswer::Refused(_) => 0,
+        RunAnswer::Halted(_, flag) => flag as u32,
+        RunAnswer::Spent(_, _, flag) => flag as u32,
+        RunAnswer::Dry(_, _, flag) => flag as u32,
     }
 }
 

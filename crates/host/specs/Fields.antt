@@ -2,16 +2,17 @@
 use Prim.Native.Nat.{ℕ}
 use mathlib.Core.Path.{_≡_}
 use Rattle.runs.specs.declared.RunAnswer.{RunAnswer}
-use Rattle.runs.specs.Runs.{runNumber, runOutcome, runCount, runNext}
+use Rattle.runs.specs.Runs.{runNumber, runOutcome, runCount, runNext, runFlag}
 use Rattle.capture.specs.declared.CaptureAnswer.{CaptureAnswer}
 use Rattle.capture.specs.Capture.{refusalNumber, faultyRecording, faultyLine, sharedCount, differsFlag, differingCycle}
 
--- of a run: the number returned, and the three fields set; a run without words is spent or halted, and its outcome is the field `halted`
-pub record RunFields (answer : RunAnswer) (number outcome count next : ℕ) : Type 0 where
+-- of a run: the number returned, and the four fields set; a run without words is spent or halted, and its outcome is the field `halted`
+pub record RunFields (answer : RunAnswer) (number outcome count next flag : ℕ) : Type 0 where
   pub returned : number ≡ runNumber answer
   pub ended : outcome ≡ runOutcome answer
   pub counted : count ≡ runCount answer
   pub following : next ≡ runNext answer
+  pub raised : flag ≡ runFlag answer
 
 -- of a comparison of captures: the number returned, and the five fields set
 pub record CaptureFields (answer : CaptureAnswer) (number recording line shared differs cycle : ℕ) : Type 0 where

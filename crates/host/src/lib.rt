@@ -44,12 +44,19 @@ pub extern "C" fn gutkavu_synthesise(graph: &[u32], machine: &mut [u32]) -> u32
 }
 
 // The fields of a run's answer.
-fn set_run(answer: RunAnswer, outcome: &mut u32, count: &mut u32, next: &mut u32) -> u32
-    ensures { λ r. ⌜ RunFields answer r (now (outcome .exit)) (now (count .exit)) (now (next .exit)) ⌝ }
+fn set_run(
+    answer: RunAnswer,
+    outcome: &mut u32,
+    count: &mut u32,
+    next: &mut u32,
+    flag: &mut u32,
+) -> u32
+    ensures { λ r. ⌜ RunFields answer r (now (outcome .exit)) (now (count .exit)) (now (next .exit)) (now (flag .exit)) ⌝ }
 {
     *outcome = fields::run_outcome(answer);
     *count = fields::run_count(answer);
     *next = fields::run_next(answer);
+    *flag = fields::run_flag(answer);
     fields::run_number(answer)
 }
 
@@ -62,12 +69,13 @@ pub extern "C" fn gutkavu_run_graph(
     halted: &mut u32,
     count: &mut u32,
     next: &mut u32,
+    flag: &mut u32,
 ) -> u32
-    ensures { λ r. ⌜ RunFields (graphAnswer (now (graph .entry)) (now (registers .entry)) start budget) r (now (halted .exit)) (now (count .exit)) (now (next .exit)) ⌝ }
+    ensures { λ r. ⌜ RunFields (graphAnswer (now (graph .entry)) (now (registers .entry)) start budget) r (now (halted .exit)) (now (count .exit)) (now (next .exit)) (now (flag .exit)) ⌝ }
     ensures { λ _. ⌜ now (registers .exit) ≡ graphRegisters (now (graph .entry)) (now (registers .entry)) start budget ⌝ }
 {
     let answer = compiler::run_graph(graph, registers, start, budget);
-    set_run(answer, halted, count, next)
+    set_run(answer, halted, count, next, flag)
 }
 
 #[no_mangle]
@@ -79,12 +87,13 @@ pub extern "C" fn gutkavu_run_machine(
     halted: &mut u32,
     count: &mut u32,
     next: &mut u32,
+    flag: &mut u32,
 ) -> u32
-    ensures { λ r. ⌜ RunFields (machineAnswer (now (machine .entry)) (now (registers .entry)) start budget) r (now (halted .exit)) (now (count .exit)) (now (next .exit)) ⌝ }
+    ensures { λ r. ⌜ RunFields (machineAnswer (now (machine .entry)) (now (registers .entry)) start budget) r (now (halted .exit)) (now (count .exit)) (now (next .exit)) (now (flag .exit)) ⌝ }
     ensures { λ _. ⌜ now (registers .exit) ≡ machineRegisters (now (machine .entry)) (now (registers .entry)) start budget ⌝ }
 {
     let answer = compiler::run_machine(machine, registers, start, budget);
-    set_run(answer, halted, count, next)
+    set_run(answer, halted, count, next, flag)
 }
 
 #[no_mangle]
@@ -98,12 +107,13 @@ pub extern "C" fn gutkavu_run_graph_with_words(
     outcome: &mut u32,
     count: &mut u32,
     next: &mut u32,
+    flag: &mut u32,
 ) -> u32
-    ensures { λ r. ⌜ RunFields (graphWordsAnswer (now (graph .entry)) (now (registers .entry)) start budget (now (words .entry)) (now (starters .entry))) r (now (outcome .exit)) (now (count .exit)) (now (next .exit)) ⌝ }
+    ensures { λ r. ⌜ RunFields (graphWordsAnswer (now (graph .entry)) (now (registers .entry)) start budget (now (words .entry)) (now (starters .entry))) r (now (outcome .exit)) (now (count .exit)) (now (next .exit)) (now (flag .exit)) ⌝ }
     ensures { λ _. ⌜ now (registers .exit) ≡ graphWordsRegisters (now (graph .entry)) (now (registers .entry)) start budget (now (words .entry)) (now (starters .entry)) ⌝ }
 {
     let answer = compiler::run_graph_with_words(graph, registers, start, budget, words, starters);
-    set_run(answer, outcome, count, next)
+    set_run(answer, outcome, count, next, flag)
 }
 
 #[no_mangle]
@@ -116,12 +126,13 @@ pub extern "C" fn gutkavu_run_machine_with_words(
     outcome: &mut u32,
     count: &mut u32,
     next: &mut u32,
+    flag: &mut u32,
 ) -> u32
-    ensures { λ r. ⌜ RunFields (machineWordsAnswer (now (machine .entry)) (now (registers .entry)) start budget (now (words .entry))) r (now (outcome .exit)) (now (count .exit)) (now (next .exit)) ⌝ }
+    ensures { λ r. ⌜ RunFields (machineWordsAnswer (now (machine .entry)) (now (registers .entry)) start budget (now (words .entry))) r (now (outcome .exit)) (now (count .exit)) (now (next .exit)) (now (flag .exit)) ⌝ }
     ensures { λ _. ⌜ now (registers .exit) ≡ machineWordsRegisters (now (machine .entry)) (now (registers .entry)) start budget (now (words .entry)) ⌝ }
 {
     let answer = compiler::run_machine_with_words(machine, registers, start, budget, words);
-    set_run(answer, outcome, count, next)
+    set_run(answer, outcome, count, next, flag)
 }
 
 // The fields of a comparison's answer.

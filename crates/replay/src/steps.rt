@@ -51,13 +51,14 @@ fn synthesise(graph: &[u32], machine: &mut [u32], line: &mut [u32]) {
 
 // The fields of a run from a place of the line on.
 fn put_run(answer: RunAnswer, registers: &[u32], line: &mut [u32], at: usize)
-    requires { ⌜ at ≤ 23 ⌝ }
+    requires { ⌜ at ≤ 26 ⌝ }
 {
     store(line, at, fields::run_number(answer));
     store(line, at + 1, fields::run_outcome(answer));
     store(line, at + 2, fields::run_count(answer));
     store(line, at + 3, fields::run_next(answer));
-    store(line, at + 4, digest::of_words(registers));
+    store(line, at + 4, fields::run_flag(answer));
+    store(line, at + 5, digest::of_words(registers));
 }
 
 fn run_graph(graph: &[u32], registers: &mut [u32], s: &[u8], c: Case, line: &mut [u32]) {
@@ -71,7 +72,7 @@ fn run_machine(machine: &[u32], registers: &mut [u32], s: &[u8], c: Case, line: 
     let buffer = c.registers;
     contents::load(registers, s, buffer.at);
     let answer = compiler::run_machine(machine, registers, c.start_state, c.cycle_budget);
-    put_run(answer, registers, line, 13);
+    put_run(answer, registers, line, 14);
 }
 
 // Both runs without words, each on its own copy of the register words.
@@ -105,7 +106,7 @@ fn run_graph_with_words(
         words,
         starters,
     );
-    put_run(answer, registers, line, 18);
+    put_run(answer, registers, line, 20);
 }
 
 fn run_machine_with_words(
@@ -125,7 +126,7 @@ fn run_machine_with_words(
         c.cycle_budget,
         words,
     );
-    put_run(answer, registers, line, 23);
+    put_run(answer, registers, line, 26);
 }
 
 // Both runs on the case's words and starters, each on its own copy of the register words.
@@ -181,27 +182,27 @@ fn list(text: &[u8], line: &mut [u32]) {
     };
     let n = length as usize;
     if n <= out.len() {
-        store(line, 28, length);
-        store(line, 29, digest::of_bytes(&out[..n]));
+        store(line, 32, length);
+        store(line, 33, digest::of_bytes(&out[..n]));
     }
 }
 
 // Line and count are as small as the recordings.
 fn put_comparison(answer: CaptureAnswer, line: &mut [u32]) {
-    store(line, 30, fields::capture_number(answer));
-    store(line, 31, fields::capture_recording(answer));
+    store(line, 34, fields::capture_number(answer));
+    store(line, 35, fields::capture_recording(answer));
     store(
         line,
-        32,
+        36,
         (fields::capture_line(answer) % 0x1_0000_0000) as u32,
     );
     store(
         line,
-        33,
+        37,
         (fields::capture_shared(answer) % 0x1_0000_0000) as u32,
     );
-    store(line, 34, fields::capture_differs(answer));
-    store(line, 35, fields::capture_cycle(answer));
+    store(line, 38, fields::capture_differs(answer));
+    store(line, 39, fields::capture_cycle(answer));
 }
 
 fn compare_captures(s: &[u8], captures: Captures, line: &mut [u32]) {

@@ -3,7 +3,7 @@ use Prim.Native.Nat.{ℕ, suc, _+_, _%_, _≤_, _<_}
 use native.Mathlib.Numerals.{add-one}
 use native.Mathlib.Omega.{arith}
 use mathlib.Core.Path.{_≡_, refl, sym, ap, subst, _∙_}
-use mathlib.Core.Bool.{Bool, true, false, _||_, or-assoc}
+use mathlib.Core.Bool.{Bool, true, false, _||_, or-assoc, or-false}
 use mathlib.Core.List.{List, [], _∷_}
 use lib.Dec.{eqb}
 use lib.ListN.{length, getD, drop, set, drop-of-length-le}
@@ -13,7 +13,6 @@ use Rattle.word.specs.Word.{choose, evalOf, overOf, arity}
 use Rattle.word.proofs.OverLaws.{over-other}
 use Rattle.runs.specs.Runs.{Place, standing, Contents, Configuration, standsAt, Supply, Runner, arrivalsAt, moved, step}
 use Rattle.runs.proofs.RunLaws.{goes-standing, step-going, Reached, reached-step}
-use Rattle.runs.proofs.Tests.{or-none}
 use Rattle.cfg.specs.declared.Instruction.{Instruction}
 use Rattle.cfg.specs.declared.Ending.{Ending}
 use Rattle.cfg.specs.declared.Ending.the-variants.{Goto, Ite, Halt}
@@ -134,7 +133,7 @@ module _ (s : ℕ) (k : Block) (fits : k .count ≤ length (k .instructions)) wh
   flag-done i rs f h =
       ap (λ (l : List Instruction). f || instructionsOver s l rs) (none-left k fits i h)
       ∙ ap (λ (b : Bool). f || b) (over-nil s rs)
-      ∙ or-none f
+      ∙ or-false f
 
 -- ---- what admission gives of a block that is run
 

@@ -1,14 +1,14 @@
 -- The flag of a run: raised exactly when a block or cycle that the run passes goes over, and kept. Assumes nothing.
 use Prim.Native.Nat.{ℕ, zero, suc, _<_}
 use native.Mathlib.Omega.{arith}
-use mathlib.Core.Bool.{Bool, true, false, _||_}
+use mathlib.Core.Bool.{Bool, true, false, _||_, or-false}
 use mathlib.Core.Logic.{_⊎_, inl, inr, _↔_}
 use mathlib.Core.Path.{_≡_, refl, sym, ap, _∙_}
 use lib.Arith.{lt-of-le-ne}
 use Rattle.word.specs.Word.{truth}
 use Rattle.runs.specs.Runs.{standing, Configuration, Supply, Runner, goes, step, times, stepOver, SomeOver}
 use Rattle.runs.proofs.RunLaws.{false-true, ended-is, flag-of, times-zero, times-last, step-ended, step-going, going-stands, going-lasts}
-use Rattle.runs.proofs.Tests.{or-true, or-left, or-right, or-none, Compared, compared, same, other}
+use Rattle.runs.proofs.Tests.{or-true, or-left, or-right, Compared, compared, same, other}
 
 module _ (r : Runner) (ws : Supply) where
   over-going : (c : Configuration) (n : ℕ) → c .place ≡ standing n → ws .lasts (c .arrivals) ≡ true
@@ -28,7 +28,7 @@ module _ (r : Runner) (ws : Supply) where
           let n = going-stands ws c e in
           let l = going-lasts ws c e in
           flag-of (step-going r ws c (n .0) (n .1) l) ∙ ap (λ (b : Bool). c .contents .flag || b) (over-going c (n .0) (n .1) l)
-      go false e = flag-of (step-ended r ws c e) ∙ sym (ap (λ (b : Bool). c .contents .flag || b) (over-ended c e) ∙ or-none (c .contents .flag))
+      go false e = flag-of (step-ended r ws c e) ∙ sym (ap (λ (b : Bool). c .contents .flag || b) (over-ended c e) ∙ or-false (c .contents .flag))
 
   flag-last : (k : ℕ) (c : Configuration) → times r ws (suc k) c .contents .flag ≡ (times r ws k c .contents .flag || stepOver r ws (times r ws k c))
   flag-last k c = flag-of (times-last r ws k c) ∙ flag-step (times r ws k c)

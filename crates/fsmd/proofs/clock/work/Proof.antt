@@ -1,12 +1,11 @@
 -- `fsmd::clock::work` meets its contract: the words so far, then the wires from n on, give what all wires give, and whether one goes over. Assumes nothing.
 use Prim.Native.Nat.{ℕ, _+_, _-_, _%_, _≤_}
 use native.Mathlib.Omega.{arith}
-use mathlib.Core.Bool.{Bool, true, _||_, or-assoc}
+use mathlib.Core.Bool.{Bool, true, _||_, or-assoc, or-false}
 use mathlib.Core.Path.{_≡_, refl, sym, ap, _∙_}
 use lib.ListN.{length, take, drop, set, length-set, getD}
 use denote.Ref.{now}
 use borrow.Author.Needs.{needs}
-use Rattle.runs.proofs.Tests.{or-none}
 use Rattle.fsmd.specs.Layout.{maxRegisters, roomWords}
 use Rattle.fsmd.specs.Machine.{worked, wireValue, wireOver, wiresOver}
 use Rattle.fsmd.specs.Table.{wireAt, validWires}
@@ -66,7 +65,7 @@ returns c =
     let l = take (maxRegisters + n) (b .loop .words) in
     let e : n ≡ a .count = omega arith in (
       ap (λ (i : ℕ). take (maxRegisters + i) (b .loop .words)) (sym e) ∙ sym (work-done (a .sampled) t (a .first) (a .count) n l (omega arith)) ∙ b .loop .inv .3,
-      sym (or-none (b .loop .over)) ∙ ap (λ (x : Bool). b .loop .over || x) (sym (over-done (a .sampled) t (a .first) (a .count) n l (omega arith))) ∙ b .loop .inv .4,
+      sym (or-false (b .loop .over)) ∙ ap (λ (x : Bool). b .loop .over || x) (sym (over-done (a .sampled) t (a .first) (a .count) n l (omega arith))) ∙ b .loop .inv .4,
     )
 
 pub work-spec : {M : Type 1} → statement M

@@ -114,14 +114,14 @@ pub fn answer(case: &Case) -> Answer {
     }
 }
 
-fn run_fields(ran: &Ran<RunAnswer>) -> [u64; 5] {
-    let RunAnswer { number, halted, count, next } = ran.answer;
-    [number.into(), halted.into(), count.into(), next.into(), ran.registers]
+fn run_fields(ran: &Ran<RunAnswer>) -> [u64; 6] {
+    let RunAnswer { number, halted, count, next, flag } = ran.answer;
+    [number.into(), halted.into(), count.into(), next.into(), flag.into(), ran.registers]
 }
 
-fn words_run_fields(ran: &Ran<WordsRunAnswer>) -> [u64; 5] {
-    let WordsRunAnswer { number, outcome, count, next } = ran.answer;
-    [number.into(), outcome.into(), count.into(), next.into(), ran.registers]
+fn words_run_fields(ran: &Ran<WordsRunAnswer>) -> [u64; 6] {
+    let WordsRunAnswer { number, outcome, count, next, flag } = ran.answer;
+    [number.into(), outcome.into(), count.into(), next.into(), flag.into(), ran.registers]
 }
 
 fn capture_fields(answer: CaptureAnswer) -> [u64; 6] {

@@ -15,15 +15,18 @@ use reference::generate::Cases;
 use reference::meeting::{self, meetings, Meeting};
 use reference::operation::Operation;
 
-/// So many cases hit every number that the papers name, every outcome and every pair that can meet.
+/// So many cases hit every number that the papers name, every outcome, every flag at each end of a
+/// run and every pair that can meet.
 const CASES_FOR_ALL: usize = 2_000;
 
 /// What a case hits: a number that an operation answers, 0 included; an outcome: how a run with
-/// words ends, or what a comparison of captures finds; two refusals that apply to one call.
+/// words ends, or what a comparison of captures finds; a run's flag, with how the run ends; two
+/// refusals that apply to one call.
 #[derive(Clone, Copy, Debug, PartialEq, Eq, PartialOrd, Ord)]
 enum Hit {
     Number(Operation, u64),
     Outcome(Operation, u64),
+    Flag(Operation, u64, u64),
     Met(Meeting),
 }
 
@@ -33,6 +36,9 @@ impl Hit {
             Hit::Number(operation, number) => format!("{},{number}", operation.name()),
             Hit::Outcome(operation, outcome) => {
                 format!("outcome of {},{outcome}", operation.name())
+            }
+            Hit::Flag(operation, end, flag) => {
+                format!("flag of {},{end},{flag}", operation.name())
             }
             Hit::Met(meeting) => format!("{}: {}", meeting.operation.name(), meeting.name()),
         }
@@ -50,6 +56,9 @@ fn count_hits(tally: &mut Tally<Hit>, compared: &Compared) {
     if let Some(outcome) = operation.outcome(compared.found) {
         tally.count(Hit::Outcome(operation, outcome), 1);
     }
+    if let Some((end, flag)) = operation.flag(compared.found) {
+        tally.count(Hit::Flag(operation, end, flag), 1);
+    }
 }
 
 fn tally_all(cases: &Cases, count: usize, library: &impl Library) -> Tally<Hit> {
@@ -65,16 +74,19 @@ fn tally_all(cases: &Cases, count: usize, library: &impl Library) -> Tally<Hit> 
     })
 }
 
-/// Every number that the papers name for an operation, every outcome, every pair that can meet.
+/// Every number that the papers name for an operation, every outcome, every flag, every pair that
+/// can meet.
 fn named() -> impl Iterator<Item = Hit> {
     let answered = Operation::ALL.into_iter().flat_map(|one| {
         let numbers = one.numbers().iter().map(move |&number| Hit::Number(one, number));
-        numbers.chain(one.outcomes().iter().map(move |&outcome| Hit::Outcome(one, outcome)))
+        let outcomes = one.outcomes().iter().map(move |&outcome| Hit::Outcome(one, outcome));
+        let flags = one.flags().into_iter().map(move |(end, flag)| Hit::Flag(one, end, flag));
+        numbers.chain(outcomes).chain(flags)
     });
     answered.chain(meeting::possible().into_iter().map(Hit::Met))
 }
 
-/// A line for each number and outcome, then one for each operation with the pairs met there.
+/// A line for each number, outcome and flag, then one for each operation with the pairs met there.
 fn lines(tally: &Tally<Hit>) -> String {
     let met = |(hit, &cases): (&Hit, &usize)| match hit {
         Hit::Met(meeting) => Some((*meeting, cases)),

@@ -140,6 +140,21 @@ impl Binary {
         };
         (result & 0xFFFF_FFFF) as u32
     }
+
+    /// Add and sub are sums; the others have no result that could leave the range.
+    pub fn is_sum(self) -> bool {
+        matches!(self, Binary::Add | Binary::Sub)
+    }
+
+    /// Whether the signed result is not in -2^31 to 2^31 - 1.
+    pub fn goes_over(self, x: u32, y: u32) -> bool {
+        let result = match self {
+            Binary::Add => signed(x) + signed(y),
+            Binary::Sub => signed(x) - signed(y),
+            _ => return false,
+        };
+        !(-(1i64 << 31)..1i64 << 31).contains(&result)
+    }
 }
 
 impl Comparison {
@@ -222,6 +237,14 @@ impl Instruction {
             Instruction::Copy { a, .. } => registers[a],
             Instruction::SignExtend { a, .. } => sign_extend(registers[a]),
             Instruction::Binary { op, a, b, .. } => op.apply(registers[a], registers[b]),
+        }
+    }
+
+    /// Whether it is an add or sub that goes over.
+    pub fn goes_over(self, registers: &[u32]) -> bool {
+        match self {
+            Instruction::Binary { op, a, b, .. } => op.goes_over(registers[a], registers[b]),
+            _ => false,
         }
     }
 }

@@ -20,6 +20,9 @@ pub enum Wire {
     Copy(Source),
     SignExtend(Source),
     Binary(Binary, Source, Source),
+    /// Add or sub of the first two. Where it goes over, it counts if the third, which is its
+    /// block's arrival, is nonzero.
+    Sum(Binary, Source, Source, Source),
     Compare(Comparison, Source, Source),
     AndNot(Source, Source),
     /// The second where the first is nonzero, else the third.
@@ -69,11 +72,20 @@ impl Wire {
             Wire::In => word,
             Wire::Copy(a) => read(a),
             Wire::SignExtend(a) => sign_extend(read(a)),
-            Wire::Binary(op, a, b) => op.apply(read(a), read(b)),
+            Wire::Binary(op, a, b) | Wire::Sum(op, a, b, _) => op.apply(read(a), read(b)),
             Wire::Compare(comparison, a, b) => u32::from(comparison.holds(read(a), read(b))),
             Wire::AndNot(a, b) => read(a) & !read(b),
             Wire::Choose(a, b, _) if read(a) != 0 => read(b),
             Wire::Choose(_, _, c) => read(c),
+        }
+    }
+
+    /// Whether it raises the flag: it goes over, and its arrival is nonzero.
+    pub fn raises(self, registers: &[u32], wires: &[u32]) -> bool {
+        let read = |source: Source| source.read(registers, wires);
+        match self {
+            Wire::Sum(op, a, b, arrival) => op.goes_over(read(a), read(b)) && read(arrival) != 0,
+            _ => false,
         }
     }
 }

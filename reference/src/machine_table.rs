@@ -33,6 +33,7 @@ fn wire_words(wire: Wire) -> [u32; WIRE_WORDS] {
         Wire::Copy(a) => [COPY, word(a), 0, 0],
         Wire::SignExtend(a) => [SIGN_EXTEND, word(a), 0, 0],
         Wire::Binary(op, a, b) => [op.code(), word(a), word(b), 0],
+        Wire::Sum(op, a, b, arrival) => [op.code(), word(a), word(b), word(arrival)],
         Wire::Compare(comparison, a, b) => [comparison.code(), word(a), word(b), 0],
         Wire::AndNot(a, b) => [AND_NOT, word(a), word(b), 0],
         Wire::Choose(a, b, c) => [CHOOSE, word(a), word(b), word(c)],
@@ -90,14 +91,16 @@ impl Scope {
     fn wire(self, words: &[u32]) -> Option<Wire> {
         let a = || self.source(words[1]);
         let b = || self.source(words[2]);
+        let c = || self.source(words[3]);
         match words[0] {
             SET => Some(Wire::Set(words[1])),
             IN => Some(Wire::In),
             COPY => Some(Wire::Copy(a()?)),
             SIGN_EXTEND => Some(Wire::SignExtend(a()?)),
             AND_NOT => Some(Wire::AndNot(a()?, b()?)),
-            CHOOSE => Some(Wire::Choose(a()?, b()?, self.source(words[3])?)),
+            CHOOSE => Some(Wire::Choose(a()?, b()?, c()?)),
             code => match (Binary::from_code(code), Comparison::from_code(code)) {
+                (Some(op), _) if op.is_sum() => Some(Wire::Sum(op, a()?, b()?, c()?)),
                 (Some(op), _) => Some(Wire::Binary(op, a()?, b()?)),
                 (_, Some(comparison)) => Some(Wire::Compare(comparison, a()?, b()?)),
                 (None, None) => None,

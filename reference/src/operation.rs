@@ -98,9 +98,11 @@ impl Operation {
             Operation::Read => &["number", "line"],
             Operation::Write => &["number", "length"],
             Operation::Synthesise => &["number"],
-            Operation::RunGraph | Operation::RunMachine => &["number", "halted", "count", "next"],
+            Operation::RunGraph | Operation::RunMachine => {
+                &["number", "halted", "count", "next", "flag"]
+            }
             Operation::RunGraphWithWords | Operation::RunMachineWithWords => {
-                &["number", "outcome", "count", "next"]
+                &["number", "outcome", "count", "next", "flag"]
             }
             Operation::CompareCaptures => {
                 &["number", "recording", "line", "shared", "differs", "cycle"]
@@ -153,7 +155,23 @@ impl Operation {
         }
     }
 
-    /// Which of them an answer gives that is no refusal.
+    /// How a run can end, 0 spent, 1 halted, 2 dry, each with the flag clear (0) and raised (1).
+    pub fn flags(self) -> Vec<(u64, u64)> {
+        let ends = match self {
+            Operation::RunGraph | Operation::RunMachine => 0..2,
+            Operation::RunGraphWithWords | Operation::RunMachineWithWords => 0..3,
+            _ => 0..0,
+        };
+        ends.flat_map(|end| [(end, 0), (end, 1)]).collect()
+    }
+
+    /// Which of these an answer gives that is no refusal.
+    pub fn flag(self, fields: Fields) -> Option<(u64, u64)> {
+        let [number, end, _, _, flag, _] = fields;
+        (number == 0 && !self.flags().is_empty()).then_some((end, flag))
+    }
+
+    /// Which of its outcomes an answer gives that is no refusal.
     pub fn outcome(self, fields: Fields) -> Option<u64> {
         let [number, outcome, _, shared, differs, _] = fields;
         match self {

@@ -29,19 +29,20 @@ pub struct RunAnswer {
     pub halted: bool,
     pub count: u32,
     pub next: u32,
+    pub flag: bool,
 }
 
 impl RunAnswer {
     fn refused(number: u32) -> RunAnswer {
-        RunAnswer { number, halted: false, count: 0, next: 0 }
+        RunAnswer { number, halted: false, count: 0, next: 0, flag: false }
     }
 
     fn of(run: Result<Run, u32>) -> RunAnswer {
-        let Run { outcome, count, next } = match run {
+        let Run { outcome, count, next, flag } = match run {
             Ok(run) => run,
             Err(number) => return RunAnswer::refused(number),
         };
-        RunAnswer { number: 0, halted: outcome == Outcome::Halted, count, next }
+        RunAnswer { number: 0, halted: outcome == Outcome::Halted, count, next, flag }
     }
 }
 
@@ -52,15 +53,16 @@ pub struct WordsRunAnswer {
     pub outcome: u32,
     pub count: u32,
     pub next: u32,
+    pub flag: bool,
 }
 
 impl WordsRunAnswer {
     fn of(run: Result<Run, u32>) -> WordsRunAnswer {
         match run {
-            Ok(Run { outcome, count, next }) => {
-                WordsRunAnswer { number: 0, outcome: outcome as u32, count, next }
+            Ok(Run { outcome, count, next, flag }) => {
+                WordsRunAnswer { number: 0, outcome: outcome as u32, count, next, flag }
             }
-            Err(number) => WordsRunAnswer { number, outcome: 0, count: 0, next: 0 },
+            Err(number) => WordsRunAnswer { number, outcome: 0, count: 0, next: 0, flag: false },
         }
     }
 }

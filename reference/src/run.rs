@@ -19,33 +19,44 @@ pub struct Run {
     pub outcome: Outcome,
     pub count: u32,
     pub next: u32,
+    /// Raised by a step that raised it, and clear before the first.
+    pub flag: bool,
 }
 
-/// Runs one block on the word of the last arrival and gives the block moved to, or None at a halt.
-pub fn graph_step(graph: &Graph, block: usize, registers: &mut [u32], word: u32) -> Option<usize> {
+/// What one block, or one cycle, came to.
+#[derive(Clone, Copy, Debug, PartialEq, Eq)]
+pub struct Step {
+    /// The block or state moved to, or None at a halt.
+    pub next: Option<usize>,
+    /// Whether an add or sub went over in a block that was run.
+    pub over: bool,
+}
+
+/// Runs one block on the word of the last arrival.
+pub fn graph_step(graph: &Graph, block: usize, registers: &mut [u32], word: u32) -> Step {
     let block = &graph.blocks[block];
+    let mut over = false;
     for &instruction in &block.instructions {
+        over |= instruction.goes_over(registers);
         registers[instruction.target()] = instruction.value(registers, word);
     }
-    match block.ending {
+    let next = match block.ending {
         Ending::Goto(t) => Some(t),
         Ending::Ite { comparison, a, b, t, f } => {
             Some(if comparison.holds(registers[a], registers[b]) { t } else { f })
         }
         Ending::Halt => None,
-    }
+    };
+    Step { next, over }
 }
 
-/// Runs one cycle on the word sampled at its start and gives the next state, or None at a halt.
-pub fn machine_cycle(
-    machine: &Machine,
-    state: usize,
-    registers: &mut [u32],
-    word: u32,
-) -> Option<usize> {
+/// Runs one cycle on the word sampled at its start.
+pub fn machine_cycle(machine: &Machine, state: usize, registers: &mut [u32], word: u32) -> Step {
     let state = &machine.states[state];
     let mut wires = Vec::with_capacity(state.wires.len());
+    let mut over = false;
     for wire in &state.wires {
+        over |= wire.raises(registers, &wires);
         let value = wire.value(registers, word, &wires);
         wires.push(value);
     }
@@ -53,7 +64,7 @@ pub fn machine_cycle(
     let next = read(state.next_state) as usize;
     let after: Vec<u32> = state.next_registers.iter().map(|&source| read(source)).collect();
     registers[..after.len()].copy_from_slice(&after);
-    (next < machine.states.len()).then_some(next)
+    Step { next: (next < machine.states.len()).then_some(next), over }
 }
 
 /// A word for every arrival, for runs of what reads none.
@@ -68,23 +79,25 @@ fn repeat(
     budget: u32,
     mut words: impl Iterator<Item = u32>,
     is_arrival: impl Fn(usize) -> bool,
-    mut step: impl FnMut(usize, u32) -> Option<usize>,
+    mut step: impl FnMut(usize, u32) -> Step,
 ) -> Run {
-    let mut at = start;
+    let (mut at, mut flag) = (start, false);
     let mut sampled = words.next();
     for count in 0..budget {
         let Some(word) = sampled else {
-            return Run { outcome: Outcome::Dry, count, next: at as u32 };
+            return Run { outcome: Outcome::Dry, count, next: at as u32, flag };
         };
-        let Some(next) = step(at, word) else {
-            return Run { outcome: Outcome::Halted, count: count + 1, next: NONE };
+        let Step { next, over } = step(at, word);
+        flag |= over;
+        let Some(next) = next else {
+            return Run { outcome: Outcome::Halted, count: count + 1, next: NONE, flag };
         };
         at = next;
         if is_arrival(at) {
             sampled = words.next();
         }
     }
-    Run { outcome: Outcome::Spent, count: budget, next: at as u32 }
+    Run { outcome: Outcome::Spent, count: budget, next: at as u32, flag }
 }
 
 pub fn run_graph(

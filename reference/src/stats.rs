@@ -1,10 +1,11 @@
 //! How many cases hit each refusal number of each operation, each outcome of a run and of a
-//! comparison of captures, and each pair of refusals that meet.
+//! comparison of captures, each flag at each end of a run, and each pair of refusals that meet.
 
 use crate::answer::{answer, buffers_of, Answer};
 use crate::case::Case;
 use crate::faults::faults;
 use crate::meeting::{self, meetings, Meeting};
+use crate::operation::Operation;
 use crate::operations::CaptureAnswer;
 use std::collections::BTreeMap;
 
@@ -57,10 +58,11 @@ fn capture_outcome(answer: CaptureAnswer) -> u32 {
     u32::from(answer.shared > 0) + u32::from(answer.differs)
 }
 
-/// Counts by what is counted and its number or outcome.
+/// Counts by what is counted and its number or outcome; flags by the run and how it ended.
 #[derive(Default)]
 pub struct Stats {
     counts: BTreeMap<(Counted, u32), usize>,
+    flags: BTreeMap<(Operation, u32, bool), usize>,
     met: BTreeMap<Meeting, usize>,
 }
 
@@ -101,6 +103,31 @@ impl Stats {
         }
     }
 
+    fn add_flags(&mut self, answer: &Answer) {
+        let (graph, machine) = (answer.run_graph.answer, answer.run_machine.answer);
+        let graph_words = answer.run_graph_with_words.answer;
+        let machine_words = answer.run_machine_with_words.answer;
+        let runs = [
+            (graph.number, Operation::RunGraph, u32::from(graph.halted), graph.flag),
+            (machine.number, Operation::RunMachine, u32::from(machine.halted), machine.flag),
+            (
+                graph_words.number,
+                Operation::RunGraphWithWords,
+                graph_words.outcome,
+                graph_words.flag,
+            ),
+            (
+                machine_words.number,
+                Operation::RunMachineWithWords,
+                machine_words.outcome,
+                machine_words.flag,
+            ),
+        ];
+        for (_, run, end, flag) in runs.into_iter().filter(|&(number, ..)| number == 0) {
+            *self.flags.entry((run, end, flag)).or_insert(0) += 1;
+        }
+    }
+
     fn add_meetings(&mut self, case: &Case) {
         let (graph, machine) = buffers_of(case);
         for meeting in faults(case, &graph, &machine).iter().flat_map(meetings) {
@@ -111,7 +138,9 @@ impl Stats {
     pub fn of(cases: &[Case]) -> Stats {
         let mut stats = Stats::default();
         for case in cases {
-            stats.add(case, &answer(case));
+            let answer = answer(case);
+            stats.add(case, &answer);
+            stats.add_flags(&answer);
             stats.add_meetings(case);
         }
         stats
@@ -121,15 +150,26 @@ impl Stats {
         self.counts.get(&(counted, number)).copied().unwrap_or(0)
     }
 
+    /// Runs of a kind that ended so (0 spent, 1 halted, 2 dry) with the flag so.
+    pub fn flags(&self, run: Operation, end: u32, flag: bool) -> usize {
+        self.flags.get(&(run, end, flag)).copied().unwrap_or(0)
+    }
+
     pub fn met(&self, meeting: &Meeting) -> usize {
         self.met.get(meeting).copied().unwrap_or(0)
     }
 
-    /// One line for each count: name, number, cases; then one for each operation with its pairs.
+    /// One line for each count: name, number, cases; one for each flag: run, end, flag, cases; then
+    /// one for each operation with its pairs.
     pub fn print(&self) -> String {
         let line = |(&(counted, number), count): (&(Counted, u32), &usize)| {
             format!("{},{number},{count}\n", counted.name())
         };
-        self.counts.iter().map(line).chain([meeting::print(&self.met)]).collect()
+        let flag = |(&(run, end, flag), count): (&(Operation, u32, bool), &usize)| {
+            format!("flag of {},{end},{},{count}\n", run.name(), u32::from(flag))
+        };
+        let flags = self.flags.iter().map(flag);
+        let pairs = [meeting::print(&self.met)];
+        self.counts.iter().map(line).chain(flags).chain(pairs).collect()
     }
 }

@@ -52,12 +52,16 @@ impl Builder<'_> {
         (arrival, values)
     }
 
-    fn instruct(&mut self, instruction: Instruction, values: &mut [Source]) {
+    /// One wire; a sum also names its block's arrival.
+    fn instruct(&mut self, instruction: Instruction, arrival: Source, values: &mut [Source]) {
         let wire = match instruction {
             Instruction::Set { literal, .. } => Wire::Set(literal as u32),
             Instruction::In { .. } => Wire::In,
             Instruction::Copy { a, .. } => Wire::Copy(values[a]),
             Instruction::SignExtend { a, .. } => Wire::SignExtend(values[a]),
+            Instruction::Binary { op, a, b, .. } if op.is_sum() => {
+                Wire::Sum(op, values[a], values[b], arrival)
+            }
             Instruction::Binary { op, a, b, .. } => Wire::Binary(op, values[a], values[b]),
         };
         values[instruction.target()] = self.add(wire);
@@ -67,7 +71,7 @@ impl Builder<'_> {
         let (arrival, mut values) = self.arrive(block);
         let graph = self.graph;
         for &instruction in &graph.blocks[block].instructions {
-            self.instruct(instruction, &mut values);
+            self.instruct(instruction, arrival, &mut values);
         }
         let ways = match graph.blocks[block].ending {
             Ending::Goto(t) => vec![(Some(t), arrival)],

@@ -1,4 +1,5 @@
-//! Demand 3 executed, on equal words: whole machine runs against the graph's own runs.
+//! Demand 3 executed, on equal words: whole machine runs against the graph's own runs, flags
+//! included.
 
 mod common;
 
@@ -9,11 +10,11 @@ use reference::graph_table;
 use reference::grouping::{group, Grouping};
 use reference::machine_table::MACHINE_WORDS;
 use reference::operations::{
-    run_graph, run_graph_with_words, run_machine, run_machine_with_words, synthesise,
+    run_graph, run_graph_with_words, run_machine, run_machine_with_words, synthesise, RunAnswer,
     WordsRunAnswer,
 };
 use reference::random::Random;
-use reference::run::graph_step;
+use reference::run::{graph_step, Step};
 
 /// Where the graph is at an arrival, or that it has halted.
 #[derive(Clone)]
@@ -21,6 +22,8 @@ struct Moment {
     block: Option<usize>,
     registers: Vec<u32>,
     blocks_run: usize,
+    /// Whether a sum went over since the start.
+    flag: bool,
 }
 
 /// A graph with what synthesis makes of it.
@@ -50,16 +53,18 @@ impl Made {
 
     /// Steps from an arrival, on its word, up to the one that makes the next, or halts.
     fn to_next_arrival(&self, from: &Moment, word: u32) -> Moment {
-        let (mut registers, grouping) = (from.registers.clone(), &self.grouping);
+        let (mut registers, mut flag) = (from.registers.clone(), from.flag);
+        let grouping = &self.grouping;
         let mut at = from.block.expect("the graph has not halted");
         let state = grouping.state_of[&at];
         let size = grouping.blocks_of(state).len();
         for blocks_run in 1..=size {
             assert_eq!(grouping.state_of[&at], state, "a cycle leaves its state");
-            let next = graph_step(&self.graph, at, &mut registers, word);
+            let Step { next, over } = graph_step(&self.graph, at, &mut registers, word);
+            flag |= over;
             match next {
                 Some(block) if !grouping.starters.contains(&block) => at = block,
-                _ => return Moment { block: next, registers, blocks_run },
+                _ => return Moment { block: next, registers, blocks_run, flag },
             }
         }
         unreachable!("more blocks in a cycle than the state has")
@@ -69,7 +74,7 @@ impl Made {
     fn arrivals(&self, begin: &Begin) -> Vec<Moment> {
         let block = Some(self.grouping.starters[begin.state]);
         let registers = begin.registers[..self.graph.registers].to_vec();
-        let mut moments = vec![Moment { block, registers, blocks_run: 0 }];
+        let mut moments = vec![Moment { block, registers, blocks_run: 0, flag: false }];
         for &word in begin.words {
             let last = &moments[moments.len() - 1];
             if last.block.is_some() {
@@ -83,13 +88,15 @@ impl Made {
     fn expected(&self, moments: &[Moment], k: usize) -> WordsRunAnswer {
         let last = moments.len() - 1;
         let outcome = if k <= last { SPENT } else { DRY };
-        match moments[k.min(last)].block {
+        let Moment { block, flag, .. } = moments[k.min(last)];
+        let answer = match block {
             Some(block) => {
                 let next = self.grouping.state_started_by(block).expect("a starter");
                 ran(outcome, k.min(last) as u32, next as u32)
             }
             None => ran(HALTED, last as u32, 255),
-        }
+        };
+        WordsRunAnswer { flag, ..answer }
     }
 
     /// For every k the machine's run of k cycles, and the graph's run up to its end.
@@ -130,12 +137,14 @@ impl Made {
             (answer, registers)
         };
         let next = last.block.map_or(255, |block| block as u32);
-        let exact = if outcome == HALTED { HALTED } else { SPENT };
-        let after = self.whole(last, begin);
-        assert_eq!(run(blocks as u32), (ran(exact, blocks as u32, next), after.clone()));
+        let ended = |outcome| {
+            let answer = WordsRunAnswer { flag: last.flag, ..ran(outcome, blocks as u32, next) };
+            (answer, self.whole(last, begin))
+        };
+        assert_eq!(run(blocks as u32), ended(if outcome == HALTED { HALTED } else { SPENT }));
         if outcome != SPENT {
             for budget in [blocks as u32 + 1, blocks as u32 + 70, u32::MAX] {
-                assert_eq!(run(budget), (ran(outcome, blocks as u32, next), after.clone()));
+                assert_eq!(run(budget), ended(outcome));
             }
         }
         if blocks > 0 {
@@ -154,19 +163,41 @@ impl Made {
     ) {
         let mut registers = begin.registers.to_vec();
         let answer = run_machine(&self.machine, &mut registers, begin.state as u32, k as u32);
-        let outcome = u32::from(answer.halted);
-        assert_eq!(
-            WordsRunAnswer { number: 0, outcome, count: answer.count, next: answer.next },
-            on_words
-        );
+        assert_eq!(as_with_words(answer), on_words);
         assert_eq!(registers, after);
     }
+}
+
+/// The answer of a run without words as that of one with them.
+fn as_with_words(answer: RunAnswer) -> WordsRunAnswer {
+    let RunAnswer { number, halted, count, next, flag } = answer;
+    WordsRunAnswer { number, outcome: halted.into(), count, next, flag }
 }
 
 fn reading_and_silent(seed: u64, count: usize) -> impl Iterator<Item = Made> {
     let graphs =
         many_reading_graphs(seed, count).into_iter().chain(many_silent_graphs(seed + 1, count));
     graphs.map(Made::of)
+}
+
+/// Sums that go over, in blocks that are arrived at and in others: from every starter, on registers
+/// and words at the ends, flags agree after each cycle.
+#[test]
+fn flags_agree_from_every_starter() {
+    let mut random = Random::new(29);
+    let mut flags = [0, 0];
+    for made in many_sum_graphs(30, 800).into_iter().map(Made::of) {
+        for state in 0..made.starters.len() {
+            let registers = words::registers_near_ends(&mut random, 16);
+            let words = words::registers_near_ends(&mut random, 40);
+            for length in [3, 40] {
+                let begin = Begin { state, registers: &registers, words: &words[..length] };
+                made.check(&begin, &[0, 1, 2, 3, 4, 5, 8, 13, 40, 41]);
+                made.arrivals(&begin).iter().for_each(|one| flags[usize::from(one.flag)] += 1);
+            }
+        }
+    }
+    assert!(flags.iter().all(|&moments| moments > 4_000), "{flags:?}");
 }
 
 #[test]
@@ -234,8 +265,7 @@ fn runs_without_words_are_runs_on_enough_of_any() {
             let starters: Vec<u32> = (0..blocks as u32).collect();
             let on_words =
                 run_graph_with_words(&made.table, &mut y, start, budget, &list, &starters);
-            let outcome = u32::from(alone.halted);
-            assert_eq!(ran(outcome, alone.count, alone.next), on_words);
+            assert_eq!(as_with_words(alone), on_words);
             assert_eq!((alone.number, x), (0, y));
         }
     }

@@ -3,7 +3,10 @@
 use reference::answer::{answer, digest, Answer};
 use reference::case::{read_cases, Captures, Case};
 use reference::generate::cases;
+use reference::generate::sum_cases::one;
 use reference::grouping::group;
+use reference::machine_table::WIRES_AT;
+use reference::operation::Operation;
 use reference::operations::WordsRunAnswer;
 use reference::parse::parse;
 use reference::stats::{Counted, Stats};
@@ -83,6 +86,19 @@ fn what_matters_most_is_hit_often() {
     }
 }
 
+/// Each run ends in each way with the flag clear and raised.
+#[test]
+fn every_flag_is_hit() {
+    let stats = Stats::of(&cases(1, 4_500));
+    for run in Operation::ALL {
+        for (end, flag) in run.flags() {
+            let hits = stats.flags(run, end as u32, flag == 1);
+            let least = if flag == 0 { 400 } else { 35 };
+            assert!(hits >= least, "{run:?} {end} {flag}: {hits}");
+        }
+    }
+}
+
 /// Runs with words go dry after none, one and many blocks or cycles.
 #[test]
 fn runs_go_dry_at_many_counts() {
@@ -99,7 +115,7 @@ fn runs_go_dry_at_many_counts() {
 }
 
 /// Where both runs of a case begin at one starter on the machine's starters and both go dry, they
-/// do so with equal registers, as tables without patches must.
+/// do so with equal registers and flags, as tables without patches must.
 #[test]
 fn many_cases_go_dry_together() {
     let mut together = 0;
@@ -115,6 +131,7 @@ fn many_cases_go_dry_together() {
         let dry = graph.answer.outcome == 2 && machine.answer.outcome == 2;
         if paired && dry && !patched && list == starters.iter().copied().collect() {
             assert_eq!(graph.registers, machine.registers);
+            assert_eq!(graph.answer.flag, machine.answer.flag);
             assert_eq!(graph.answer.next as usize, starters[machine.answer.next as usize]);
             together += 1;
         }
@@ -137,9 +154,9 @@ fn digests() {
 }
 
 #[test]
-fn answer_lines_have_thirty_six_fields() {
+fn answer_lines_have_forty_fields() {
     for case in cases(8, 40) {
-        assert_eq!(answer(&case).line().split(',').count(), 36);
+        assert_eq!(answer(&case).line().split(',').count(), 40);
     }
 }
 
@@ -150,7 +167,7 @@ fn captures_end_the_line() {
     let end = |case: &Case| {
         let line = answer(case).line();
         let fields: Vec<&str> = line.split(',').collect();
-        fields[28..].join(",")
+        fields[32..].join(",")
     };
     let listed = format!("12,{}", digest(b"refused,3,1\n"));
     assert_eq!(end(&case), format!("{listed},0,0,0,0,0,0"));
@@ -163,6 +180,23 @@ fn captures_end_the_line() {
     assert_eq!(end(&case), format!("{listed},0,0,0,2,1,7"));
     case.captures = recorded(b"1,0,5\n", b"1,0,5\n1,0,5\n");
     assert_eq!(end(&case), format!("{listed},18,2,2,0,0,0"));
+}
+
+/// In each of the four runs the flag stands behind next and before the digest of the registers.
+#[test]
+fn flags_in_the_line() {
+    let mut case = Case::plain(one("add").as_bytes());
+    case.registers[..2].copy_from_slice(&[2_147_483_647, 1]);
+    case.machine_patches = vec![((WIRES_AT + 7) as u32, 3)];
+    let line = answer(&case).line();
+    let fields: Vec<&str> = line.split(',').collect();
+    case.registers[2] = 2_147_483_648;
+    let registers = digest(&case.registers).to_string();
+    for (run, flag) in ["1", "0", "1", "0"].into_iter().enumerate() {
+        // Each run halts in its first block or cycle; in the machine the sum counts where r3 does.
+        let expected = ["0", "1", "1", "255", flag, &registers];
+        assert_eq!(fields[8 + 6 * run..14 + 6 * run], expected);
+    }
 }
 
 /// Behind the lists stand R and both recordings, of at most 4,000 bytes each.

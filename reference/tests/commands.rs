@@ -67,13 +67,15 @@ fn passes(arguments: &[&str]) -> String {
     text
 }
 
-/// The proved library agrees, and every number and outcome is hit.
+/// The proved library agrees, and every number, outcome and flag is hit.
 #[test]
 fn compare() {
     let text = passes(&["compare", "3", "2000"]);
     assert!(text.ends_with("seed 3: 2000 cases, 0 differ\n"), "{text}");
     assert!(text.contains("run machine,10,"), "{text}");
     assert!(text.contains("outcome of run graph with words,2,"), "{text}");
+    assert!(text.contains("flag of run machine,1,1,"), "{text}");
+    assert!(text.contains("flag of run machine with words,2,1,"), "{text}");
     assert!(text.contains("compare captures,18,"), "{text}");
     assert!(text.contains("outcome of compare captures,2,"), "{text}");
     assert!(text.contains("\nmet in synthesise: 7 graph and 6 ("), "{text}");

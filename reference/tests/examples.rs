@@ -100,7 +100,7 @@ fn p7_starters_and_listing() {
     assert_eq!(listing(P7.as_bytes()), "states,2,20\n0,0,1,2\n1,1,5,18\n");
 }
 
-/// The wires of P7, worked out by hand from paper 01.
+/// The wires of P7, worked out by hand from paper 01 and, in the two subs, from R-2.
 #[test]
 fn p7_wires() {
     let wires: [[u32; 4]; 20] = [
@@ -113,8 +113,8 @@ fn p7_wires() {
         [16, 0, 1, 0],
         [5, 18, 20, 0],
         [18, 18, 20, 0],
-        [4, 1, 0, 0],
-        [4, 0, 1, 0],
+        [4, 1, 0, 21],
+        [4, 0, 1, 22],
         [1, 1, 0, 0],
         [1, 1, 0, 0],
         [19, 22, 26, 25],

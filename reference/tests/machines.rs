@@ -118,6 +118,28 @@ fn codes_and_references() {
     }
 }
 
+/// Word c of an add or sub is a reference as a and b are; P7's first sub is wire 7 of state 1.
+#[test]
+fn arrivals_of_sums() {
+    for code in [3, 4] {
+        for reference in [2, 15, 23, 24, 33, 34, u32::MAX] {
+            is_refused(&[(wire(9), code), (wire(9) + 3, reference)]);
+        }
+        for reference in [0, 1, 16, 21, 22] {
+            let patches = [(wire(9), code), (wire(9) + 3, reference)];
+            assert_eq!(run_changed(&patches).0, 0, "{patches:?}");
+        }
+    }
+    // Other codes with two operands do not use the word.
+    for code in (5..=10).chain(12..=18) {
+        for word in [2, 15, 23, 24, u32::MAX] {
+            assert_eq!(run_changed(&[(wire(9), code), (wire(9) + 3, word)]).0, 0, "{code}");
+        }
+    }
+    // No sum of this run goes over, so any reference leaves all as it was.
+    is_unread(&[(wire(9) + 3, 0), (wire(10) + 3, 0)]);
+}
+
 /// Code 20 in a wire of a state below N is 12 without words, and its other words are not read.
 #[test]
 fn code_20() {
@@ -149,7 +171,7 @@ fn words_not_read() {
     is_unread(&[(STATE_2, u32::MAX), (STATE_2 + 1, 5), (STATE_2 + 2, 99), (WIRES_AT - 1, 9)]);
     is_unread(&[(STATE_1 + 5, 99), (STATE_1 + 18, u32::MAX), (RECORDS_AT + 5, 15)]);
     is_unread(&[(wire(20), 99), (MACHINE_WORDS - 1, 3)]);
-    is_unread(&[(wire(0) + 2, 99), (wire(0) + 3, 99), (wire(3) + 3, 99), (wire(9) + 3, 99)]);
+    is_unread(&[(wire(0) + 2, 99), (wire(0) + 3, 99), (wire(3) + 3, 99), (wire(8) + 3, 99)]);
 }
 
 #[test]

@@ -2,7 +2,7 @@
 //! captures against the library.
 
 use gutkavu::captures::Line;
-use gutkavu::operations::{compare_captures, RunWithWordsFields};
+use gutkavu::operations::{compare_captures, RunFields, RunWithWordsFields};
 use reference::answer::buffers_of;
 use reference::case::Case;
 use reference::generate;
@@ -17,8 +17,9 @@ fn words(length: u32) -> Vec<u32> {
     (0..length).map(|index| index.wrapping_mul(77_777)).collect()
 }
 
-fn fields(answer: RunAnswer) -> (u32, u32, u32, u32) {
-    (answer.number, u32::from(answer.halted), answer.count, answer.next)
+fn fields(answer: RunAnswer) -> RunFields {
+    let RunAnswer { number, halted, count, next, flag } = answer;
+    RunFields { number, halted: halted.into(), count, next, flag: flag.into() }
 }
 
 fn texts_agree(case: &Case, graph: &[u32], seen: &mut Seen) {
@@ -48,21 +49,21 @@ fn runs_agree(case: &Case, graph: &[u32], machine: &[u32], seen: &mut Seen) {
     let (start, budget) = (case.start_block, case.block_budget);
     let second = operations::run_graph(graph, &mut x, start, budget);
     let plain = plain::run_graph(graph, &mut y, start, budget);
-    let of_plain = (plain.number, plain.halted, plain.count, plain.next);
-    assert_eq!((fields(second), x), (of_plain, y));
+    assert_eq!((fields(second), x), (plain, y));
     seen.insert(("run graph", plain.number));
+    seen.insert(("the flag of a graph", plain.flag));
     let (mut x, mut y) = (case.registers.clone(), case.registers.clone());
     let (start, budget) = (case.start_state, case.cycle_budget);
     let second = operations::run_machine(machine, &mut x, start, budget);
     let plain = plain::run_machine(machine, &mut y, start, budget);
-    let of_plain = (plain.number, plain.halted, plain.count, plain.next);
-    assert_eq!((fields(second), x), (of_plain, y));
+    assert_eq!((fields(second), x), (plain, y));
     seen.insert(("run machine", plain.number));
+    seen.insert(("the flag of a machine", plain.flag));
 }
 
 fn fields_with_words(answer: WordsRunAnswer) -> RunWithWordsFields {
-    let WordsRunAnswer { number, outcome, count, next } = answer;
-    RunWithWordsFields { number, outcome, count, next }
+    let WordsRunAnswer { number, outcome, count, next, flag } = answer;
+    RunWithWordsFields { number, outcome, count, next, flag: flag.into() }
 }
 
 fn graph_runs_with_words_agree(case: &Case, graph: &[u32], seen: &mut Seen) {
@@ -74,6 +75,7 @@ fn graph_runs_with_words_agree(case: &Case, graph: &[u32], seen: &mut Seen) {
     assert_eq!((fields_with_words(second), x), (plain, y));
     seen.insert(("run graph with words", plain.number));
     seen.insert(("the outcome of a graph", plain.outcome));
+    seen.insert(("the flag of a graph with words", plain.flag));
 }
 
 fn machine_runs_with_words_agree(case: &Case, machine: &[u32], seen: &mut Seen) {
@@ -85,6 +87,7 @@ fn machine_runs_with_words_agree(case: &Case, machine: &[u32], seen: &mut Seen) 
     assert_eq!((fields_with_words(second), x), (plain, y));
     seen.insert(("run machine with words", plain.number));
     seen.insert(("the outcome of a machine", plain.outcome));
+    seen.insert(("the flag of a machine with words", plain.flag));
 }
 
 #[test]
@@ -108,6 +111,10 @@ fn the_plain_program_gives_what_the_second_gives() {
         ("the outcome of a graph", &[0, 1, 2]),
         ("run machine with words", &[0, 7, 9, 10]),
         ("the outcome of a machine", &[0, 1, 2]),
+        ("the flag of a graph", &[0, 1]),
+        ("the flag of a machine", &[0, 1]),
+        ("the flag of a graph with words", &[0, 1]),
+        ("the flag of a machine with words", &[0, 1]),
     ];
     all_seen(&seen, &every);
 }

@@ -21,7 +21,7 @@ fn in_is_code_20_in_both_tables() {
     assert_eq!(graph[2..7], [2, 20, 1, 0, 0]);
     let machine = machine_table_of(SUM);
     assert_eq!(machine[RECORDS_AT..RECORDS_AT + 5], [0, 4, 19, 18, 17]);
-    let wires = [[1, 1, 0, 0], [20, 0, 0, 0], [3, 0, 17, 0], [1, 0, 0, 0]];
+    let wires = [[1, 1, 0, 0], [20, 0, 0, 0], [3, 0, 17, 16], [1, 0, 0, 0]];
     assert_eq!(machine[WIRES_AT..WIRES_AT + 16], *wires.as_flattened());
     assert_eq!(listing(SUM.as_bytes()), "states,1,4\n0,0,1,4\n");
 }

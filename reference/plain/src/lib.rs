@@ -50,24 +50,24 @@ fn block(table: &[u32], n: usize) -> &[u32] {
 }
 
 fn refused(number: u32) -> RunWithWordsFields {
-    RunWithWordsFields { number, outcome: 0, count: 0, next: 0 }
+    RunWithWordsFields { number, outcome: 0, count: 0, next: 0, flag: 0 }
 }
 
 /// How a run ends, with the block or state stood in unless it halted.
-fn spent(count: u32, next: u32) -> RunWithWordsFields {
-    RunWithWordsFields { number: 0, outcome: 0, count, next }
+fn spent(count: u32, next: u32, flag: bool) -> RunWithWordsFields {
+    RunWithWordsFields { number: 0, outcome: 0, count, next, flag: flag.into() }
 }
 
-fn halted(count: u32) -> RunWithWordsFields {
-    RunWithWordsFields { number: 0, outcome: 1, count, next: gutkavu::NONE }
+fn halted(count: u32, flag: bool) -> RunWithWordsFields {
+    RunWithWordsFields { number: 0, outcome: 1, count, next: gutkavu::NONE, flag: flag.into() }
 }
 
-fn dry(count: u32, next: u32) -> RunWithWordsFields {
-    RunWithWordsFields { number: 0, outcome: 2, count, next }
+fn dry(count: u32, next: u32, flag: bool) -> RunWithWordsFields {
+    RunWithWordsFields { number: 0, outcome: 2, count, next, flag: flag.into() }
 }
 
 /// A run without words is never dry.
 fn without_words(fields: RunWithWordsFields) -> RunFields {
-    let RunWithWordsFields { number, outcome, count, next } = fields;
-    RunFields { number, halted: outcome, count, next }
+    let RunWithWordsFields { number, outcome, count, next, flag } = fields;
+    RunFields { number, halted: outcome, count, next, flag }
 }

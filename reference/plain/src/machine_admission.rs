@@ -27,8 +27,8 @@ fn wire_fits(wire: &[u32], registers: u32, n: u32, reads: &mut bool) -> bool {
     match wire[0] {
         1 | 20 => true,
         2 | 11 => fits(wire[1]),
-        3..=10 | 12..=18 => fits(wire[1]) && fits(wire[2]),
-        19 => fits(wire[1]) && fits(wire[2]) && fits(wire[3]),
+        5..=10 | 12..=18 => fits(wire[1]) && fits(wire[2]),
+        3 | 4 | 19 => fits(wire[1]) && fits(wire[2]) && fits(wire[3]),
         _ => false,
     }
 }

@@ -8,12 +8,15 @@ use crate::{
 use gutkavu::operations::{RunFields, RunWithWordsFields};
 use gutkavu::GRAPH_WORDS;
 
-/// Runs a block on the registers; the next block, if it does not halt.
+/// Runs a block on the registers; the next block, if it does not halt. A sum that goes over raises
+/// the flag.
 #[inline(always)]
-fn step(block: &[u32], file: &mut [u32; REGISTERS], input: u32) -> Option<u32> {
+fn step(block: &[u32], file: &mut [u32; REGISTERS], input: u32, flag: &mut bool) -> Option<u32> {
     for instruction in block[1..ENDING].chunks_exact(4).take(block[0] as usize) {
         let (code, d, a, b) = (instruction[0], instruction[1], instruction[2], instruction[3]);
-        file[d as usize] = value(&file[..], code, [a, b, 0], input);
+        let (word, over) = value(&file[..], code, [a, b, 0], input);
+        file[d as usize] = word;
+        *flag |= over;
     }
     let ending = &block[ENDING..];
     match ending[0] {
@@ -36,21 +39,21 @@ fn run(
     mut words: impl Words,
     starters: u64,
 ) -> RunWithWordsFields {
-    let (mut at, mut count, mut word) = (start, 0, words.take());
+    let (mut at, mut count, mut word, mut flag) = (start, 0, words.take(), false);
     while count < budget {
         let Some(input) = word else {
-            return dry(count, at);
+            return dry(count, at, flag);
         };
         count += 1;
-        let Some(next) = step(block(table, at as usize), file, input) else {
-            return halted(count);
+        let Some(next) = step(block(table, at as usize), file, input, &mut flag) else {
+            return halted(count, flag);
         };
         at = next;
         if starters >> at & 1 == 1 {
             word = words.take();
         }
     }
-    spent(count, at)
+    spent(count, at, flag)
 }
 
 /// The register file and whether the table holds code 20, or the refusal 7 or 6.

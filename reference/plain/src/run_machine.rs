@@ -8,11 +8,21 @@ use gutkavu::operations::{RunFields, RunWithWordsFields};
 use gutkavu::MACHINE_WORDS;
 
 /// One cycle: `words` holds the registers, and behind them room for the wires. Gives the next state.
+/// A sum that goes over raises the flag where its block is arrived at.
 #[inline(always)]
-fn cycle(table: &[u32], state: usize, registers: usize, words: &mut [u32], input: u32) -> u32 {
+fn cycle(
+    table: &[u32],
+    state: usize,
+    registers: usize,
+    words: &mut [u32],
+    input: u32,
+    flag: &mut bool,
+) -> u32 {
     let record = record(table, state);
     for (wire, at) in wires(table, record).chunks_exact(4).zip(REGISTERS..) {
-        words[at] = value(words, wire[0], [wire[1], wire[2], wire[3]], input);
+        let (word, over) = value(words, wire[0], [wire[1], wire[2], wire[3]], input);
+        words[at] = word;
+        *flag |= over && words[wire[3] as usize] != 0;
     }
     let mut next = [0; REGISTERS];
     for (word, &reference) in next[..registers].iter_mut().zip(&record[3..]) {
@@ -34,19 +44,19 @@ fn run(
     let (states, used) = (table[0], table[1] as usize);
     let mut words = [0; REGISTERS + WIRES];
     words[..used].copy_from_slice(&registers[..used]);
-    let (mut state, mut count) = (start, 0);
+    let (mut state, mut count, mut flag) = (start, 0, false);
     let answer = loop {
         if state >= states {
-            break halted(count);
+            break halted(count, flag);
         }
         if count == budget {
-            break spent(count, state);
+            break spent(count, state, flag);
         }
         let Some(input) = inputs.take() else {
-            break dry(count, state);
+            break dry(count, state, flag);
         };
         count += 1;
-        state = cycle(table, state as usize, used, &mut words, input);
+        state = cycle(table, state as usize, used, &mut words, input, &mut flag);
     };
     registers[..used].copy_from_slice(&words[..used]);
     answer

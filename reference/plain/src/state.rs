@@ -98,13 +98,15 @@ impl<'a> State<'a> {
         arrival.unwrap_or(0)
     }
 
-    fn instruction(&mut self, words: &[u32]) {
+    /// A sum also names its block's arrival.
+    fn instruction(&mut self, words: &[u32], arrival: u32) {
         let value = |register: u32| self.values[register as usize];
         let (code, a, b) = (words[0], words[2], words[3]);
         let wire = match code {
             1 => [1, a, 0, 0],
             2 | 11 => [code, value(a), 0, 0],
             20 => [20, 0, 0, 0],
+            3 | 4 => [code, value(a), value(b), arrival],
             _ => [code, value(a), value(b), 0],
         };
         self.values[words[1] as usize] = self.wire(wire);
@@ -131,7 +133,7 @@ impl<'a> State<'a> {
         let arrival = if is_starter { self.start() } else { self.join(x) };
         let block = block(graph, x as usize);
         let code = block[1..ENDING].chunks_exact(4).take(block[0] as usize);
-        code.for_each(|words| self.instruction(words));
+        code.for_each(|words| self.instruction(words, arrival));
         self.ending(&block[ENDING..], arrival);
     }
 

@@ -1,15 +1,22 @@
 //! What an instruction or a wire gives.
 
-/// The value of a code over the words that its operands name; a set's operand is its literal.
-/// An operand that the code does not read is not looked at. `input` is the arrival's word.
+/// The value of a code over the words that its operands name, and whether a sum or difference left
+/// the signed range. A set's operand is its literal. An operand that the code does not read is not
+/// looked at, nor is c of a sum. `input` is the arrival's word.
 #[inline(always)]
-pub fn value(words: &[u32], code: u32, [a, b, c]: [u32; 3], input: u32) -> u32 {
+pub fn value(words: &[u32], code: u32, [a, b, c]: [u32; 3], input: u32) -> (u32, bool) {
     let at = |reference: u32| words[reference as usize];
-    match code {
+    let value = match code {
         1 => a,
         2 => at(a),
-        3 => at(a).wrapping_add(at(b)),
-        4 => at(a).wrapping_sub(at(b)),
+        3 => {
+            let (sum, over) = (at(a) as i32).overflowing_add(at(b) as i32);
+            return (sum as u32, over);
+        }
+        4 => {
+            let (difference, over) = (at(a) as i32).overflowing_sub(at(b) as i32);
+            return (difference as u32, over);
+        }
         5 => at(a) & at(b),
         6 => at(a) | at(b),
         7 => at(a) ^ at(b),
@@ -21,7 +28,8 @@ pub fn value(words: &[u32], code: u32, [a, b, c]: [u32; 3], input: u32) -> u32 {
         18 => at(a) & !at(b),
         19 => at(if at(a) != 0 { b } else { c }),
         _ => input,
-    }
+    };
+    (value, false)
 }
 
 #[inline(always)]

@@ -31,18 +31,18 @@ pub const PLAIN: Program = Program {
     run_machine_with_words: plain::run_machine_with_words,
 };
 
-/// Number, halted or outcome, count and next; and the registers after.
-pub type Ran = ([u32; 4], [u32; REGISTER_WORDS]);
+/// Number, halted or outcome, count, next and flag; and the registers after.
+pub type Ran = ([u32; 5], [u32; REGISTER_WORDS]);
 
 /// One of the four runs, with a budget.
 pub type Kind = fn(&Program, &Work, &Tables, u32) -> Ran;
 
-fn fields(answer: RunFields) -> [u32; 4] {
-    [answer.number, answer.halted, answer.count, answer.next]
+fn fields(answer: RunFields) -> [u32; 5] {
+    [answer.number, answer.halted, answer.count, answer.next, answer.flag]
 }
 
-fn fields_with_words(answer: RunWithWordsFields) -> [u32; 4] {
-    [answer.number, answer.outcome, answer.count, answer.next]
+fn fields_with_words(answer: RunWithWordsFields) -> [u32; 5] {
+    [answer.number, answer.outcome, answer.count, answer.next, answer.flag]
 }
 
 impl Program {

@@ -61,7 +61,8 @@ fn synthesise(library: &impl Library, graph: &[u32], machine: &mut [u32]) -> Com
 }
 
 pub fn run_fields(answer: RunAnswer) -> Fields {
-    padded(&[answer.number, u32::from(answer.halted), answer.count, answer.next])
+    let RunAnswer { number, halted, count, next, flag } = answer;
+    padded(&[number, u32::from(halted), count, next, u32::from(flag)])
 }
 
 fn run_graph(library: &impl Library, graph: &[u32], case: &Case) -> Compared {
@@ -93,7 +94,8 @@ fn run_machine(library: &impl Library, machine: &[u32], case: &Case) -> Compared
 }
 
 pub fn words_fields(answer: WordsRunAnswer) -> Fields {
-    padded(&[answer.number, answer.outcome, answer.count, answer.next])
+    let WordsRunAnswer { number, outcome, count, next, flag } = answer;
+    padded(&[number, outcome, count, next, u32::from(flag)])
 }
 
 fn run_graph_with_words(library: &impl Library, graph: &[u32], case: &Case) -> Compared {

@@ -57,11 +57,11 @@ pub trait Library: Sync {
 pub struct Proved;
 
 fn run_fields(fields: RunFields) -> Fields {
-    padded(&[fields.number, fields.halted, fields.count, fields.next])
+    padded(&[fields.number, fields.halted, fields.count, fields.next, fields.flag])
 }
 
 fn words_fields(fields: RunWithWordsFields) -> Fields {
-    padded(&[fields.number, fields.outcome, fields.count, fields.next])
+    padded(&[fields.number, fields.outcome, fields.count, fields.next, fields.flag])
 }
 
 fn capture_fields(fields: CaptureFields) -> Fields {

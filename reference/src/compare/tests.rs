@@ -294,6 +294,39 @@ fn differences_of_captures_are_reported() {
     }
 }
 
+/// A library that never raises a flag, or always, is found, and so is one that leaves other bits.
+#[test]
+fn differences_of_flags_are_reported() {
+    let runs = [
+        Operation::RunGraph,
+        Operation::RunMachine,
+        Operation::RunGraphWithWords,
+        Operation::RunMachineWithWords,
+    ];
+    for (run, bit) in runs.into_iter().flat_map(|run| [(run, 0), (run, 7)]) {
+        let library = Changed(run, Change::Field(4, bit));
+        let text = compare(11, 40, &library).expect_err("a difference");
+        assert!(text.ends_with("seed 11: 40 cases, 40 differ\n"), "{text}");
+        assert!(text.contains(&format!("  {} differs\n", run.name())), "{text}");
+        assert!(text.contains(", flag "), "{text}");
+    }
+}
+
+/// A run that is no refusal has an end and a flag.
+#[test]
+fn flags_of_runs() {
+    for run in [Operation::RunGraph, Operation::RunMachine] {
+        assert_eq!(run.flags(), [(0, 0), (0, 1), (1, 0), (1, 1)]);
+        assert_eq!(run.flag([0, 1, 9, 255, 1, 0]), Some((1, 1)));
+        assert_eq!(run.flag([9, 0, 0, 0, 0, 0]), None);
+    }
+    for run in [Operation::RunGraphWithWords, Operation::RunMachineWithWords] {
+        assert_eq!(run.flags().len(), 6);
+        assert_eq!(run.flag([0, 2, 9, 3, 0, 0]), Some((2, 0)));
+    }
+    assert_eq!(Operation::CompareCaptures.flag([0, 0, 0, 7, 1, 0]), None);
+}
+
 /// Recordings have any length; those of a stream are short.
 #[test]
 fn long_captures_are_the_same() {
@@ -319,13 +352,13 @@ fn outcomes_of_captures() {
     assert_eq!(outcome([17, 1, 1, 0, 0, 0]), None);
 }
 
-/// A number, an outcome or a pair that no case hits fails a long run, and not a short one.
+/// A number, an outcome, a flag or a pair that no case hits fails a long run, and not a short one.
 #[test]
 fn numbers_that_are_not_hit_are_reported() {
     let same = Changed(Operation::Read, Change::Nothing);
     let mut tally = tally_all(&Cases::of(1), 2_000, &same);
     assert!(outcome(1, 2_000, &tally).is_ok());
-    assert_eq!(named().count(), 45 + 88);
+    assert_eq!(named().count(), 45 + 20 + 88);
     for hit in named() {
         let cases = tally.counts.remove(&hit).expect("a hit");
         let text = outcome(1, 2_000, &tally).expect_err("one is missing");

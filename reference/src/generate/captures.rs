@@ -10,9 +10,9 @@ pub type Pair = [Vec<Row>; 2];
 
 /// How many bytes a recording has; most have few, as the stored cases are many.
 fn length(random: &mut Random) -> usize {
-    match random.percent(1) {
-        true => MAX_RECORDING - 200,
-        false => random.pick(&[40, 90, 140, 190, 240, 290, 340]),
+    match random.below(70) {
+        0 => MAX_RECORDING - 200,
+        _ => random.pick(&[40, 90, 140, 190, 240, 290, 340]),
     }
 }
 

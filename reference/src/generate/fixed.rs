@@ -1,7 +1,7 @@
 //! Cases that do not depend on the seed: examples, each named fault, sweeps.
 
 use super::examples::{self, P12, P7};
-use super::{capture_cases, word_cases};
+use super::{capture_cases, sum_cases, word_cases};
 use crate::case::Case;
 use crate::graph::{Block, Comparison, Ending, Graph, Instruction, MAX_BLOCKS, MAX_REGISTERS};
 use crate::grouping::group;
@@ -152,5 +152,6 @@ pub fn cases() -> Vec<Case> {
         case.starters = own_starters(&case.text);
     }
     cases.extend(word_cases::cases());
+    cases.extend(sum_cases::cases());
     with_captures(cases)
 }

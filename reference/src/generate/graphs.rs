@@ -1,6 +1,7 @@
 //! Valid graphs: a shape filled with instructions and comparisons.
 
 use super::shapes::{self, Shape};
+use super::sum_cases::{OVER, WITHIN};
 use super::words;
 use crate::graph::{
     Binary, Block, Comparison, Ending, Graph, Instruction, MAX_BLOCKS, MAX_INSTRUCTIONS,
@@ -74,6 +75,31 @@ fn any_instruction(random: &mut Random, registers: usize) -> Instruction {
         3 => Instruction::SignExtend { d, a },
         _ => Instruction::Binary { op: random.pick(&Binary::all()), d, a, b },
     }
+}
+
+/// Mostly an add or sub, and words that such go over with.
+fn sum_instruction(random: &mut Random, registers: usize) -> Instruction {
+    let d = random.below(registers);
+    let (a, b) = (random.below(registers), random.below(registers));
+    match random.below(12) {
+        0 | 1 => Instruction::Set { d, literal: words::near_end(random) as i32 },
+        2 => Instruction::Copy { d, a },
+        3 => any_instruction(random, registers),
+        _ => Instruction::Binary { op: random.pick(&[Binary::Add, Binary::Sub]), d, a, b },
+    }
+}
+
+/// One of the sums that go over, or just do not, behind its operands; of two registers at least.
+fn sum_at_an_end(random: &mut Random, registers: usize) -> [Instruction; 3] {
+    let (name, x, y) = match random.percent(40) {
+        true => random.pick(&OVER),
+        false => random.pick(&WITHIN),
+    };
+    let op = if name == "add" { Binary::Add } else { Binary::Sub };
+    let a = random.below(registers);
+    let b = (a + random.between(1, registers - 1)) % registers;
+    let set = |d, word: u32| Instruction::Set { d, literal: word as i32 };
+    [set(a, x), set(b, y), Instruction::Binary { op, d: random.below(registers), a, b }]
 }
 
 fn any_ending(random: &mut Random, registers: usize, successors: &[usize]) -> Ending {
@@ -184,6 +210,34 @@ fn with_inputs_or_not(random: &mut Random, graph: Graph) -> Graph {
 pub fn graph(random: &mut Random) -> Graph {
     let size = size(random);
     let graph = graph_of(random, size);
+    with_inputs_or_not(random, graph)
+}
+
+/// A graph with many adds and subs, often several blocks to a state.
+pub fn sum_graph(random: &mut Random) -> Graph {
+    let branching = random.percent(60);
+    let size = Size {
+        blocks: random.between(if branching { 4 } else { 1 }, 9),
+        registers: random.between(2, 5),
+        instructions: random.pick(&[1, 1, 2, 3]),
+    };
+    let made = match branching {
+        true => random.pick(&[shapes::diamonds as Maker, shapes::joins])(random, size.blocks),
+        false => shape(random, size.blocks),
+    };
+    let mut graph = fill(random, &made, size);
+    for block in &mut graph.blocks {
+        block.instructions = match random.percent(45) {
+            true => sum_at_an_end(random, size.registers).to_vec(),
+            false => {
+                let count = random.between(0, size.instructions);
+                (0..count).map(|_| sum_instruction(random, size.registers)).collect()
+            }
+        };
+    }
+    if size.registers > 2 && random.percent(35) {
+        tame(random, &mut graph);
+    }
     with_inputs_or_not(random, graph)
 }
 

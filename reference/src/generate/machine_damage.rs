@@ -1,5 +1,6 @@
 //! Patches on machine tables: refused ones, and ones that must be run.
 
+use super::arrival_damage::{another_arrival, bad_arrival, no_arrivals};
 use super::words;
 use crate::case::{Patch, MAX_PATCHES};
 use crate::machine_table::{
@@ -16,19 +17,19 @@ pub struct Table<'a> {
 }
 
 impl Table<'_> {
-    fn states(&self) -> usize {
+    pub fn states(&self) -> usize {
         self.words[0] as usize
     }
 
-    fn registers(&self) -> usize {
+    pub fn registers(&self) -> usize {
         self.words[1] as usize
     }
 
-    fn first(&self, state: usize) -> usize {
+    pub fn first(&self, state: usize) -> usize {
         self.words[record(state)] as usize
     }
 
-    fn count(&self, state: usize) -> usize {
+    pub fn count(&self, state: usize) -> usize {
         self.words[record(state) + 1] as usize
     }
 
@@ -60,7 +61,7 @@ fn record(state: usize) -> usize {
     RECORDS_AT + state * RECORD_WORDS
 }
 
-fn wire_at(wire: usize) -> usize {
+pub fn wire_at(wire: usize) -> usize {
     WIRES_AT + wire * WIRE_WORDS
 }
 
@@ -69,12 +70,12 @@ fn operands(code: u32) -> usize {
     match code {
         20 => 0,
         1 | 2 | 11 => 1,
-        19 => 3,
+        3 | 4 | 19 => 3,
         _ => 2,
     }
 }
 
-fn patch(at: usize, word: usize) -> Patch {
+pub fn patch(at: usize, word: usize) -> Patch {
     (at as u32, word as u32)
 }
 
@@ -155,7 +156,7 @@ fn sliding(random: &mut Random, table: &Table) -> Vec<Patch> {
     }
 }
 
-fn unknown_code(random: &mut Random, table: &Table) -> Vec<Patch> {
+pub fn unknown_code(random: &mut Random, table: &Table) -> Vec<Patch> {
     let (_, _, at) = table.wire(random);
     vec![(at as u32, random.pick(&[0, 21, 21, 22, 255, 276, 2_147_483_668, MAX]))]
 }
@@ -195,8 +196,9 @@ fn another_code(random: &mut Random, table: &Table) -> Vec<Patch> {
 }
 
 /// Kinds that a run always refuses.
-pub const REFUSED: [Damage; 6] =
-    [state_count, register_count, wire_range, empty_past_the_end, sharing, unknown_code];
+pub const REFUSED: [Damage; 7] = [
+    state_count, register_count, wire_range, empty_past_the_end, sharing, unknown_code, bad_arrival,
+];
 
 /// One of those that are refused, for any table whose N and R are right.
 pub fn refused(random: &mut Random, table: &Table) -> Vec<Patch> {
@@ -392,12 +394,12 @@ fn past_the_table(random: &mut Random, _: &Table) -> Vec<Patch> {
 }
 
 /// Kinds that a run never refuses.
-pub const KEPT: [Damage; 25] = [
-    input_wire, input_wire, input_wire, starters_and_blocks, records_from_n, next_from_r,
-    wires_of_no_state, unused_operands, another_literal, another_literal, another_next,
-    another_operand, another_n, more_registers, moved_to_the_end, moved_to_the_end, empty_inside,
-    empty_inside, empty_inside, added_state, added_state, rewritten_state, rewritten_state,
-    rewritten_state, past_the_table,
+pub const KEPT: [Damage; 27] = [
+    another_arrival, no_arrivals, input_wire, input_wire, input_wire, starters_and_blocks,
+    records_from_n, next_from_r, wires_of_no_state, unused_operands, another_literal,
+    another_literal, another_next, another_operand, another_n, more_registers, moved_to_the_end,
+    moved_to_the_end, empty_inside, empty_inside, empty_inside, added_state, added_state,
+    rewritten_state, rewritten_state, rewritten_state, past_the_table,
 ];
 
 /// Patches for a table that synthesis made.

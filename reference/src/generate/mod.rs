@@ -1,5 +1,6 @@
 //! Cases from a seed: which texts, which damage, which buffers, which recordings.
 
+pub mod arrival_damage;
 mod capture_cases;
 mod capture_damage;
 mod captures;
@@ -15,6 +16,7 @@ mod row;
 mod runs;
 mod several;
 pub mod shapes;
+pub mod sum_cases;
 pub mod texts;
 pub mod word_cases;
 pub mod words;
@@ -37,19 +39,21 @@ enum Aim {
     BareMachine,
     Buffers,
     Starts,
+    Sums,
     Several,
 }
 
 fn aim(random: &mut Random) -> Aim {
     match random.below(1_000) {
-        0..=244 => Aim::Valid,
-        245..=444 => Aim::Text,
-        445..=454 => Aim::LongText,
-        455..=589 => Aim::GraphTable,
-        590..=769 => Aim::MachineTable,
-        770..=797 => Aim::BareMachine,
-        798..=817 => Aim::Buffers,
-        818..=880 => Aim::Starts,
+        0..=129 => Aim::Valid,
+        130..=299 => Aim::Text,
+        300..=310 => Aim::LongText,
+        311..=419 => Aim::GraphTable,
+        420..=549 => Aim::MachineTable,
+        550..=577 => Aim::BareMachine,
+        578..=597 => Aim::Buffers,
+        598..=649 => Aim::Starts,
+        650..=873 => Aim::Sums,
         _ => Aim::Several,
     }
 }
@@ -59,6 +63,7 @@ fn text(random: &mut Random, aim: Aim) -> Vec<u8> {
         Aim::Text | Aim::BareMachine => texts::damaged(random),
         Aim::LongText => texts::long_text(random),
         Aim::Valid => print(&graphs::graph(random)).into_bytes(),
+        Aim::Sums => print(&graphs::sum_graph(random)).into_bytes(),
         _ if random.percent(55) => print(&graphs::small_graph(random)).into_bytes(),
         _ => print(&graphs::graph(random)).into_bytes(),
     }
@@ -81,7 +86,10 @@ fn buffers(random: &mut Random, aim: Aim, case: &mut Case) {
         case.machine_length = random.pick(&[13_635, 13_634, 13_700]);
     }
     let length = random.pick(&[16, 16, 16, 16, 17, 20]);
-    case.registers = words::registers(random, length);
+    case.registers = match aim {
+        Aim::Sums => words::registers_near_ends(random, length),
+        _ => words::registers(random, length),
+    };
     if aim == Aim::Buffers {
         short_buffers(random, case);
     }
@@ -117,6 +125,9 @@ fn damage(random: &mut Random, aim: Aim, case: &mut Case) {
     let made = machine.len() >= MACHINE_WORDS && machine_table::decode(&machine).is_some();
     if aim == Aim::MachineTable && made {
         case.machine_patches = machine_damage::patches(random, &machine);
+    }
+    if aim == Aim::Sums && made && random.percent(55) {
+        case.machine_patches = arrival_damage::patches(random, &machine);
     }
     if aim == Aim::BareMachine && !made {
         case.machine_patches = machine_damage::bare_machine(random);

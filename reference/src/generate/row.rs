@@ -38,7 +38,7 @@ pub fn of_machine<'a>(
     let mut at = Some(start);
     (1..).map_while(move |cycle: u32| {
         let word = words.get(cycle as usize - 1).copied().unwrap_or(0);
-        at = machine_cycle(machine, at?, &mut registers, word);
+        at = machine_cycle(machine, at?, &mut registers, word).next;
         let state = at.map_or(NONE, |state| state as u32);
         Some([&[cycle, state], &registers[..machine.registers]].concat())
     })

@@ -27,7 +27,27 @@ pub fn literal(random: &mut Random) -> i32 {
     }
 }
 
-/// A register buffer of the given length.
+/// The ends of the signed range, what takes a sum over them, and their neighbours.
+const ENDS: [u32; 15] = [
+    2_147_483_647, 2_147_483_647, 2_147_483_647, 2_147_483_648, 2_147_483_648, 2_147_483_648, 1, 1,
+    1, 4_294_967_295, 4_294_967_295, 4_294_967_295, 0, 2_147_483_646, 2_147_483_649,
+];
+
+/// A word on which sums go over, or just do not.
+pub fn near_end(random: &mut Random) -> u32 {
+    match random.below(15) {
+        0 => random.pick(&[2, 1_073_741_824, 3_221_225_472, 3_221_225_471, 4_294_967_294]),
+        _ => random.pick(&ENDS),
+    }
+}
+
+/// A register buffer, or a list of words, of the given length.
 pub fn registers(random: &mut Random, length: usize) -> Vec<u32> {
-    (0..length).map(|_| word(random)).collect()
+    let draw = if random.percent(25) { near_end } else { word };
+    (0..length).map(|_| draw(random)).collect()
+}
+
+/// One on which sums go over.
+pub fn registers_near_ends(random: &mut Random, length: usize) -> Vec<u32> {
+    (0..length).map(|_| near_end(random)).collect()
 }

@@ -2,7 +2,9 @@
 
 #![allow(dead_code)]
 
+pub mod flags;
 pub mod recordings;
+pub mod traces;
 
 use reference::generate::graphs;
 use reference::graph::{Block, Comparison, Ending, Graph};
@@ -86,24 +88,25 @@ pub const SPENT: u32 = 0;
 pub const HALTED: u32 = 1;
 pub const DRY: u32 = 2;
 
+/// Answers with a clear flag.
 pub fn ran(outcome: u32, count: u32, next: u32) -> WordsRunAnswer {
-    WordsRunAnswer { number: 0, outcome, count, next }
+    WordsRunAnswer { number: 0, outcome, count, next, flag: false }
 }
 
 pub fn refused_words(number: u32) -> WordsRunAnswer {
-    WordsRunAnswer { number, outcome: 0, count: 0, next: 0 }
+    WordsRunAnswer { number, outcome: 0, count: 0, next: 0, flag: false }
 }
 
 pub fn halted(count: u32) -> RunAnswer {
-    RunAnswer { number: 0, halted: true, count, next: 255 }
+    RunAnswer { number: 0, halted: true, count, next: 255, flag: false }
 }
 
 pub fn spent(count: u32, next: u32) -> RunAnswer {
-    RunAnswer { number: 0, halted: false, count, next }
+    RunAnswer { number: 0, halted: false, count, next, flag: false }
 }
 
 pub fn refused(number: u32) -> RunAnswer {
-    RunAnswer { number, halted: false, count: 0, next: 0 }
+    RunAnswer { number, halted: false, count: 0, next: 0, flag: false }
 }
 
 /// Random valid graphs of all shapes, from one seed.
@@ -131,6 +134,12 @@ pub fn many_silent_graphs(seed: u64, count: usize) -> Vec<Graph> {
         graphs::graph_of(&mut random, size)
     };
     (0..count).map(&mut make).collect()
+}
+
+/// Random valid graphs in which many sums go over.
+pub fn many_sum_graphs(seed: u64, count: usize) -> Vec<Graph> {
+    let mut random = Random::new(seed);
+    (0..count).map(|_| graphs::sum_graph(&mut random)).collect()
 }
 
 /// All endings of a block among so many: halt, goto, ite.

@@ -37,6 +37,11 @@ module _ (s : ℕ) (at : ℕ → ℕ) (w : Wire) where
       let first : choose (eqb (w .code) 1) (w .a) (at (w .a)) ≡ at (w .a) = rw (ne-eqb (w .code) 1 h) in
       sym (ap (λ (z : ℕ). evalOf s (w .code) z (at (w .b)) (at (w .c))) first)
 
+-- a wire that is no add or sub does not go over, whatever is read
+pub quiet : (at : ℕ → ℕ) (w : Wire) → (w .code ≡ addCode → ⊥) → (w .code ≡ subCode → ⊥) → wireOver at w ≡ false
+unfolding wireOver
+quiet at w p q = ap (λ (b : Bool). b && not (eqb (at (w .c)) 0)) (over-other (w .code) (at (w .a)) (at (w .b)) p q)
+
 -- a valid reference is one of the words so far
 reference-below : (r n x : ℕ) → r ≤ maxRegisters → validReference r n x ≡ true → x < maxRegisters + n
 reference-below r n x h e = go (ltb x r) refl e
@@ -73,7 +78,7 @@ module _ (s : ℕ) (l : List ℕ) (r n : ℕ) (w : Wire) (few : r ≤ maxRegiste
       (λ h. reads-same (w .b) (v .second (omega arith)))
       (λ h. reads-same (w .c) (v .third (omega arith)))
 
-  -- an add or sub reads all three; no other code goes over, whatever is read
+  -- an add or sub reads all three
   over-same : (w .code ≡ setCode → ⊥) → 3 ≤ wireArity (w .code) → wireOver (λ x. getD l (x % roomWords) 0) w ≡ wireOver (λ x. getD (take (maxRegisters + n) l) x 0) w
   unfolding wireOver
   over-same p h =
@@ -83,14 +88,12 @@ module _ (s : ℕ) (l : List ℕ) (r n : ℕ) (w : Wire) (few : r ≤ maxRegiste
       ∙ ap (λ (z : ℕ). overOf (w .code) (g (w .a)) (g (w .b)) && not (eqb z 0)) (reads-same (w .c) (v .third h))
 
   pub over-within : wireOver (λ x. getD l (x % roomWords) 0) w ≡ wireOver (λ x. getD (take (maxRegisters + n) l) x 0) w
-  unfolding wireOver
   over-within = go (compared (w .code) addCode) (compared (w .code) subCode)
     where
       go : Compared (w .code) addCode → Compared (w .code) subCode → wireOver (λ x. getD l (x % roomWords) 0) w ≡ wireOver (λ x. getD (take (maxRegisters + n) l) x 0) w
       go (same b e) d = over-same (λ h. omega arith) (rw e (omega (arith, add-reads)))
       go (other b e) (same d f) = over-same (λ h. omega arith) (rw f (omega (arith, sub-reads)))
-      go (other b e) (other d f) =
-          rw (over-other (w .code) (getD l (w .a % roomWords) 0) (getD l (w .b % roomWords) 0) e f, over-other (w .code) (getD (take (maxRegisters + n) l) (w .a) 0) (getD (take (maxRegisters + n) l) (w .b) 0) e f)
+      go (other b e) (other d f) = quiet (λ x. getD l (x % roomWords) 0) w e f ∙ sym (quiet (λ x. getD (take (maxRegisters + n) l) x 0) w e f)
 
 -- ---- the wires from `first` on, one after another
 

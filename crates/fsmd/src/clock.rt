@@ -17,6 +17,7 @@ use super::table::wire;
 use super::table::wire_count;
 use buffers::word_index;
 use word::Code;
+use word::Evaluated;
 use word::Registers;
 
 // What a cycle gives: the registers, the word of the next state, and whether a sum goes over.
@@ -35,30 +36,23 @@ fn read(words: &[u32], n: usize, x: u32) -> u32
     if i < n { words[i] } else { 0 }
 }
 
-// The word of a wire. A reference is taken modulo the room, which costs no branch: those that the code of an admitted machine's wire
-// reads lie in it, and the others do not matter.
-fn value(words: &[u32], w: Wire, sampled: u32) -> u32
+// The evaluation of a wire: its word, and whether it goes over and counts. A reference is taken modulo the room, which costs no branch:
+// those that an admitted machine's wire reads lie in it, and the others do not matter.
+fn value(words: &[u32], w: Wire, sampled: u32) -> Evaluated
     requires { ⌜ length (now words) ≡ roomWords ⌝ }
-    ensures { λ v. ⌜ v ≡ wireValue sampled (λ x. getD (now (words .entry)) (x % roomWords) 0) w ⌝ }
+    ensures { λ v. ⌜ v .word ≡ wireValue sampled (λ x. getD (now (words .entry)) (x % roomWords) 0) w ⌝ }
+    ensures { λ v. ⌜ v .over ≡ wireOver (λ x. getD (now (words .entry)) (x % roomWords) 0) w ⌝ }
 {
     if w.code == Code::SET {
-        return w.a;
+        return Evaluated {
+            word: w.a,
+            over: false,
+        };
     }
     let a = word_index(w.a) % MachineTable::REFERENCES;
     let b = word_index(w.b) % MachineTable::REFERENCES;
     let c = word_index(w.c) % MachineTable::REFERENCES;
-    word::eval(sampled, w.code, words[a], words[b], words[c])
-}
-
-// Whether a wire goes over and counts: what its c reads is not zero. The words are those that `value` reads, so that each is loaded once.
-fn goes_over(words: &[u32], w: Wire) -> bool
-    requires { ⌜ length (now words) ≡ roomWords ⌝ }
-    ensures { λ v. ⌜ v ≡ wireOver (λ x. getD (now (words .entry)) (x % roomWords) 0) w ⌝ }
-{
-    let a = word_index(w.a) % MachineTable::REFERENCES;
-    let b = word_index(w.b) % MachineTable::REFERENCES;
-    let c = word_index(w.c) % MachineTable::REFERENCES;
-    word::over(w.code, words[a], words[b]) & (words[c] != 0)
+    word::evaluate(sampled, w.code, words[a], words[b], words[c])
 }
 
 // The wires in order, after the sixteen registers, and whether one goes over.
@@ -75,10 +69,9 @@ fn work(words: &mut [u32], table: &[u32], first: usize, count: usize, sampled: u
     let mut n = 0;
     while n < count {
         let at = MachineTable::REGISTERS + n;
-        let w = wire(table, first + n);
-        over = over | goes_over(words, w);
-        let v = value(words, w, sampled);
-        words[at] = v;
+        let v = value(words, wire(table, first + n), sampled);
+        over = over | v.over;
+        words[at] = v.word;
         n += 1;
     }
     over

@@ -1,6 +1,5 @@
 // The synthesised machine, a finite state machine with its datapath: limits, wires, and the layout of its table.
 use runs::RunAnswer;
-use word::Code;
 use word::Registers;
 ghost use mathlib.Core.Path.{_≡_};
 ghost use Rattle.fsmd.specs.Machine.{wireArity};
@@ -77,12 +76,10 @@ impl Wire {
     pub fn arity(code: u32) -> u32
         ensures { λ r. ⌜ r ≡ wireArity code ⌝ }
     {
-        if code == Code::ADD {
-            return 3;
+        match code {
+            3 => 3,
+            4 => 3,
+            _ => word::arity(code),
         }
-        if code == Code::SUB {
-            return 3;
-        }
-        word::arity(code)
     }
 }

@@ -6,7 +6,7 @@ use mathlib.Core.Bool.{Bool, true, false, false≢true}
 use mathlib.Core.Logic.{_⊎_, inl, inr}
 use lib.IntN.{pos, negsuc, _+ℤ_, _-ℤ_}
 use lib.Dec.{ltb, eqb, lit<}
-use borrow.Author.Tests.{ltb-true, ltb-false, le-ltb, eqb-true, eqb-false, ne-eqb}
+use borrow.Author.Tests.{ltb-true, ltb-false, le-ltb, eqb-true, eqb-false}
 use mir.Syntax.{w64}
 use mir.Val.{SFits}
 use Rattle.word.specs.Word.{choose, signedOf, addOf, subOf, addCode, subCode, evalOf, outside, exactOf, overOf, arity}
@@ -15,21 +15,15 @@ use Rattle.word.proofs.Levels.{level, level-difference, sum-level, diff
 
 -- ---- the codes that can
 
--- a difference at sub, a sum at add, and 0 at every other code, as `exact` chooses
-pub exact-chosen : (k a b : ℕ) → choose (eqb k subCode) (signedOf a -ℤ signedOf b) (choose (eqb k addCode) (signedOf a +ℤ signedOf b) (pos 0)) ≡ exactOf k a b
-unfolding exactOf
-exact-chosen zero a b = refl
-exact-chosen (suc zero) a b = refl
-exact-chosen (suc (suc zero)) a b = refl
-exact-chosen (suc (suc (suc zero))) a b = refl
-exact-chosen (suc (suc (suc (suc zero)))) a b = refl
-exact-chosen (suc (suc (suc (suc (suc k))))) a b =
-    rw (ne-eqb (suc (suc (suc (suc (suc k))))) subCode (λ e. absurd (omega arith)), ne-eqb (suc (suc (suc (suc (suc k))))) addCode (λ e. absurd (omega arith)))
-
 -- no code but add and sub goes over
 pub over-other : (k a b : ℕ) → (k ≡ addCode → ⊥) → (k ≡ subCode → ⊥) → overOf k a b ≡ false
 unfolding overOf
-over-other k a b p q = rw (← exact-chosen k a b, ne-eqb k subCode q, ne-eqb k addCode p)
+over-other zero a b p q = refl
+over-other (suc zero) a b p q = refl
+over-other (suc (suc zero)) a b p q = refl
+over-other (suc (suc (suc zero))) a b p q = absurd (p refl)
+over-other (suc (suc (suc (suc zero)))) a b p q = absurd (q refl)
+over-other (suc (suc (suc (suc (suc k))))) a b p q = refl
 
 data Kind (k : ℕ) : Type 0 where
   is-add : k ≡ addCode → Kind k
@@ -116,7 +110,7 @@ exact-not-over s k a b c e = go (kind k)
     go (is-sub i) = sym (ap outside e) ∙ rw i (signed-inside (subOf a b) (wrapped (a + (2 ^ 32 - b))))
     go (other p q) = over-other k a b p q
 
--- ---- both fit 64 bits, in which `exact` works them out
+-- ---- both fit 64 bits, in which `evaluate` judges them
 
 pub sum-fits : (a b : ℕ) → a < 2 ^ 32 → b < 2 ^ 32 → SFits w64 (signedOf a +ℤ signedOf b)
 sum-fits a b h k =

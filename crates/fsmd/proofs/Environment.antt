@@ -8,7 +8,7 @@ use lib.Dec.{eqb, leb, ltb}
 use lib.ListN.{length, getD, take, drop, set}
 use lib.Seq.{take-suc-set, getD-take}
 use borrow.Author.Tests.{eq-eqb, ne-eqb, ltb-true}
-use Rattle.word.specs.Word.{choose, evalOf, overOf, arity, setCode, addCode, subCode}
+use Rattle.word.specs.Word.{choose, evalOf, overOf, setCode, addCode, subCode}
 use Rattle.word.proofs.WireLaws.{eval-uses}
 use Rattle.word.proofs.OverLaws.{over-other}
 use Rattle.runs.proofs.ListLaws.{and-right}
@@ -25,22 +25,28 @@ use Rattle.fsmd.proofs.WireReads.{Valid, valid-facts, reads-operands, a
 -- ---- a wire
 
 module _ (s : ℕ) (at : ℕ → ℕ) (w : Wire) where
-  pub value-set : w .code ≡ 1 → w .a ≡ wireValue s at w
+  pub value-set : w .code ≡ setCode → w .a ≡ wireValue s at w
   unfolding wireValue evalOf
   value-set h =
-      let first : choose (eqb (w .code) 1) (w .a) (at (w .a)) ≡ w .a = rw (eq-eqb (w .code) 1 h) in
+      let first : choose (eqb (w .code) setCode) (w .a) (at (w .a)) ≡ w .a = rw (eq-eqb (w .code) setCode h) in
       sym (ap (λ (z : ℕ). evalOf s (w .code) z (at (w .b)) (at (w .c))) first ∙ rw h)
 
-  pub value-other : (w .code ≡ 1 → ⊥) → evalOf s (w .code) (at (w .a)) (at (w .b)) (at (w .c)) ≡ wireValue s at w
-  unfolding wireValue
-  value-other h =
-      let first : choose (eqb (w .code) 1) (w .a) (at (w .a)) ≡ at (w .a) = rw (ne-eqb (w .code) 1 h) in
-      sym (ap (λ (z : ℕ). evalOf s (w .code) z (at (w .b)) (at (w .c))) first)
+  -- where x, y and z are what its references read
+  module _ (x y z : ℕ) (ex : x ≡ at (w .a)) (ey : y ≡ at (w .b)) (ez : z ≡ at (w .c)) (k : ℕ) (h : w .code ≡ k) where
+    pub value-other : (k ≡ setCode → ⊥) → evalOf s k x y z ≡ wireValue s at w
+    unfolding wireValue
+    value-other d =
+        let first : choose (eqb (w .code) setCode) (w .a) (at (w .a)) ≡ at (w .a) = rw (ne-eqb (w .code) setCode (λ q. d (sym h ∙ q))) in
+        ap₂ (λ (i u : ℕ). evalOf s i u y z) (sym h) (ex ∙ sym first) ∙ ap₂ (evalOf s (w .code) (choose (eqb (w .code) setCode) (w .a) (at (w .a)))) ey ez
 
--- a wire that is no add or sub does not go over, whatever is read
-pub quiet : (at : ℕ → ℕ) (w : Wire) → (w .code ≡ addCode → ⊥) → (w .code ≡ subCode → ⊥) → wireOver at w ≡ false
+    pub over-sum : (overOf k x y && not (eqb z 0)) ≡ wireOver at w
+    unfolding wireOver
+    over-sum =
+        ap₂ (λ (i u : ℕ). overOf i u y && not (eqb z 0)) (sym h) ex ∙ ap₂ (λ (u v : ℕ). overOf (w .code) (at (w .a)) u && not (eqb v 0)) ey ez
+
+pub over-none : (at : ℕ → ℕ) (w : Wire) → (w .code ≡ addCode → ⊥) → (w .code ≡ subCode → ⊥) → wireOver at w ≡ false
 unfolding wireOver
-quiet at w p q = ap (λ (b : Bool). b && not (eqb (at (w .c)) 0)) (over-other (w .code) (at (w .a)) (at (w .b)) p q)
+over-none at w p q = rw (over-other (w .code) (at (w .a)) (at (w .b)) p q)
 
 -- a valid reference is one of the words so far
 reference-below : (r n x : ℕ) → r ≤ maxRegisters → validReference r n x ≡ true → x < maxRegisters + n
@@ -78,7 +84,7 @@ module _ (s : ℕ) (l : List ℕ) (r n : ℕ) (w : Wire) (few : r ≤ maxRegiste
       (λ h. reads-same (w .b) (v .second (omega arith)))
       (λ h. reads-same (w .c) (v .third (omega arith)))
 
-  -- an add or sub reads all three
+  -- an add or sub reads all three; no other code goes over, whatever is read
   over-same : (w .code ≡ setCode → ⊥) → 3 ≤ wireArity (w .code) → wireOver (λ x. getD l (x % roomWords) 0) w ≡ wireOver (λ x. getD (take (maxRegisters + n) l) x 0) w
   unfolding wireOver
   over-same p h =
@@ -88,12 +94,13 @@ module _ (s : ℕ) (l : List ℕ) (r n : ℕ) (w : Wire) (few : r ≤ maxRegiste
       ∙ ap (λ (z : ℕ). overOf (w .code) (g (w .a)) (g (w .b)) && not (eqb z 0)) (reads-same (w .c) (v .third h))
 
   pub over-within : wireOver (λ x. getD l (x % roomWords) 0) w ≡ wireOver (λ x. getD (take (maxRegisters + n) l) x 0) w
+  unfolding wireOver
   over-within = go (compared (w .code) addCode) (compared (w .code) subCode)
     where
       go : Compared (w .code) addCode → Compared (w .code) subCode → wireOver (λ x. getD l (x % roomWords) 0) w ≡ wireOver (λ x. getD (take (maxRegisters + n) l) x 0) w
       go (same b e) d = over-same (λ h. omega arith) (rw e (omega (arith, add-reads)))
       go (other b e) (same d f) = over-same (λ h. omega arith) (rw f (omega (arith, sub-reads)))
-      go (other b e) (other d f) = quiet (λ x. getD l (x % roomWords) 0) w e f ∙ sym (quiet (λ x. getD (take (maxRegisters + n) l) x 0) w e f)
+      go (other b e) (other d f) = over-none (λ x. getD l (x % roomWords) 0) w e f ∙ sym (over-none (λ x. getD (take (maxRegisters + n) l) x 0) w e f)
 
 -- ---- the wires from `first` on, one after another
 

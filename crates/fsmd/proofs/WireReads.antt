@@ -1,12 +1,12 @@
 -- What a wire reads: how many words, and that a wire is valid exactly where its code is known and each reference it reads is valid. Assumes nothing.
-use Prim.Native.Nat.{ℕ, zero, suc, _≤_, _<_}
+use Prim.Native.Nat.{ℕ, zero, suc, _≤_}
 use native.Mathlib.Omega.{arith}
 use mathlib.Core.Bool.{Bool, true, false, _&&_, _||_, and-true, and-assoc}
-use mathlib.Core.List.{List, [], _∷_}
+use mathlib.Core.List.{[], _∷_}
 use mathlib.Core.Path.{_≡_, refl, sym, ap, _∙_}
 use lib.Dec.{eqb, leb, ltb}
 use lib.ListN.{take}
-use borrow.Author.Tests.{le-leb, leb-true, le-ltb, lt-ltb, eq-eqb, ne-eqb, ltb-false, eqb-false}
+use borrow.Author.Tests.{le-leb, leb-true, le-ltb, ne-eqb, ltb-false, eqb-false}
 use Rattle.word.specs.Word.{arity, setCode, addCode, subCode, firstCode, lastCode}
 use Rattle.runs.specs.Lists.{every}
 use Rattle.runs.proofs.ListLaws.{and-left, and-right, and-both}
@@ -67,6 +67,26 @@ module _ (p : ℕ → Bool) where
           ≡ ((eqb (w .code) setCode || (ltb (wireArity (w .code)) 1 || p (w .a))) && (ltb (wireArity (w .code)) 2 || p (w .b)) && (ltb (wireArity (w .code)) 3 || p (w .c)))
       go (same b e) = rw e
       go (other b e) = rw b (three-tests (wireArity (w .code)) (w .a) (w .b) (w .c))
+
+-- the same by the code's operands and word c
+first-two : (k : ℕ) → (ltb (wireArity k) 1 ≡ ltb (arity k) 1) × (ltb (wireArity k) 2 ≡ ltb (arity k) 2)
+unfolding wireArity arity
+first-two k = go (compared k addCode) (compared k subCode)
+  where
+    go : Compared k addCode → Compared k subCode → (ltb (wireArity k) 1 ≡ ltb (arity k) 1) × (ltb (wireArity k) 2 ≡ ltb (arity k) 2)
+    go (same b e) d = rw e (refl, refl)
+    go (other b e) (same c d) = rw d (refl, refl)
+    go (other b e) (other c d) = (ap (λ (n : ℕ). ltb n 1) (other-reads k e d), ap (λ (n : ℕ). ltb n 2) (other-reads k e d))
+
+pub operand-tests : (p : ℕ → Bool) (w : Wire)
+    → every p (reads w)
+    ≡ ((eqb (w .code) setCode || (ltb (arity (w .code)) 1 || p (w .a))) && (ltb (arity (w .code)) 2 || p (w .b)) && (ltb (wireArity (w .code)) 3 || p (w .c)))
+operand-tests p w =
+    let k = w .code in
+    let c = ltb (wireArity k) 3 || p (w .c) in
+    reads-tests p w
+    ∙ ap (λ (t : Bool). (eqb k setCode || (t || p (w .a))) && (ltb (wireArity k) 2 || p (w .b)) && c) (first-two k .0)
+    ∙ ap (λ (t : Bool). (eqb k setCode || (ltb (arity k) 1 || p (w .a))) && (t || p (w .b)) && c) (first-two k .1)
 
 -- ---- a valid wire
 

@@ -66,14 +66,14 @@ fn valid_wire(registers: usize, n: usize, w: Wire) -> bool
     if Code::LAST < code {
         return false;
     }
-    let reads = Wire::arity(code);
+    let reads = word::arity(code);
     if !valid_first(registers, n, code, reads, w.a) {
         return false;
     }
     if !valid_operand(registers, n, reads, 2, w.b) {
         return false;
     }
-    valid_operand(registers, n, reads, 3, w.c)
+    valid_operand(registers, n, Wire::arity(code), 3, w.c)
 }
 
 fn valid_wires(table: &[u32], registers: usize, first: usize, count: usize) -> bool

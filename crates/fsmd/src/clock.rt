@@ -1,9 +1,11 @@
 // One cycle of a machine: the state's wires in order, then the next state and all next registers at once.
 ghost use mathlib.Core.Path.{_≡_};
-ghost use mathlib.Core.Bool.{true};
+ghost use mathlib.Core.Bool.{true, not, _&&_, _||_};
 ghost use mathlib.Core.List.{map, _++_};
 ghost use Prim.Native.Nat.{_+_, _%_, _<_, _≤_};
 ghost use lib.ListN.{length, getD, take, drop};
+ghost use lib.Dec.{eqb};
+ghost use Rattle.word.specs.Word.{evalOf, overOf};
 ghost use Rattle.runs.specs.Lists.{upFrom};
 ghost use Rattle.fsmd.specs.Layout.{machineWords, maxRegisters, maxWires, roomWords};
 ghost use Rattle.fsmd.specs.Machine.{wireValue, worked, wireOver, wiresOver, clock};
@@ -17,7 +19,6 @@ use super::table::wire;
 use super::table::wire_count;
 use buffers::word_index;
 use word::Code;
-use word::Evaluated;
 use word::Registers;
 
 // What a cycle gives: the registers, the word of the next state, and whether a sum goes over.
@@ -25,6 +26,12 @@ pub struct Next {
     pub registers: Registers,
     pub state: u32,
     pub over: bool,
+}
+
+// What a wire gives: its word, and whether it or one before it goes over where its block is arrived at.
+struct Output {
+    word: u32,
+    over: bool,
 }
 
 // What reference x reads among the first n words; past them 0, which an admitted machine never reads.
@@ -36,23 +43,56 @@ fn read(words: &[u32], n: usize, x: u32) -> u32
     if i < n { words[i] } else { 0 }
 }
 
-// The evaluation of a wire: its word, and whether it goes over and counts. A reference is taken modulo the room, which costs no branch:
-// those that an admitted machine's wire reads lie in it, and the others do not matter.
-fn value(words: &[u32], w: Wire, sampled: u32) -> Evaluated
+// What reference x reads in the room, of which it is taken modulo: that costs no branch. Those that an admitted machine's wire reads lie in
+// the room, and the others do not matter.
+fn word_at(words: &[u32], x: u32) -> u32
     requires { ⌜ length (now words) ≡ roomWords ⌝ }
-    ensures { λ v. ⌜ v .word ≡ wireValue sampled (λ x. getD (now (words .entry)) (x % roomWords) 0) w ⌝ }
-    ensures { λ v. ⌜ v .over ≡ wireOver (λ x. getD (now (words .entry)) (x % roomWords) 0) w ⌝ }
+    ensures { λ v. ⌜ v ≡ getD (now (words .entry)) (x % roomWords) 0 ⌝ }
 {
-    if w.code == Code::SET {
-        return Evaluated {
+    words[word_index(x) % MachineTable::REFERENCES]
+}
+
+// What a sum gives, which goes over only where its block is arrived at: c is not zero. Few sums do, so that c is seldom looked at.
+fn sum(sampled: u32, code: u32, a: u32, b: u32, c: u32, over: bool) -> Output
+    ensures { λ r. ⌜ r .word ≡ evalOf sampled code a b c ⌝ }
+    ensures { λ r. ⌜ r .over ≡ (over || (overOf code a b && not (eqb c 0))) ⌝ }
+{
+    let word = word::eval(sampled, code, a, b, c);
+    if !word::over(code, a, b) {
+        return Output { word, over };
+    }
+    Output {
+        word,
+        over: over | (c != 0),
+    }
+}
+
+// What a wire gives, where `over` says whether one before it goes over. Only an add or sub can, c is read where it is used, and their codes
+// are known where they are summed: one jump by the code leads to all of it, and other wires do nothing more than give their word.
+fn evaluated(words: &[u32], w: Wire, sampled: u32, over: bool) -> Output
+    requires { ⌜ length (now words) ≡ roomWords ⌝ }
+    ensures { λ r. ⌜ r .word ≡ wireValue sampled (λ x. getD (now (words .entry)) (x % roomWords) 0) w ⌝ }
+    ensures { λ r. ⌜ r .over ≡ (over || wireOver (λ x. getD (now (words .entry)) (x % roomWords) 0) w) ⌝ }
+{
+    let code = w.code;
+    if code == Code::SET {
+        return Output {
             word: w.a,
-            over: false,
+            over: over,
         };
     }
-    let a = word_index(w.a) % MachineTable::REFERENCES;
-    let b = word_index(w.b) % MachineTable::REFERENCES;
-    let c = word_index(w.c) % MachineTable::REFERENCES;
-    word::evaluate(sampled, w.code, words[a], words[b], words[c])
+    let a = word_at(words, w.a);
+    let b = word_at(words, w.b);
+    if code == Code::ADD {
+        return sum(sampled, Code::ADD, a, b, word_at(words, w.c), over);
+    }
+    if code == Code::SUB {
+        return sum(sampled, Code::SUB, a, b, word_at(words, w.c), over);
+    }
+    Output {
+        word: word::eval(sampled, code, a, b, word_at(words, w.c)),
+        over: over,
+    }
 }
 
 // The wires in order, after the sixteen registers, and whether one goes over.
@@ -69,9 +109,9 @@ fn work(words: &mut [u32], table: &[u32], first: usize, count: usize, sampled: u
     let mut n = 0;
     while n < count {
         let at = MachineTable::REGISTERS + n;
-        let v = value(words, wire(table, first + n), sampled);
-        over = over | v.over;
-        words[at] = v.word;
+        let given = evaluated(words, wire(table, first + n), sampled, over);
+        over = given.over;
+        words[at] = given.word;
         n += 1;
     }
     over

@@ -72,13 +72,15 @@ impl Wire {
 
     pub const WORDS: usize = Wire::C + 1;
 
-    // How many of a, b and c a wire of this code reads: its operands and, where it may go over, the arrival of its block.
+    // How many of a, b and c a wire of this code reads: its operands and, where it may go over, the arrival of its block. With the select
+    // among them the arms are no range, which would be tested apart: one jump serves these arms and those of `word::arity`.
     pub fn arity(code: u32) -> u32
         ensures { λ r. ⌜ r ≡ wireArity code ⌝ }
     {
         match code {
             3 => 3,
             4 => 3,
+            19 => 3,
             _ => word::arity(code),
         }
     }

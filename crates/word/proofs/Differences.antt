@@ -3,10 +3,10 @@ use Prim.Native.Nat.{ℕ, zero, suc, _+_, _-_, _^_, _≤_, _<_}
 use native.Mathlib.Omega.{arith}
 use mathlib.Core.Bool.{Bool, true, false, _||_, true≢false}
 use mathlib.Core.Path.{_≡_, refl, ap, _∙_}
-use lib.Dec.{ltb}
+use lib.Dec.{ltb, leb}
 use lib.IntN.{pos, negsuc, negℤ, subℕ, _+ℤ_}
 use lib.Signed.{mag}
-use borrow.Author.Tests.{ltb-true, ltb-false, lt-ltb, le-ltb}
+use borrow.Author.Tests.{ltb-true, ltb-false, lt-ltb, le-ltb, leb-true, leb-false, lt-leb}
 use Rattle.word.specs.Word.{outside}
 
 pub same-difference : (a b c d : ℕ) → a + d ≡ c + b → subℕ a b ≡ subℕ c d
@@ -68,6 +68,22 @@ mag-difference a b = go (ltb a b) refl
 neither : (s t : Bool) → (s || t) ≡ false → (s ≡ false) × (t ≡ false)
 neither true t e = absurd (true≢false e)
 neither false t e = (refl, e)
+
+-- outside the range, by the two numbers
+pub outside-difference : (a b : ℕ) → outside (subℕ a b) ≡ (ltb (a + 2 ^ 31) b || leb (b + 2 ^ 31) a)
+outside-difference a b = go (ltb a b) refl
+  where
+    below : (t : Bool) → ltb (a + 2 ^ 31) b ≡ t → a < b → (ltb (2 ^ 31 - 1) (b - suc a) || false) ≡ (t || leb (b + 2 ^ 31) a)
+    below true e l = let p = ltb-true (a + 2 ^ 31) b e in rw (lt-ltb (2 ^ 31 - 1) (b - suc a) (omega arith))
+    below false e l = let p = ltb-false (a + 2 ^ 31) b e in rw (le-ltb (2 ^ 31 - 1) (b - suc a) (omega arith), lt-leb (b + 2 ^ 31) a (omega arith))
+
+    above : (t : Bool) → leb (b + 2 ^ 31) a ≡ t → b ≤ a → ltb (2 ^ 31 - 1) (a - b) ≡ (ltb (a + 2 ^ 31) b || t)
+    above true e l = let p = leb-true (b + 2 ^ 31) a e in rw (le-ltb (a + 2 ^ 31) b (omega arith)) (lt-ltb (2 ^ 31 - 1) (a - b) (omega arith))
+    above false e l = let p = leb-false (b + 2 ^ 31) a e in rw (le-ltb (a + 2 ^ 31) b (omega arith)) (le-ltb (2 ^ 31 - 1) (a - b) (omega arith))
+
+    go : (t : Bool) → ltb a b ≡ t → outside (subℕ a b) ≡ (ltb (a + 2 ^ 31) b || leb (b + 2 ^ 31) a)
+    go true h = rw h (below (ltb (a + 2 ^ 31) b) refl (ltb-true a b h))
+    go false h = rw h (above (leb (b + 2 ^ 31) a) refl (ltb-false a b h))
 
 -- a - b is from -2 ^ 31 to 2 ^ 31 - 1
 pub record Inside (a b : ℕ) : Type 0 where

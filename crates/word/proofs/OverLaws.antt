@@ -1,17 +1,18 @@
--- Sums that go over: which codes can, what it says of the word that they give, and that 64 bits hold them. Assumes nothing.
+-- Sums that go over: which codes can, what it says of the word that they give, and how the code tells. Assumes nothing.
 use Prim.Native.Nat.{ℕ, zero, suc, _+_, _-_, _%_, _^_, _<_}
 use native.Mathlib.Omega.{arith}
-use mathlib.Core.Path.{_≡_, refl, sym, ap, _∙_}
-use mathlib.Core.Bool.{Bool, true, false, false≢true}
+use mathlib.Core.Path.{_≡_, refl, sym, ap, ap₂, _∙_}
+use mathlib.Core.Bool.{Bool, true, false, not, _||_, Bool·beq, false≢true}
 use mathlib.Core.Logic.{_⊎_, inl, inr}
 use lib.IntN.{pos, negsuc, _+ℤ_, _-ℤ_}
-use lib.Dec.{ltb, eqb, lit<}
-use borrow.Author.Tests.{ltb-true, ltb-false, le-ltb, eqb-true, eqb-false}
+use lib.Dec.{ltb, leb, eqb, lit<}
+use borrow.Author.Tests.{ltb-true, ltb-false, lt-ltb, le-ltb, le-leb, lt-leb, eqb-true, eqb-false}
 use mir.Syntax.{w64}
 use mir.Val.{SFits}
-use Rattle.word.specs.Word.{choose, signedOf, addOf, subOf, addCode, subCode, evalOf, outside, exactOf, overOf, arity}
-use Rattle.word.proofs.Differences.{mag-difference, inside-difference}
-use Rattle.word.proofs.Levels.{level, level-difference, sum-level, difference-level, AddStays, add-level, SubStays, sub-level}
+use Rattle.word.specs.Word.{choose, signedOf, addOf, subOf, compareOf, addCode, subCode, evalOf, outside, exactOf, overOf, arity}
+use Rattle.word.specs.declared.Comparison.the-variants.{Lt}
+use Rattle.word.proofs.Differences.{mag-difference, outside-difference, inside-difference}
+use Rattle.word.proofs.Levels.{level, lt-level, level-difference, sum-level, difference-level, AddStays, add-level, SubStays, sub-level}
 
 -- ---- the codes that can
 
@@ -110,14 +111,38 @@ exact-not-over s k a b c e = go (kind k)
     go (is-sub i) = sym (ap outside e) ∙ rw i (signed-inside (subOf a b) (wrapped (a + (2 ^ 32 - b))))
     go (other p q) = over-other k a b p q
 
--- ---- both fit 64 bits, in which `evaluate` judges them
+-- ---- how the code tells
 
+-- a difference goes over where its word's sign is not that of the order of a and b
+pub difference-order : (a b : ℕ) → a < 2 ^ 32 → b < 2 ^ 32
+    → not (Bool·beq (compareOf Lt a b) (compareOf Lt (subOf a b) 0)) ≡ overOf subCode a b
+unfolding overOf exactOf
+difference-order a b h k =
+    ap₂ (λ (s t : Bool). not (Bool·beq s t)) (lt-level a b h k) (lt-level (subOf a b) 0 (wrapped (a + (2 ^ 32 - b))) (omega arith))
+    ∙ go (ltb (level a) (level b)) (ltb (level (subOf a b)) (level 0)) refl refl
+    ∙ sym (ap outside (difference-level a b h k) ∙ outside-difference (level a + 2 ^ 31) (2 ^ 31 + level b))
+  where
+    go : (s t : Bool) → ltb (level a) (level b) ≡ s → ltb (level (subOf a b)) (level 0) ≡ t
+        → not (Bool·beq s t) ≡ (ltb (level a + 2 ^ 31 + 2 ^ 31) (2 ^ 31 + level b) || leb (2 ^ 31 + level b + 2 ^ 31) (level a + 2 ^ 31))
+    go true true e f =
+        let p = ltb-true (level a) (level b) e in
+        let q = ltb-true (level (subOf a b)) (level 0) f in
+        rw (le-ltb (level a + 2 ^ 31 + 2 ^ 31) (2 ^ 31 + level b) (omega arith), lt-leb (2 ^ 31 + level b + 2 ^ 31) (level a + 2 ^ 31) (omega arith))
+    go true false e f =
+        let p = ltb-true (level a) (level b) e in
+        let q = ltb-false (level (subOf a b)) (level 0) f in
+        rw (lt-ltb (level a + 2 ^ 31 + 2 ^ 31) (2 ^ 31 + level b) (omega arith))
+    go false true e f =
+        let p = ltb-false (level a) (level b) e in
+        let q = ltb-true (level (subOf a b)) (level 0) f in
+        rw (le-ltb (level a + 2 ^ 31 + 2 ^ 31) (2 ^ 31 + level b) (omega arith), le-leb (2 ^ 31 + level b + 2 ^ 31) (level a + 2 ^ 31) (omega arith))
+    go false false e f =
+        let p = ltb-false (level a) (level b) e in
+        let q = ltb-false (level (subOf a b)) (level 0) f in
+        rw (le-ltb (level a + 2 ^ 31 + 2 ^ 31) (2 ^ 31 + level b) (omega arith), lt-leb (2 ^ 31 + level b + 2 ^ 31) (level a + 2 ^ 31) (omega arith))
+
+-- 64 bits hold a sum
 pub sum-fits : (a b : ℕ) → a < 2 ^ 32 → b < 2 ^ 32 → SFits w64 (signedOf a +ℤ signedOf b)
 sum-fits a b h k =
     let m = mag-difference (level a + level b) (2 ^ 31 + 2 ^ 31) in
     rw (sum-level a b h k) (record { sfits = omega arith })
-
-pub difference-fits : (a b : ℕ) → a < 2 ^ 32 → b < 2 ^ 32 → SFits w64 (signedOf a -ℤ signedOf b)
-difference-fits a b h k =
-    let m = mag-difference (level a + 2 ^ 31) (2 ^ 31 + level b) in
-    rw (difference-level a b h k) (record { sfits = omega arith })

@@ -33,26 +33,29 @@ loop-less c = omega arith
 
 loop-again : tie.Need-loop-again Inv-loop μ-loop
 loop-again c =
-    let b = c .before .before .before .before .before in
+    let b = c .before .before .before .before in
     let a = b .before .before .before .args in
     let t = now (a .table) in
     let n = b .loop .n in
     let r = getD t 1 0 in
-    let i = c .before .before .wire in
+    let i = c .before .wire in
     let w = wireAt t (a .first + n) in
-    let below = c .before .before .before .before .loop-test .taken in
+    let below = c .before .before .before .loop-test .taken in
     let valid = wire-valid t (a .first) (a .count) r n below (b .loop .inv .2) in
     let f : ℕ → ℕ = λ x. getD (b .loop .words) (x % roomWords) 0 in
-    let v = c .before .value .ensures .0 ∙ ap (wireValue (a .sampled) f) (i .ensures) ∙ value-within (a .sampled) (b .loop .words) r n w (omega arith) (omega arith) valid in
-    let o = c .before .value .ensures .1 ∙ ap (wireOver f) (i .ensures) ∙ over-within (a .sampled) (b .loop .words) r n w (omega arith) (omega arith) valid in
-    let rest = wiresOver (a .sampled) (take (maxRegisters + (n + 1)) (set (b .loop .words) (maxRegisters + n) (c .before .value .result .word))) (drop (n + 1) (wiresFrom t (a .first) (a .count))) in (
+    let g : ℕ → ℕ = λ x. getD (take (maxRegisters + n) (b .loop .words)) x 0 in
+    let given = c .evaluated .result in
+    let v = c .evaluated .ensures .0 ∙ ap (wireValue (a .sampled) f) (i .ensures) ∙ value-within (a .sampled) (b .loop .words) r n w (omega arith) (omega arith) valid in
+    let o = c .evaluated .ensures .1
+    ∙ ap (λ (x : Bool). b .loop .over || x) (ap (wireOver f) (i .ensures) ∙ over-within (a .sampled) (b .loop .words) r n w (omega arith) (omega arith) valid) in
+    let rest = wiresOver (a .sampled) (take (maxRegisters + (n + 1)) (set (b .loop .words) (maxRegisters + n) (given .word))) (drop (n + 1) (wiresFrom t (a .first) (a .count))) in (
       omega arith,
-      length-set (b .loop .words) (maxRegisters + n) (c .before .value .result .word) ∙ b .loop .inv .1,
+      length-set (b .loop .words) (maxRegisters + n) (given .word) ∙ b .loop .inv .1,
       sym (wires-pass t (a .first) (a .count) r n below valid) ∙ b .loop .inv .2,
-      sym (work-next (a .sampled) t (a .first) (a .count) n (b .loop .words) (c .before .value .result .word) below (omega arith) v) ∙ b .loop .inv .3,
-      or-assoc (b .loop .over) (c .before .value .result .over) rest
-          ∙ ap (λ (x : Bool). b .loop .over || (x || rest)) o
-          ∙ ap (λ (x : Bool). b .loop .over || x) (sym (over-next (a .sampled) t (a .first) (a .count) n (b .loop .words) (c .before .value .result .word) below (omega arith) v))
+      sym (work-next (a .sampled) t (a .first) (a .count) n (b .loop .words) (given .word) below (omega arith) v) ∙ b .loop .inv .3,
+      ap (λ (x : Bool). x || rest) o
+          ∙ or-assoc (b .loop .over) (wireOver g w) rest
+          ∙ ap (λ (x : Bool). b .loop .over || x) (sym (over-next (a .sampled) t (a .first) (a .count) n (b .loop .words) (given .word) below (omega arith) v))
           ∙ b .loop .inv .4,
     )
 

@@ -13,11 +13,11 @@ use Rattle.fsmd.specs.Run.{machineRefusal, machineAnswer, machineRegisters, mac
 use Rattle.worked_examples.specs.Rows.{Row, row, fields, refusedWith, regs}
 
 -- N, R, no starters, no block states, the words of records and of wires
-abbrev byHand : ℕ → ℕ → List ℕ → List ℕ → List ℕ
+abbrev pub byHand : ℕ → ℕ → List ℕ → List ℕ → List ℕ
 byHand n r records wires = n ∷ r ∷ (replicate 128 0 ++ (padded allRecordWords 0 records ++ padded allWireWords 0 wires))
 
 -- first wire, wire count, next state and next registers
-abbrev state : ℕ → ℕ → ℕ → List ℕ → List ℕ
+abbrev pub state : ℕ → ℕ → ℕ → List ℕ → List ℕ
 state start count next registers = start ∷ count ∷ next ∷ padded maxRegisters 0 registers
 
 -- without wires: r0 is the next state and the next r0

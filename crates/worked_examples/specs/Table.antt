@@ -31,6 +31,7 @@ use Rattle.worked_examples.specs.Orders.{orders}
 use Rattle.worked_examples.specs.Admission.{admission}
 use Rattle.worked_examples.specs.Kept.{kept}
 use Rattle.worked_examples.specs.RunsAhead.{ahead}
+use Rattle.worked_examples.specs.Flags.{flags}
 
 -- wires of each state
 abbrev wireCounts : CFG → List ℕ
@@ -167,7 +168,7 @@ rows =
 
 -- every row of the table
 abbrev pub table : List Row
-table = rows ++ (throughTables ++ (orders ++ (admission ++ (kept ++ ahead))))
+table = rows ++ (throughTables ++ (orders ++ (admission ++ (kept ++ (ahead ++ flags)))))
 
 -- The worked examples, as one statement: proofs/WorkedExamples proves it.
 pub record WorkedExamples : Type 0 where

@@ -134,13 +134,13 @@ p7Before = withC 9 0 (withC 10 0 (machineTableOf (machine P7)))
 abbrev p7Runs : List ℕ → ℕ → ℕ → ℕ → Bool
 p7Runs t a b f = same (fields (machineAnswer t (regs a b) 0 2)) (0 ∷ 0 ∷ 2 ∷ 1 ∷ f ∷ [])
 
--- one state with R = 2, whose wire 18 has this code, a = 0, b = 1 and this c; wire 16 gives 7, wire 17 gives 0, the next state, and wire 19 gives 1
+-- one state with R = 2: reference 16 is a set of 7, 17 one of 0, the next state, 18 this code with a = 0, b = 1 and this c, and 19 a set of 1
 abbrev reading : ℕ → ℕ → List ℕ
 reading code c =
     byHand 1 2 (state 0 4 17 (0 ∷ 1 ∷ []))
     (1 ∷ 7 ∷ 0 ∷ 0 ∷ 1 ∷ 0 ∷ 0 ∷ 0 ∷ code ∷ 0 ∷ 1 ∷ c ∷ 1 ∷ 1 ∷ 0 ∷ 0 ∷ [])
 
--- it is refused, with a clear flag though the sum goes over
+-- it is refused, with a clear flag; an add would go over
 abbrev ten : ℕ → ℕ → Bool
 ten code c = refusedWith 10 (machineAnswer (reading code c) (regs 2147483647 1) 0 1)
 

@@ -1,7 +1,7 @@
--- P11 never halts: its graph and its machine are spent at every budget, on all registers. Assumes nothing.
+-- P11 never halts: its graph and its machine are spent at every budget, on all registers, with a clear flag. Assumes nothing.
 use Prim.Native.Nat.{ℕ, zero, suc, _≤_}
 use native.Mathlib.Omega.{arith}
-use mathlib.Core.Bool.{true}
+use mathlib.Core.Bool.{true, false}
 use mathlib.Core.Path.{_≡_, refl, ap, _∙_}
 use mathlib.Core.List.{List, [], _++_}
 use lib.ListN.{length, take, drop, length-append}
@@ -9,7 +9,7 @@ use lib.Seq.{length-take-le}
 use borrow.Author.Tests.{le-ltb}
 use Rattle.word.specs.Word.{evalOf}
 use Rattle.runs.specs.Lists.{concatMap}
-use Rattle.runs.specs.Runs.{standing, Configuration, standsAt, startAt, unread, Runner, step, times, stepsRun, answer}
+use Rattle.runs.specs.Runs.{Contents, Configuration, standsAt, startAt, unread, Runner, step, times, stepsRun, answer}
 use Rattle.runs.specs.declared.RunAnswer.the-variants.{Spent}
 use Rattle.runs.proofs.OperationLaws.{accepted}
 use Rattle.cfg.specs.Layout.{graphWords}
@@ -31,31 +31,35 @@ use Rattle.worked_examples.specs.Graphs.{P11}
 use Rattle.worked_examples.specs.Texts.{p11Text}
 use Rattle.worked_examples.proofs.ByWord.{by-word}
 
--- what comes back to where it stood, with the same registers, is spent at every budget
-module _ (r : Runner) (n : ℕ) (rs : List ℕ) (arrived : ℕ → ℕ) (stays : (j : ℕ) → step r unread (standsAt j n rs) ≡ standsAt (arrived j) n rs) where
-  stays-place : (k j : ℕ) → times r unread k (standsAt j n rs) .place ≡ standing n
-  unfolding times
-  stays-place zero j = refl
-  stays-place (suc k) j = ap (λ (c : Configuration). times r unread k c .place) (stays j) ∙ stays-place k (arrived j)
+-- registers that nothing has gone over on
+abbrev clear : List ℕ → Contents
+clear rs = record { registers = rs; flag = false }
 
-  stays-count : (k j : ℕ) → stepsRun r unread k (standsAt j n rs) ≡ k
+-- what comes back to where it stood, with the same contents, is spent at every budget
+module _ (r : Runner) (n : ℕ) (x : Contents) (arrived : ℕ → ℕ) (stays : (j : ℕ) → step r unread (standsAt j n x) ≡ standsAt (arrived j) n x) where
+  stays-there : (k j : ℕ) → (i : ℕ) × (times r unread k (standsAt j n x) ≡ standsAt i n x)
+  unfolding times
+  stays-there zero j = (j, refl)
+  stays-there (suc k) j = let h = stays-there k (arrived j) in (h .0, ap (times r unread k) (stays j) ∙ h .1)
+
+  stays-count : (k j : ℕ) → stepsRun r unread k (standsAt j n x) ≡ k
   unfolding stepsRun
   stays-count zero j = refl
   stays-count (suc k) j = ap (λ (c : Configuration). suc (stepsRun r unread k c)) (stays j) ∙ ap suc (stays-count k (arrived j))
 
-  stays-spent : (k : ℕ) → answer r unread k (startAt n rs) ≡ Spent k n
+  stays-spent : (k : ℕ) → answer r unread k (standsAt 0 n x) ≡ Spent k n (x .flag)
   unfolding answer
-  stays-spent k = rw (stays-place k 0, stays-count k 0, le-ltb k k (omega arith))
+  stays-spent k = rw (stays-there k 0 .1, stays-count k 0, le-ltb k k (omega arith))
 
-pub graph-endless : (rs : List ℕ) (k : ℕ) → answer (graphRunner P11 []) unread k (startAt 0 rs) ≡ Spent k 0
+pub graph-endless : (rs : List ℕ) (k : ℕ) → answer (graphRunner P11 []) unread k (startAt 0 rs) ≡ Spent k 0 false
 unfolding step runBlock P11
-graph-endless rs = stays-spent (graphRunner P11 []) 0 rs (λ j. j) (λ j. refl)
+graph-endless rs = stays-spent (graphRunner P11 []) 0 (clear rs) (λ j. j) (λ j. refl)
 
-pub machine-endless : (rs : List ℕ) → length rs ≡ maxRegisters → (k : ℕ) → answer (machineRunner (machine P11)) unread k (startAt 0 rs) ≡ Spent k 0
+pub machine-endless : (rs : List ℕ) → length rs ≡ maxRegisters → (k : ℕ) → answer (machineRunner (machine P11)) unread k (startAt 0 rs) ≡ Spent k 0 false
 unfolding step clock evalOf machine P11
 machine-endless rs size =
-    stays-spent (machineRunner (machine P11)) 0 rs suc (λ j.
-    by-word maxRegisters (λ rs. step (machineRunner (machine P11)) unread (standsAt j 0 rs) ≡ standsAt (suc j) 0 rs)
+    stays-spent (machineRunner (machine P11)) 0 (clear rs) suc (λ j.
+    by-word maxRegisters (λ rs. step (machineRunner (machine P11)) unread (standsAt j 0 (clear rs)) ≡ standsAt (suc j) 0 (clear rs))
     (λ a b c d e f g h i j k l m n o p. refl) rs size)
 
 -- ---- through the operations, whatever follows the tables
@@ -79,14 +83,14 @@ module _ (rest : List ℕ) where
   machine-admitted = refl
 
   module _ (buffer : List ℕ) (full : maxRegisters ≤ length buffer) (k : ℕ) where
-    graph-spent : graphAnswer graphWith buffer 0 k ≡ Spent k 0
+    graph-spent : graphAnswer graphWith buffer 0 k ≡ Spent k 0 false
     unfolding graphOf graphTableOf concatMap wordlessGraph P11
     graph-spent =
         accepted (graphRunner (graphOf graphWith) []) unread buffer 0 k (graphRefusal graphWith buffer 0)
         (none-refused graphWith buffer 0 (admitted-facts graphWith graph-admitted .long) full graph-admitted refl (omega arith))
         ∙ graph-endless (take maxRegisters buffer) k
 
-    machine-spent : machineAnswer machineWith buffer 0 k ≡ Spent k 0
+    machine-spent : machineAnswer machineWith buffer 0 k ≡ Spent k 0 false
     unfolding machineOf machineTableOf concatMap wordlessMachine machine clock P11
     machine-spent =
         accepted (machineRunner (machineOf machineWith)) unread buffer 0 k (machineRefusal machineWith buffer 0)
@@ -98,7 +102,7 @@ module _ (graph : List ℕ) (long : graphWords ≤ length graph) where
   unfolding readWords p11Text P11
   text-read = rw (le-ltb (length graph) graphWords long)
 
-  pub run-graph-endless : (buffer : List ℕ) → maxRegisters ≤ length buffer → (k : ℕ) → graphAnswer (readWords p11Text graph) buffer 0 k ≡ Spent k 0
+  pub run-graph-endless : (buffer : List ℕ) → maxRegisters ≤ length buffer → (k : ℕ) → graphAnswer (readWords p11Text graph) buffer 0 k ≡ Spent k 0 false
   run-graph-endless buffer full k = rw text-read (graph-spent (drop graphWords graph) buffer full k)
 
   module _ (made : List ℕ) (room : machineWords ≤ length made) where
@@ -109,5 +113,5 @@ module _ (graph : List ℕ) (long : graphWords ≤ length graph) where
         rw text-read (made-words t made (admitted-made t made (graph-admitted (drop graphWords graph)) room))
 
     pub run-machine-endless : (buffer : List ℕ) → maxRegisters ≤ length buffer → (k : ℕ)
-        → machineAnswer (synthesisWords (readWords p11Text graph) made) buffer 0 k ≡ Spent k 0
+        → machineAnswer (synthesisWords (readWords p11Text graph) made) buffer 0 k ≡ Spent k 0 false
     run-machine-endless buffer full k = rw table-made (machine-spent (drop machineWords made) buffer full k)

@@ -1,14 +1,14 @@
 -- Demand 3 refutes every machine that runs ahead, and there are such machines. Assumes nothing.
 use Prim.Native.Nat.{ℕ, zero, suc, _≤_}
 use native.Mathlib.Omega.{arith}
-use mathlib.Core.Bool.{true}
+use mathlib.Core.Bool.{true, false}
 use mathlib.Core.List.{List, _∷_}
 use mathlib.Core.Path.{_≡_, refl, sym, ap, _∙_}
 use lib.ListN.{getD, replicate}
 use Rattle.word.specs.Word.{evalOf}
 use Rattle.runs.specs.Lists.{concatMap}
-use Rattle.runs.specs.Runs.{halted, Configuration, standsAt, startAt, unread, Runner, step, times, stepsRun}
-use Rattle.runs.proofs.RunLaws.{halted-ends, times-ended, place-of, registers-of}
+use Rattle.runs.specs.Runs.{halted, Contents, Configuration, standsAt, startAt, unread, Runner, step, times, stepsRun}
+use Rattle.runs.proofs.RunLaws.{halted-ends, times-ended, place-of, contents-of}
 use Rattle.cfg.specs.Graph.{runBlock, graphRunner}
 use Rattle.cfg.specs.Table.{graphTableOf, graphOf}
 use Rattle.fsmd.specs.Layout.{maxRegisters}
@@ -26,18 +26,22 @@ use Rattle.worked_examples.proofs.ByWord.{ByWord, by-word}
 
 -- ---- the refutation
 
--- sixteen zeros to begin with: after cycle 1 a right machine stands in state 1, with 1 in r0 and still 0 in r1
-after-one : (m : List ℕ) → AgreementWithoutWords (graphTableOf Twice) m → cyclesOn m (replicate 16 0) 1 ≡ standsAt 1 1 (1 ∷ replicate 15 0)
+-- 1 in r0 and still 0 in r1, with a clear flag
+abbrev oneDone : Contents
+oneDone = record { registers = 1 ∷ replicate 15 0; flag = false }
+
+-- sixteen zeros to begin with: that is where a right machine, then in state 1, stands after cycle 1
+after-one : (m : List ℕ) → AgreementWithoutWords (graphTableOf Twice) m → cyclesOn m (replicate 16 0) 1 ≡ standsAt 1 1 oneDone
 unfolding graphTableOf graphOf concatMap groups step times stepsRun runBlock evalOf Twice
 after-one m a =
-    a .agree (replicate 16 0) refl 1 .stands 1 (1 ∷ replicate 15 0) refl .1
+    a .agree (replicate 16 0) refl 1 .stands 1 oneDone refl .1
     (1, record { run = refl; stands = refl; starter = refl })
 
 -- demand 3 as paper 01 has it, and so demand 3 on equal words
 pub runs-ahead-refuted-without-words : (m : List ℕ) → RunsAhead m → AgreementWithoutWords (graphTableOf Twice) m → ⊥
 unfolding groups times step runBlock evalOf Twice
 runs-ahead-refuted-without-words m h a =
-    let e : _≡_ {A = ℕ} 0 2 = ap (λ (l : List ℕ). getD l 1 0) (sym (registers-of (after-one m a)) ∙ h .early (replicate 16 0) refl) in
+    let e : _≡_ {A = ℕ} 0 2 = ap (λ (x : Contents). getD (x .registers) 1 0) (sym (contents-of (after-one m a)) ∙ h .early (replicate 16 0) refl) in
     omega arith
 
 pub runs-ahead-refuted : (m : List ℕ) → RunsAhead m → Agreement (graphTableOf Twice) m → ⊥
@@ -55,7 +59,7 @@ after-halt r (suc i) (suc k) c l h = after-halt r i k (step r unread c) (omega a
 -- on sixteen words, named
 module _ (m : List ℕ) where
   abbrev Early : List ℕ → Type 0
-  Early rs = cyclesOn m rs 1 .registers ≡ blocksOn rs 3 .registers
+  Early rs = cyclesOn m rs 1 .contents ≡ blocksOn rs 3 .contents
 
   abbrev Ends : List ℕ → Type 0
   Ends rs = SameHalt (cyclesOn m rs 2) (blocksOn rs 3)
@@ -68,7 +72,7 @@ module _ (m : List ℕ) where
       record {
         first = place-of p ∙ e .first;
         second = place-of q ∙ e .second;
-        registers = registers-of p ∙ e .registers ∙ sym (registers-of q);
+        contents = contents-of p ∙ e .contents ∙ sym (contents-of q);
       }
 
   runs-ahead : admittedMachine m ≡ true → ByWord maxRegisters Early → ByWord maxRegisters Ends → RunsAhead m
@@ -84,14 +88,14 @@ unfolding idling admittedMachine machineOf machineTableOf machine groups concatM
 idling-runs-ahead =
     runs-ahead idling refl
     (λ a b c d e f g h i j k l m n o p. refl)
-    (λ a b c d e f g h i j k l m n o p. record { first = refl; second = refl; registers = refl })
+    (λ a b c d e f g h i j k l m n o p. record { first = refl; second = refl; contents = refl })
 
 pub halting-runs-ahead : RunsAhead halting
 unfolding halting admittedMachine machineOf machineTableOf machine groups concatMap clock times step runBlock evalOf Twice
 halting-runs-ahead =
     runs-ahead halting refl
     (λ a b c d e f g h i j k l m n o p. refl)
-    (λ a b c d e f g h i j k l m n o p. record { first = refl; second = refl; registers = refl })
+    (λ a b c d e f g h i j k l m n o p. record { first = refl; second = refl; contents = refl })
 
 -- so both are refuted
 pub idling-refuted : Agreement (graphTableOf Twice) idling → ⊥

@@ -13,11 +13,11 @@ use Rattle.fsmd.specs.Run.{machineRefusal, machineAnswer, machineRegisters, mac
 use Rattle.worked_examples.specs.Rows.{Row, row, fields, refusedWith, regs}
 
 -- N, R, no starters, no block states, the words of records and of wires
-abbrev byHand : ℕ → ℕ → List ℕ → List ℕ → List ℕ
+abbrev pub byHand : ℕ → ℕ → List ℕ → List ℕ → List ℕ
 byHand n r records wires = n ∷ r ∷ (replicate 128 0 ++ (padded allRecordWords 0 records ++ padded allWireWords 0 wires))
 
 -- first wire, wire count, next state and next registers
-abbrev state : ℕ → ℕ → ℕ → List ℕ → List ℕ
+abbrev pub state : ℕ → ℕ → ℕ → List ℕ → List ℕ
 state start count next registers = start ∷ count ∷ next ∷ padded maxRegisters 0 registers
 
 -- without wires: r0 is the next state and the next r0
@@ -34,7 +34,7 @@ ten t = refusedWith 10 (machineAnswer t (regs 0 7) 0 1)
 
 -- or it is run, and the next state is 0
 abbrev runs : List ℕ → Bool
-runs t = same (fields (machineAnswer t (regs 0 7) 0 1)) (0 ∷ 0 ∷ 1 ∷ 0 ∷ [])
+runs t = same (fields (machineAnswer t (regs 0 7) 0 1)) (0 ∷ 0 ∷ 1 ∷ 0 ∷ 0 ∷ [])
 
 unfoldable pub admission : List Row
 unfolding evalOf answered registersLeft machineRefusal machineWordsRefusal machineOf admittedMachine clock
@@ -61,7 +61,7 @@ admission =
     -- codes
     ∷ row "code 0: 10" (ten (with 1 0 []))
     ∷ row "code 19" (runs (with 1 0 (19 ∷ [])))
-    ∷ row "code 20, with words" (same (fields (machineWordsAnswer (with 1 0 (20 ∷ [])) (regs 0 7) 0 1 (5 ∷ []))) (0 ∷ 0 ∷ 1 ∷ 0 ∷ []))
+    ∷ row "code 20, with words" (same (fields (machineWordsAnswer (with 1 0 (20 ∷ [])) (regs 0 7) 0 1 (5 ∷ []))) (0 ∷ 0 ∷ 1 ∷ 0 ∷ 0 ∷ []))
     ∷ row "code 21: 10" (ten (with 1 0 (21 ∷ [])))
     ∷ row "code 21, with words: 10" (refusedWith 10 (machineWordsAnswer (with 1 0 (21 ∷ [])) (regs 0 7) 0 1 (5 ∷ [])))
     -- references
@@ -81,6 +81,6 @@ admission =
     ∷ row "wires of no state" (runs (with 1 0 (1 ∷ 0 ∷ 0 ∷ 0 ∷ 99 ∷ 99 ∷ 99 ∷ 99 ∷ [])))
     ∷ row "words that a code does not use" (runs (with 2 0 (1 ∷ 5 ∷ 99 ∷ 99 ∷ 2 ∷ 0 ∷ 99 ∷ 99 ∷ [])))
     -- a next state not below N halts, and the registers are taken all the same
-    ∷ row "a next state at N" (same (fields (machineAnswer (with 1 16 (1 ∷ 1 ∷ [])) (regs 0 7) 0 9)) (0 ∷ 1 ∷ 1 ∷ 255 ∷ []))
+    ∷ row "a next state at N" (same (fields (machineAnswer (with 1 16 (1 ∷ 1 ∷ [])) (regs 0 7) 0 9)) (0 ∷ 1 ∷ 1 ∷ 255 ∷ 0 ∷ []))
     ∷ row "its registers" (same (machineRegisters (byHand 1 1 (state 0 1 16 (16 ∷ [])) (1 ∷ 5 ∷ [])) (regs 0 7) 0 9) (regs 5 7))
     ∷ []

@@ -24,11 +24,21 @@ sub d a b = record { code = 4; d = d; a = a; b = b }
 abbrev add : ℕ → ℕ → ℕ → Instruction
 add d a b = record { code = 3; d = d; a = a; b = b }
 
+abbrev shr : ℕ → ℕ → ℕ → Instruction
+shr d a b = record { code = 9; d = d; a = a; b = b }
+
 abbrev put : ℕ → ℕ → Instruction
 put d literal = record { code = 1; d = d; a = literal; b = 0 }
 
 abbrev sampled : ℕ → Instruction
 sampled d = record { code = 20; d = d; a = 0; b = 0 }
+
+-- a code on r0, or on r0 and r1, into r2
+abbrev one : ℕ → Instruction
+one code = record { code = code; d = 2; a = 0; b = 0 }
+
+abbrev two : ℕ → Instruction
+two code = record { code = code; d = 2; a = 0; b = 1 }
 
 abbrev ite : Comparison → ℕ → ℕ → Ending
 ite c t f = Ite (record { comparison = c; a = 0; b = 1 }) t f
@@ -84,4 +94,44 @@ Twice =
     block (put 0 1 ∷ []) (Goto 1)
     ∷ block (put 1 2 ∷ []) (ite Eq 1 2)
     ∷ block [] Halt
+    ∷ [])
+
+-- R-2: a sum, and a difference
+unfoldable pub Sum : CFG
+Sum = graph 2 (block (add 0 0 1 ∷ []) Halt ∷ [])
+
+unfoldable pub Difference : CFG
+Difference = graph 2 (block (sub 0 0 1 ∷ []) Halt ∷ [])
+
+-- a sum of what the block has set, which the block then sets anew
+unfoldable pub Between : CFG
+Between = graph 2 (block (put 0 2147483646 ∷ add 0 0 1 ∷ put 0 0 ∷ []) Halt ∷ [])
+
+-- in one state: the sum where r0 is below r1, else the difference
+unfoldable pub Fork : CFG
+Fork = graph 2 (block [] (ite Lt 1 2) ∷ block (add 0 0 1 ∷ []) Halt ∷ block (sub 0 0 1 ∷ []) Halt ∷ [])
+
+-- in one state: both ways lead to the sum
+unfoldable pub Meet : CFG
+Meet = graph 2 (block [] (ite Lt 1 2) ∷ block [] (Goto 3) ∷ block [] (Goto 3) ∷ block (add 0 0 1 ∷ []) Halt ∷ [])
+
+-- a sum in the first cycle, and then r0 is shifted right by r1, a cycle each time, until it is below r1
+unfoldable pub Once : CFG
+Once =
+    graph 2 (
+    block (add 0 0 1 ∷ []) (Goto 1)
+    ∷ block (shr 0 0 1 ∷ []) (ite Geu 1 2)
+    ∷ block [] Halt
+    ∷ [])
+
+-- a sum in every cycle
+unfoldable pub Counting : CFG
+Counting = graph 2 (block (add 0 0 1 ∷ []) (Goto 0) ∷ [])
+
+-- every instruction code in one state, the sums last
+unfoldable pub Codes : CFG
+Codes =
+    graph 3 (
+    block (one 2 ∷ two 5 ∷ two 6 ∷ two 7 ∷ two 8 ∷ two 9 ∷ two 10 ∷ one 11 ∷ []) (Goto 1)
+    ∷ block (put 0 5 ∷ sampled 1 ∷ two 3 ∷ two 4 ∷ []) Halt
     ∷ [])

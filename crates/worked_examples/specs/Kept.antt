@@ -49,8 +49,8 @@ kept =
     ∷ row "write: words past the table" (same (writeBytes (graphTableOf P11 ++ (9 ∷ 9 ∷ [])) (replicate 25 7)) p11Text)
     ∷ row "write: bytes past the text" (same (writeBytes (graphTableOf P11) (replicate 27 7)) (p11Text ++ (7 ∷ 7 ∷ [])))
     ∷ row "synthesise: words past the tables" (same (synthesisWords longGraph (replicate 13636 9)) longMachine)
-    ∷ row "graph: words past the table" (same (fields (graphAnswer longGraph (regs 12 18) 0 99)) (0 ∷ 1 ∷ 9 ∷ 255 ∷ []))
-    ∷ row "machine: words past the table" (same (fields (machineAnswer longMachine (regs 12 18) 0 99)) (0 ∷ 1 ∷ 4 ∷ 255 ∷ []))
+    ∷ row "graph: words past the table" (same (fields (graphAnswer longGraph (regs 12 18) 0 99)) (0 ∷ 1 ∷ 9 ∷ 255 ∷ 0 ∷ []))
+    ∷ row "machine: words past the table" (same (fields (machineAnswer longMachine (regs 12 18) 0 99)) (0 ∷ 1 ∷ 4 ∷ 255 ∷ 0 ∷ []))
     -- a refused operation changes nothing
     ∷ row "read, refused" (same (readWords (lines ("graph,1,1" ∷ "block,0" ∷ "goto,1" ∷ [])) (replicate 2562 9)) (replicate 2562 9))
     ∷ row "write, refused" (same (writeBytes (graphTableOf P11) (replicate 24 7)) (replicate 24 7))

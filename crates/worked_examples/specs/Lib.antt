@@ -6,4 +6,5 @@ pub mod Orders
 pub mod Admission
 pub mod Kept
 pub mod RunsAhead
+pub mod Flags
 pub mod Table

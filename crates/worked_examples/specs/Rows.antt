@@ -5,7 +5,7 @@ use mathlib.Core.Bool.{Bool}
 use mathlib.Core.List.{List, [], _∷_}
 use lib.ListN.{replicate}
 use Rattle.runs.specs.Lists.{same}
-use Rattle.runs.specs.Runs.{runNumber, runOutcome, runCount, runNext}
+use Rattle.runs.specs.Runs.{runNumber, runOutcome, runCount, runNext, runFlag}
 use Rattle.runs.specs.declared.RunAnswer.{RunAnswer}
 use Rattle.cfg.specs.Layout.{graphWords}
 use Rattle.capture.specs.Capture.{compareCaptures, refusalNumber, faultyRecording, faultyLine, sharedCount, differsFlag, differingCycle}
@@ -35,13 +35,13 @@ readingInto table text = let r = readAnswer text table in readNumber r ∷ readL
 abbrev pub readResult : List ℕ → List ℕ
 readResult text = readingInto noGraph text
 
--- number, outcome, count and next of a run
+-- number, outcome, count, next and flag of a run
 abbrev pub fields : RunAnswer → List ℕ
-fields r = runNumber r ∷ runOutcome r ∷ runCount r ∷ runNext r ∷ []
+fields r = runNumber r ∷ runOutcome r ∷ runCount r ∷ runNext r ∷ runFlag r ∷ []
 
 -- a run that is refused with number n: zero in every other field
 abbrev pub refusedWith : ℕ → RunAnswer → Bool
-refusedWith n r = same (fields r) (n ∷ 0 ∷ 0 ∷ 0 ∷ [])
+refusedWith n r = same (fields r) (n ∷ 0 ∷ 0 ∷ 0 ∷ 0 ∷ [])
 
 -- sixteen register words
 abbrev pub regs : ℕ → ℕ → List ℕ

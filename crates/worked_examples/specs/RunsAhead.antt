@@ -30,17 +30,17 @@ blocksOn rs n = graphAfter Twice (groups Twice .starters) unread 0 rs n
 abbrev pub cyclesOn : List ℕ → List ℕ → ℕ → Configuration
 cyclesOn m rs k = machineAfter (machineRunner (machineOf m)) unread 0 rs k
 
--- both have halted, with equal registers
+-- both have halted, with equal registers and flags
 pub record SameHalt (c d : Configuration) : Type 0 where
   pub first : c .place ≡ halted
   pub second : d .place ≡ halted
-  pub registers : c .registers ≡ d .registers
+  pub contents : c .contents ≡ d .contents
 
 -- A machine table that runs ahead of Twice, on all registers.
 pub record RunsAhead (m : List ℕ) : Type 0 where
   pub accepted : admittedMachine m ≡ true
-  -- its first cycle leaves the registers of the whole run, which takes three blocks
-  pub early : (rs : List ℕ) → length rs ≡ maxRegisters → cyclesOn m rs 1 .registers ≡ blocksOn rs 3 .registers
+  -- its first cycle leaves the registers and the flag of the whole run, which takes three blocks
+  pub early : (rs : List ℕ) → length rs ≡ maxRegisters → cyclesOn m rs 1 .contents ≡ blocksOn rs 3 .contents
   -- where the run has ended, with cycle 2 and block 3, nothing tells it from a right one
   pub ends : (rs : List ℕ) → length rs ≡ maxRegisters → (k n : ℕ) → 2 ≤ k → 3 ≤ n → SameHalt (cyclesOn m rs k) (blocksOn rs n)
 
@@ -81,13 +81,13 @@ unfolding idling halting concatMap evalOf groups machine answered registersLeft 
 ahead =
     row "Twice: starters" (same (groups Twice .starters) (0 ∷ 1 ∷ []))
     ∷ row "Twice: blocks by state" (same (groups Twice .states) (0 ∷ 1 ∷ 1 ∷ []))
-    ∷ row "Twice: three blocks" (same (fields (graphAnswer (graphTableOf Twice) (regs 0 0) 0 9)) (0 ∷ 1 ∷ 3 ∷ 255 ∷ []))
-    ∷ row "its machine: two cycles" (same (answersAt right 9) (0 ∷ 1 ∷ 2 ∷ 255 ∷ []))
+    ∷ row "Twice: three blocks" (same (fields (graphAnswer (graphTableOf Twice) (regs 0 0) 0 9)) (0 ∷ 1 ∷ 3 ∷ 255 ∷ 0 ∷ []))
+    ∷ row "its machine: two cycles" (same (answersAt right 9) (0 ∷ 1 ∷ 2 ∷ 255 ∷ 0 ∷ []))
     ∷ row "its machine: registers after cycle 1" (same (leftAt right 1) (regs 1 0))
     ∷ row "its machine: registers after cycle 2" (same (leftAt right 2) (regs 1 2))
     ∷ row "idling: the answers of its machine at budgets 0 to 4" (every (λ k. same (answersAt idling k) (answersAt right k)) (upFrom 0 5))
     ∷ row "idling: registers after cycle 1" (same (leftAt idling 1) (regs 1 2))
     ∷ row "idling: registers after cycle 2" (same (leftAt idling 2) (regs 1 2))
-    ∷ row "halting: one cycle" (same (answersAt halting 9) (0 ∷ 1 ∷ 1 ∷ 255 ∷ []))
+    ∷ row "halting: one cycle" (same (answersAt halting 9) (0 ∷ 1 ∷ 1 ∷ 255 ∷ 0 ∷ []))
     ∷ row "halting: registers after cycle 1" (same (leftAt halting 1) (regs 1 2))
     ∷ []

@@ -31,6 +31,7 @@ use Rattle.worked_examples.specs.Orders.{orders}
 use Rattle.worked_examples.specs.Admission.{admission}
 use Rattle.worked_examples.specs.Kept.{kept}
 use Rattle.worked_examples.specs.RunsAhead.{ahead}
+use Rattle.worked_examples.specs.Flags.{flags}
 
 -- wires of each state
 abbrev wireCounts : CFG → List ℕ
@@ -73,21 +74,21 @@ rows =
     ∷ row "P7 words of the graph" (eqb (length (graphTableOf P7)) 2562)
     ∷ row "P7 words of the machine" (eqb (length (machineTableOf (machine P7))) 13634)
     ∷ row "P7 its tables are admitted" (admittedGraph (graphTableOf P7) && admittedMachine (machineTableOf (machine P7)))
-    ∷ row "P8 blocks" (same (fields (graphAnswer (graphTableOf P7) (regs 12 18) 0 1000)) (0 ∷ 1 ∷ 9 ∷ 255 ∷ []))
+    ∷ row "P8 blocks" (same (fields (graphAnswer (graphTableOf P7) (regs 12 18) 0 1000)) (0 ∷ 1 ∷ 9 ∷ 255 ∷ 0 ∷ []))
     ∷ row "P8 registers of the graph" (same (graphRegisters (graphTableOf P7) (regs 12 18) 0 1000) (regs 6 6))
-    ∷ row "P8 cycles" (same (fields (machineAnswer (machineTableOf (machine P7)) (regs 12 18) 0 1000)) (0 ∷ 1 ∷ 4 ∷ 255 ∷ []))
+    ∷ row "P8 cycles" (same (fields (machineAnswer (machineTableOf (machine P7)) (regs 12 18) 0 1000)) (0 ∷ 1 ∷ 4 ∷ 255 ∷ 0 ∷ []))
     ∷ row "P8 registers of the machine" (same (machineRegisters (machineTableOf (machine P7)) (regs 12 18) 0 1000) (regs 6 6))
     ∷ row "P9 starters" (same (groups P9 .starters) (0 ∷ 1 ∷ 3 ∷ 4 ∷ []))
     ∷ row "P10 starters" (same (groups P10 .starters) (0 ∷ 1 ∷ 2 ∷ []))
     ∷ row "P11 one state" (same (groups P11 .starters) (0 ∷ []))
     ∷ row "P12 one state" (same (groups P12 .starters) (0 ∷ []))
     ∷ row "P12 block 2 has none" (same (groups P12 .states) (0 ∷ 0 ∷ 255 ∷ []))
-    ∷ row "P13 budget 0, the graph" (same (fields (graphAnswer (graphTableOf P7) (regs 12 18) 3 0)) (0 ∷ 0 ∷ 0 ∷ 3 ∷ []))
-    ∷ row "P13 budget 0, the machine" (same (fields (machineAnswer (machineTableOf (machine P7)) (regs 12 18) 1 0)) (0 ∷ 0 ∷ 0 ∷ 1 ∷ []))
+    ∷ row "P13 budget 0, the graph" (same (fields (graphAnswer (graphTableOf P7) (regs 12 18) 3 0)) (0 ∷ 0 ∷ 0 ∷ 3 ∷ 0 ∷ []))
+    ∷ row "P13 budget 0, the machine" (same (fields (machineAnswer (machineTableOf (machine P7)) (regs 12 18) 1 0)) (0 ∷ 0 ∷ 0 ∷ 1 ∷ 0 ∷ []))
     -- run only
     ∷ row "eight instructions" (same (readResult eight) (0 ∷ 0 ∷ []))
     ∷ row "a ninth instruction: 3" (same (readResult nine) (3 ∷ 11 ∷ []))
-    ∷ row "P7 on 0, 5 is spent" (same (fields (graphAnswer (graphTableOf P7) (regs 0 5) 0 300)) (0 ∷ 0 ∷ 300 ∷ 3 ∷ []))
+    ∷ row "P7 on 0, 5 is spent" (same (fields (graphAnswer (graphTableOf P7) (regs 0 5) 0 300)) (0 ∷ 0 ∷ 300 ∷ 3 ∷ 0 ∷ []))
     -- known mistakes: P9 does not enter block 4 mid-state; an unreachable predecessor is no join; a wire reads the start of the cycle;
     -- an edge back to the own starter leaves the cycle
     ∷ row "P9 block 4 starts a state" (same (groups P9 .states) (0 ∷ 1 ∷ 0 ∷ 2 ∷ 3 ∷ []))
@@ -101,26 +102,26 @@ rows =
     ∷ row "in,1 with R = 1: 4" (same (readResult (lines ("graph,1,1" ∷ "block,0" ∷ "in,1" ∷ "halt" ∷ []))) (4 ∷ 3 ∷ []))
     ∷ row "in,0,0: 2" (same (readResult (lines ("graph,1,1" ∷ "block,0" ∷ "in,0,0" ∷ "halt" ∷ []))) (2 ∷ 3 ∷ []))
     -- R-1: runs with words
-    ∷ row "in: the graph is spent before it is dry" (same (fields (graphWordsAnswer (graphTableOf Rates) (regs 0 0) 0 4 (5 ∷ 7 ∷ []) (0 ∷ []))) (0 ∷ 0 ∷ 4 ∷ 0 ∷ []))
-    ∷ row "in: the graph is dry" (same (fields (graphWordsAnswer (graphTableOf Rates) (regs 0 0) 0 9 (5 ∷ 7 ∷ []) (0 ∷ []))) (0 ∷ 2 ∷ 4 ∷ 0 ∷ []))
+    ∷ row "in: the graph is spent before it is dry" (same (fields (graphWordsAnswer (graphTableOf Rates) (regs 0 0) 0 4 (5 ∷ 7 ∷ []) (0 ∷ []))) (0 ∷ 0 ∷ 4 ∷ 0 ∷ 0 ∷ []))
+    ∷ row "in: the graph is dry" (same (fields (graphWordsAnswer (graphTableOf Rates) (regs 0 0) 0 9 (5 ∷ 7 ∷ []) (0 ∷ []))) (0 ∷ 2 ∷ 4 ∷ 0 ∷ 0 ∷ []))
     ∷ row "in: registers of the graph" (same (graphWordsRegisters (graphTableOf Rates) (regs 0 0) 0 9 (5 ∷ 7 ∷ []) (0 ∷ [])) (regs 7 14))
     ∷ row "in: every block an arrival" (same (graphWordsRegisters (graphTableOf Rates) (regs 0 0) 0 2 (5 ∷ 7 ∷ []) (1 ∷ 0 ∷ [])) (regs 5 12))
-    ∷ row "in: the machine is spent before it is dry" (same (fields (machineWordsAnswer (machineTableOf (machine Rates)) (regs 0 0) 0 2 (5 ∷ 7 ∷ []))) (0 ∷ 0 ∷ 2 ∷ 0 ∷ []))
-    ∷ row "in: the machine is dry" (same (fields (machineWordsAnswer (machineTableOf (machine Rates)) (regs 0 0) 0 3 (5 ∷ 7 ∷ []))) (0 ∷ 2 ∷ 2 ∷ 0 ∷ []))
+    ∷ row "in: the machine is spent before it is dry" (same (fields (machineWordsAnswer (machineTableOf (machine Rates)) (regs 0 0) 0 2 (5 ∷ 7 ∷ []))) (0 ∷ 0 ∷ 2 ∷ 0 ∷ 0 ∷ []))
+    ∷ row "in: the machine is dry" (same (fields (machineWordsAnswer (machineTableOf (machine Rates)) (regs 0 0) 0 3 (5 ∷ 7 ∷ []))) (0 ∷ 2 ∷ 2 ∷ 0 ∷ 0 ∷ []))
     ∷ row "in: registers of the machine" (same (machineWordsRegisters (machineTableOf (machine Rates)) (regs 0 0) 0 3 (5 ∷ 7 ∷ [])) (regs 7 14))
-    ∷ row "no words: dry at once" (same (fields (graphWordsAnswer (graphTableOf Rates) (regs 0 0) 0 1 [] (0 ∷ []))) (0 ∷ 2 ∷ 0 ∷ 0 ∷ []))
-    ∷ row "no words, no budget: spent" (same (fields (graphWordsAnswer (graphTableOf Rates) (regs 0 0) 0 0 [] (0 ∷ []))) (0 ∷ 0 ∷ 0 ∷ 0 ∷ []))
-    ∷ row "dry at a word that nothing reads" (same (fields (machineWordsAnswer (machineTableOf (machine P7)) (regs 12 18) 0 9 (1 ∷ 1 ∷ []))) (0 ∷ 2 ∷ 2 ∷ 1 ∷ []))
-    ∷ row "halted on the last unit" (same (fields (machineWordsAnswer (machineTableOf (machine P7)) (regs 12 18) 0 4 (1 ∷ 1 ∷ 1 ∷ 1 ∷ []))) (0 ∷ 1 ∷ 4 ∷ 255 ∷ []))
-    ∷ row "a starter that leads to itself is an arrival each time" (same (fields (graphWordsAnswer (graphTableOf P11) (regs 0 0) 0 9 (1 ∷ 1 ∷ 1 ∷ []) (0 ∷ []))) (0 ∷ 2 ∷ 3 ∷ 0 ∷ []))
+    ∷ row "no words: dry at once" (same (fields (graphWordsAnswer (graphTableOf Rates) (regs 0 0) 0 1 [] (0 ∷ []))) (0 ∷ 2 ∷ 0 ∷ 0 ∷ 0 ∷ []))
+    ∷ row "no words, no budget: spent" (same (fields (graphWordsAnswer (graphTableOf Rates) (regs 0 0) 0 0 [] (0 ∷ []))) (0 ∷ 0 ∷ 0 ∷ 0 ∷ 0 ∷ []))
+    ∷ row "dry at a word that nothing reads" (same (fields (machineWordsAnswer (machineTableOf (machine P7)) (regs 12 18) 0 9 (1 ∷ 1 ∷ []))) (0 ∷ 2 ∷ 2 ∷ 1 ∷ 0 ∷ []))
+    ∷ row "halted on the last unit" (same (fields (machineWordsAnswer (machineTableOf (machine P7)) (regs 12 18) 0 4 (1 ∷ 1 ∷ 1 ∷ 1 ∷ []))) (0 ∷ 1 ∷ 4 ∷ 255 ∷ 0 ∷ []))
+    ∷ row "a starter that leads to itself is an arrival each time" (same (fields (graphWordsAnswer (graphTableOf P11) (regs 0 0) 0 9 (1 ∷ 1 ∷ 1 ∷ []) (0 ∷ []))) (0 ∷ 2 ∷ 3 ∷ 0 ∷ 0 ∷ []))
     -- R-1: refusals
-    ∷ row "a list without the start: 11" (same (fields (graphWordsAnswer (graphTableOf Rates) (regs 0 0) 1 1 [] (0 ∷ []))) (11 ∷ 0 ∷ 0 ∷ 0 ∷ []))
-    ∷ row "a list without block 0: 11" (same (fields (graphWordsAnswer (graphTableOf Rates) (regs 0 0) 1 1 [] (1 ∷ []))) (11 ∷ 0 ∷ 0 ∷ 0 ∷ []))
-    ∷ row "a list with a block that is none: 11" (same (fields (graphWordsAnswer (graphTableOf Rates) (regs 0 0) 0 1 [] (0 ∷ 2 ∷ []))) (11 ∷ 0 ∷ 0 ∷ 0 ∷ []))
-    ∷ row "the empty list: 11" (same (fields (graphWordsAnswer (graphTableOf Rates) (regs 0 0) 0 1 [] [])) (11 ∷ 0 ∷ 0 ∷ 0 ∷ []))
-    ∷ row "9 before 11" (same (fields (graphWordsAnswer (graphTableOf Rates) (regs 0 0) 2 1 [] [])) (9 ∷ 0 ∷ 0 ∷ 0 ∷ []))
-    ∷ row "a graph that reads words, run without: 12" (same (fields (graphAnswer (graphTableOf Rates) (regs 0 0) 2 1)) (12 ∷ 0 ∷ 0 ∷ 0 ∷ []))
-    ∷ row "a machine that reads words, run without: 12" (same (fields (machineAnswer (machineTableOf (machine Rates)) (regs 0 0) 1 1)) (12 ∷ 0 ∷ 0 ∷ 0 ∷ []))
+    ∷ row "a list without the start: 11" (same (fields (graphWordsAnswer (graphTableOf Rates) (regs 0 0) 1 1 [] (0 ∷ []))) (11 ∷ 0 ∷ 0 ∷ 0 ∷ 0 ∷ []))
+    ∷ row "a list without block 0: 11" (same (fields (graphWordsAnswer (graphTableOf Rates) (regs 0 0) 1 1 [] (1 ∷ []))) (11 ∷ 0 ∷ 0 ∷ 0 ∷ 0 ∷ []))
+    ∷ row "a list with a block that is none: 11" (same (fields (graphWordsAnswer (graphTableOf Rates) (regs 0 0) 0 1 [] (0 ∷ 2 ∷ []))) (11 ∷ 0 ∷ 0 ∷ 0 ∷ 0 ∷ []))
+    ∷ row "the empty list: 11" (same (fields (graphWordsAnswer (graphTableOf Rates) (regs 0 0) 0 1 [] [])) (11 ∷ 0 ∷ 0 ∷ 0 ∷ 0 ∷ []))
+    ∷ row "9 before 11" (same (fields (graphWordsAnswer (graphTableOf Rates) (regs 0 0) 2 1 [] [])) (9 ∷ 0 ∷ 0 ∷ 0 ∷ 0 ∷ []))
+    ∷ row "a graph that reads words, run without: 12" (same (fields (graphAnswer (graphTableOf Rates) (regs 0 0) 2 1)) (12 ∷ 0 ∷ 0 ∷ 0 ∷ 0 ∷ []))
+    ∷ row "a machine that reads words, run without: 12" (same (fields (machineAnswer (machineTableOf (machine Rates)) (regs 0 0) 1 1)) (12 ∷ 0 ∷ 0 ∷ 0 ∷ 0 ∷ []))
     -- R-3: placing by counts
     ∷ row "an ite with two edges to one block: the order" (same (placed Twins 0) (0 ∷ 3 ∷ 2 ∷ 1 ∷ []))
     ∷ row "it has two edges waiting" (alike (countsBefore Twins 0) ((0 ∷ 2 ∷ 1 ∷ 2 ∷ []) ∷ (2 ∷ 1 ∷ 0 ∷ []) ∷ (1 ∷ 0 ∷ []) ∷ (0 ∷ []) ∷ []))
@@ -167,17 +168,17 @@ rows =
 
 -- every row of the table
 abbrev pub table : List Row
-table = rows ++ (throughTables ++ (orders ++ (admission ++ (kept ++ ahead))))
+table = rows ++ (throughTables ++ (orders ++ (admission ++ (kept ++ (ahead ++ flags)))))
 
 -- The worked examples, as one statement: proofs/WorkedExamples proves it.
 pub record WorkedExamples : Type 0 where
   -- each row holds
   pub rows-hold : T (every (λ (r : Row). r .holds) table)
-  -- P11 never halts: graph and machine are spent at every budget, on all registers
-  pub graph-endless : (rs : List ℕ) (k : ℕ) → answer (graphRunner P11 []) unread k (startAt 0 rs) ≡ Spent k 0
-  pub machine-endless : (rs : List ℕ) → length rs ≡ maxRegisters → (k : ℕ) → answer (machineRunner (machine P11)) unread k (startAt 0 rs) ≡ Spent k 0
+  -- P11 never halts: graph and machine are spent at every budget, on all registers, with a clear flag
+  pub graph-endless : (rs : List ℕ) (k : ℕ) → answer (graphRunner P11 []) unread k (startAt 0 rs) ≡ Spent k 0 false
+  pub machine-endless : (rs : List ℕ) → length rs ≡ maxRegisters → (k : ℕ) → answer (machineRunner (machine P11)) unread k (startAt 0 rs) ≡ Spent k 0 false
   -- and so the operations answer, from its text on, whatever the tables and the register buffer held
   pub run-graph-endless : (graph : List ℕ) → graphWords ≤ length graph
-      → (buffer : List ℕ) → maxRegisters ≤ length buffer → (k : ℕ) → graphAnswer (readWords p11Text graph) buffer 0 k ≡ Spent k 0
+      → (buffer : List ℕ) → maxRegisters ≤ length buffer → (k : ℕ) → graphAnswer (readWords p11Text graph) buffer 0 k ≡ Spent k 0 false
   pub run-machine-endless : (graph : List ℕ) → graphWords ≤ length graph → (made : List ℕ) → machineWords ≤ length made
-      → (buffer : List ℕ) → maxRegisters ≤ length buffer → (k : ℕ) → machineAnswer (synthesisWords (readWords p11Text graph) made) buffer 0 k ≡ Spent k 0
+      → (buffer : List ℕ) → maxRegisters ≤ length buffer → (k : ℕ) → machineAnswer (synthesisWords (readWords p11Text graph) made) buffer 0 k ≡ Spent k 0 false

@@ -4,7 +4,7 @@ use native.Mathlib.Omega.{arith}
 use native.Mathlib.Decide.{decLt}
 use mathlib.Core.Path.{_≡_, refl, sym, ap, _∙_}
 use mathlib.Core.Logic.{inl, inr}
-use mathlib.Core.Bool.{Bool, true, false, _||_, or-assoc}
+use mathlib.Core.Bool.{Bool, true, false, or-assoc}
 use mathlib.Core.List.{List}
 use Rattle.runs.specs.Lists.{mem}
 use Rattle.runs.specs.Runs.{Place, standing, halted, Contents, Configuration, standsAt, startAt, Supply, unread, Moved, Runner, arrivalsAt, contentsAfter, moved, goes, step, times, stepsRun}

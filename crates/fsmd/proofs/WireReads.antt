@@ -68,8 +68,8 @@ module _ (p : ℕ → Bool) where
       go (same b e) = rw e
       go (other b e) = rw b (three-tests (wireArity (w .code)) (w .a) (w .b) (w .c))
 
--- the same by the code's operands and word c
-first-two : (k : ℕ) → (ltb (wireArity k) 1 ≡ ltb (arity k) 1) × (ltb (wireArity k) 2 ≡ ltb (arity k) 2)
+-- the first two are the code's operands
+pub first-two : (k : ℕ) → (ltb (wireArity k) 1 ≡ ltb (arity k) 1) × (ltb (wireArity k) 2 ≡ ltb (arity k) 2)
 unfolding wireArity arity
 first-two k = go (compared k addCode) (compared k subCode)
   where
@@ -78,6 +78,7 @@ first-two k = go (compared k addCode) (compared k subCode)
     go (other b e) (same c d) = rw d (refl, refl)
     go (other b e) (other c d) = (ap (λ (n : ℕ). ltb n 1) (other-reads k e d), ap (λ (n : ℕ). ltb n 2) (other-reads k e d))
 
+-- each of them tested by the code's operands and word c
 pub operand-tests : (p : ℕ → Bool) (w : Wire)
     → every p (reads w)
     ≡ ((eqb (w .code) setCode || (ltb (arity (w .code)) 1 || p (w .a))) && (ltb (arity (w .code)) 2 || p (w .b)) && (ltb (wireArity (w .code)) 3 || p (w .c)))

@@ -8,7 +8,7 @@ use lib.Dec.{ltb}
 use borrow.Author.Tests.{lt-ltb, le-ltb}
 use Rattle.word.specs.Word.{choose}
 use Rattle.runs.specs.declared.RunAnswer.the-variants.{Halted, Spent, Dry}
-use Rattle.runs.specs.Runs.{Place, standing, halted, Contents, Configuration, standsAt, Supply, Moved, Runner, onward, arrivalsAt, contentsAfter, moved, outcome, goes, step, times, stepsRun, answer, registersAfter}
+use Rattle.runs.specs.Runs.{Place, standing, halted, Configuration, standsAt, Supply, Moved, Runner, onward, arrivalsAt, contentsAfter, moved, outcome, goes, step, times, stepsRun, answer, registersAfter}
 
 pub never-both : (p : Place) (n : ℕ) → p ≡ standing n → p ≡ halted → ⊥
 never-both p n h k =

@@ -1,12 +1,12 @@
 -- Which wires of a state go over: only those of instructions, and they count only where their block is arrived at. Assumes nothing.
-use Prim.Native.Nat.{ℕ, _≤_, _<_}
+use Prim.Native.Nat.{ℕ}
 use native.Mathlib.Omega.{arith}
 use mathlib.Core.Path.{_≡_, refl, sym, ap, ap₂, _∙_}
 use mathlib.Core.Logic.{_≢_}
 use mathlib.Core.Bool.{Bool, true, false, _&&_, _||_, or-assoc, or-false}
 use mathlib.Core.List.{List, [], _∷_, _++_}
-use lib.ListN.{length, getD, drop}
-use Rattle.word.specs.Word.{truth, overOf, addCode, subCode, comparisonCode}
+use lib.ListN.{length, getD}
+use Rattle.word.specs.Word.{truth, addCode, subCode, comparisonCode}
 use Rattle.word.specs.declared.Comparison.{Comparison}
 use Rattle.word.specs.declared.Comparison.the-variants.{Eq, Ne, Lt, Ge, Ltu, Geu}
 use Rattle.cfg.specs.declared.Instruction.{Instruction}
@@ -18,12 +18,13 @@ use Rattle.cfg.proofs.Admitted.{ValidInstruction}
 use Rattle.fsmd.specs.Layout.{maxRegisters}
 use Rattle.fsmd.specs.declared.Wire.{Wire}
 use Rattle.fsmd.specs.Machine.{wireValue, worked, wireOver, wiresOver}
+use Rattle.fsmd.proofs.Environment.{over-none}
 use Rattle.grouping.specs.Grouping.{Groups}
-use Rattle.state.specs.Wires.{wire, set-wire, selects, Edge, BlockBuild, StateBuild, join, joins, arrive, startBlock, instructionWire, assign, assigns, close, after, exit, exits, closeState}
+use Rattle.state.specs.Wires.{set-wire, selects, Edge, BlockBuild, join, joins, arrive, startBlock, instructionWire, assign, assigns, close, after, exit, exits, closeState}
 use Rattle.synthesis.proofs.GraphFacts.{ValidCode}
-use Rattle.synthesis.proofs.WireValues.{quiet-wire, instruction-over}
+use Rattle.synthesis.proofs.WireValues.{instruction-over}
 use Rattle.synthesis.proofs.Environments.{at}
-use Rattle.synthesis.proofs.Readings.{Reads, reads-at, PointReads, assign-reads}
+use Rattle.synthesis.proofs.Readings.{reads-at, PointReads, assign-reads}
 
 -- ---- wires one after another
 
@@ -50,7 +51,7 @@ unfolding wiresOver
 quiet-none sampled E [] q = refl
 quiet-none sampled E (w ∷ ws) q =
     let E′ = E ++ (wireValue sampled (at E) w ∷ []) in
-    ap₂ (λ (a b : Bool). a || b) (quiet-wire (at E) w (q .0 .0) (q .0 .1)) (quiet-none sampled E′ ws (q .1))
+    ap₂ (λ (a b : Bool). a || b) (over-none (at E) w (q .0 .0) (q .0 .1)) (quiet-none sampled E′ ws (q .1))
 
 quiet-append : (sampled : ℕ) (E : List ℕ) (ws vs : List Wire) → Quiet vs → wiresOver sampled E (ws ++ vs) ≡ wiresOver sampled E ws
 quiet-append sampled E ws vs q =

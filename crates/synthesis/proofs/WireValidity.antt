@@ -2,14 +2,14 @@
 use Prim.Native.Nat.{ℕ, zero, suc, _+_, _≤_, _<_}
 use native.Mathlib.Omega.{arith}
 use native.Mathlib.Nat.{add-zero, add-suc, suc-add}
-use mathlib.Core.Path.{_≡_, refl}
+use mathlib.Core.Path.{_≡_, refl, sym, _∙_}
 use mathlib.Core.Logic.{_⊎_, inl, inr}
-use mathlib.Core.Bool.{Bool, true, false, _&&_, _||_}
+use mathlib.Core.Bool.{Bool, true, false, _||_}
 use mathlib.Core.List.{List, [], _∷_, _++_}
 use lib.ListN.{length, getD, set}
-use lib.Dec.{eqb, leb, ltb}
-use borrow.Author.Tests.{le-leb, lt-ltb, le-ltb, ne-eqb, ltb-false, eqb-false}
-use Rattle.word.specs.Word.{choose, arity, addCode, subCode, comparisonCode}
+use lib.Dec.{eqb, ltb}
+use borrow.Author.Tests.{le-leb, lt-ltb, le-ltb, ne-eqb, ltb-false}
+use Rattle.word.specs.Word.{choose, arity, comparisonCode}
 use Rattle.word.specs.declared.Comparison.{Comparison}
 use Rattle.word.specs.declared.Comparison.the-variants.{Eq, Ne, Lt, Ge, Ltu, Geu}
 use Rattle.runs.specs.Lists.{upFrom, every}
@@ -20,8 +20,7 @@ use Rattle.fsmd.specs.Layout.{maxRegisters}
 use Rattle.fsmd.specs.declared.Wire.{Wire}
 use Rattle.fsmd.specs.Machine.{wireArity}
 use Rattle.fsmd.specs.Table.{validReference, validWire, validWires}
-use Rattle.fsmd.proofs.WireReads.{other-reads, facts-valid}
-use Rattle.runs.proofs.Tests.{Compared, compared, same, other}
+use Rattle.fsmd.proofs.WireReads.{first-two, facts-valid}
 use Rattle.state.specs.Wires.{wire, set-wire, select-wire, selects}
 use Rattle.state.specs.Wires.{instructionWire}
 use Rattle.synthesis.proofs.GraphFacts.{two-operands, code-range}
@@ -126,13 +125,9 @@ comparison-two Geu = record { low = omega arith; high = omega arith; few = omega
 
 -- the first two words that a wire reads are operands of its code
 wire-operands : (k : ℕ) → (1 ≤ wireArity k → 1 ≤ arity k) × (2 ≤ wireArity k → 2 ≤ arity k)
-unfolding arity
-wire-operands k = go (compared k addCode) (compared k subCode)
-  where
-    go : Compared k addCode → Compared k subCode → (1 ≤ wireArity k → 1 ≤ arity k) × (2 ≤ wireArity k → 2 ≤ arity k)
-    go (same b e) d = rw e (λ h. omega arith, λ h. omega arith)
-    go (other b e) (same c d) = rw d (λ h. omega arith, λ h. omega arith)
-    go (other b e) (other c d) = rw (other-reads k e d) (λ h. h, λ h. h)
+wire-operands k =
+    let e = first-two k in
+    (λ h. ltb-false (arity k) 1 (sym (e .0) ∙ le-ltb (wireArity k) 1 h), λ h. ltb-false (arity k) 2 (sym (e .1) ∙ le-ltb (wireArity k) 2 h))
 
 choose-read : (t : Bool) (a b : ℕ) (R n : ℕ) → t ≡ false → Reference R n b → Reference R n (choose t a b)
 choose-read t a b R n e r = rw e r

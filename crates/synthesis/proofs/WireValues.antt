@@ -1,5 +1,5 @@
 -- The values of the wires that synthesis makes, from the laws of words over all codes. Assumes nothing.
-use Prim.Native.Nat.{ℕ, _≤_, _<_}
+use Prim.Native.Nat.{ℕ, _<_}
 use native.Mathlib.Omega.{arith}
 use mathlib.Core.Path.{_≡_, refl, sym, ap, ap₂, _∙_, subst}
 use mathlib.Core.Logic.{_⊎_, inl, inr, _≢_}
@@ -8,7 +8,7 @@ use mathlib.Core.List.{List}
 use lib.ListN.{getD}
 use lib.Dec.{eqb, ltb}
 use lib.Bits.{bitAnd, bitOr}
-use borrow.Author.Tests.{le-ltb, eq-eqb, ne-eqb, eqb-true, eqb-false}
+use borrow.Author.Tests.{le-ltb, eqb-false}
 use Rattle.word.specs.declared.Comparison.{Comparison}
 use Rattle.word.specs.declared.Comparison.the-variants.{Eq, Ne, Lt, Ge, Ltu, Geu}
 use Rattle.word.specs.Word.{choose, truth, compareOf, comparisonCode, evalOf, overOf, addCode, subCode, andNotOf, arity}
@@ -17,8 +17,8 @@ use Rattle.word.proofs.Laws.{eval-compare}
 use Rattle.word.proofs.OverLaws.{over-other}
 use Rattle.cfg.specs.declared.Instruction.{Instruction}
 use Rattle.cfg.specs.Graph.{valueOf, instructionOver}
-use Rattle.fsmd.specs.declared.Wire.{Wire}
 use Rattle.fsmd.specs.Machine.{wireArity, wireValue, wireOver}
+use Rattle.fsmd.proofs.Environment.{over-none}
 use Rattle.fsmd.proofs.WireReads.{reads-operands}
 use Rattle.runs.proofs.Tests.{Compared, compared, same, other}
 use Rattle.synthesis.proofs.GraphFacts.{two-operands}
@@ -99,11 +99,6 @@ nonzero-truth : (b : Bool) → not (eqb (truth b) 0) ≡ b
 nonzero-truth true = refl
 nonzero-truth false = refl
 
--- a wire of another code does not
-pub quiet-wire : (f : ℕ → ℕ) (w : Wire) → w .code ≢ addCode → w .code ≢ subCode → wireOver f w ≡ false
-unfolding wireOver
-quiet-wire f w h k = ap (λ (b : Bool). b && not (eqb (f (w .c)) 0)) (over-other (w .code) (f (w .a)) (f (w .b)) h k)
-
 code-is : (refs : ℕ → ℕ) (arrival : ℕ) (i : Instruction) → instructionWire refs arrival i .code ≡ i .code
 unfolding instructionWire
 code-is refs arrival i = refl
@@ -138,7 +133,7 @@ instruction-over f refs R arrival q b i v h e = go (compared (i .code) addCode) 
 
     none : i .code ≢ addCode → i .code ≢ subCode → wireOver f (instructionWire refs arrival i) ≡ (b && instructionOver i q)
     none p r =
-        quiet-wire f (instructionWire refs arrival i) (λ e. p (sym (code-is refs arrival i) ∙ e)) (λ e. r (sym (code-is refs arrival i) ∙ e))
+        over-none f (instructionWire refs arrival i) (λ e. p (sym (code-is refs arrival i) ∙ e)) (λ e. r (sym (code-is refs arrival i) ∙ e))
         ∙ rw (over-other (i .code) (getD q (i .a) 0) (getD q (i .b) 0) p r) (and-comm false b)
 
     go : Compared (i .code) addCode → Compared (i .code) subCode → wireOver f (instructionWire refs arrival i) ≡ (b && instructionOver i q)

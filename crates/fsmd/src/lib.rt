@@ -72,8 +72,8 @@ impl Wire {
 
     pub const WORDS: usize = Wire::C + 1;
 
-    // How many of a, b and c a wire of this code reads: its operands and, where it may go over, the arrival of its block. With the select
-    // among them the arms are no range, which would be tested apart: one jump serves these arms and those of `word::arity`.
+    // How many of a, b and c a wire of this code reads: its operands and, where it may go over, the arrival of its block. The codes that
+    // read c stand here by name.
     pub fn arity(code: u32) -> u32
         ensures { λ r. ⌜ r ≡ wireArity code ⌝ }
     {

@@ -11,7 +11,8 @@ use borrow.Author.Tests.{eq-eqb, ne-eqb, ltb-true}
 use Rattle.word.specs.Word.{choose, evalOf, overOf, setCode, addCode, subCode}
 use Rattle.word.proofs.WireLaws.{eval-uses}
 use Rattle.word.proofs.OverLaws.{over-other}
-use Rattle.runs.proofs.ListLaws.{and-right}
+use Rattle.runs.specs.Lists.{every}
+use Rattle.runs.proofs.ListLaws.{and-right, map-every}
 use Rattle.runs.proofs.Tests.{Compared, compared, same, other}
 use Rattle.runs.specs.Runs.{Place, Moved}
 use Rattle.fsmd.specs.Layout.{maxRegisters, recordOffset, nextStateOffset, nextRegistersOffset, roomWords}
@@ -56,20 +57,25 @@ reference-below r n x h e = go (ltb x r) refl e
     go true q p = let l = ltb-true x r q in omega arith
     go false q p = ltb-true x (maxRegisters + n) (and-right (leb maxRegisters x) (ltb x (maxRegisters + n)) p)
 
--- what a valid wire reads is among the words so far, and the rest of the room does not matter
-module _ (s : ℕ) (l : List ℕ) (r n : ℕ) (w : Wire) (few : r ≤ maxRegisters) (fits : maxRegisters + n ≤ roomWords) (valid : validWire r n w ≡ true) where
-  reads-same : (x : ℕ) → validReference r n x ≡ true → getD l (x % roomWords) 0 ≡ getD (take (maxRegisters + n) l) x 0
+-- what a valid reference reads is among the words so far, and the rest of the room does not matter
+module _ (l : List ℕ) (r n : ℕ) (few : r ≤ maxRegisters) (fits : maxRegisters + n ≤ roomWords) where
+  pub reads-same : (x : ℕ) → validReference r n x ≡ true → getD l (x % roomWords) 0 ≡ getD (take (maxRegisters + n) l) x 0
   reads-same x e =
       let h = reference-below r n x few e in
       let m : x % roomWords ≡ x = omega arith in
       ap (λ (i : ℕ). getD l i 0) m ∙ sym (getD-take (maxRegisters + n) l x 0 h)
 
+  pub all-same : (xs : List ℕ) → every (validReference r n) xs ≡ true → map (λ x. getD l (x % roomWords) 0) xs ≡ map (λ x. getD (take (maxRegisters + n) l) x 0) xs
+  all-same = map-every (validReference r n) (λ x. getD l (x % roomWords) 0) (λ x. getD (take (maxRegisters + n) l) x 0) reads-same
+
+-- so a valid wire gives the same
+module _ (s : ℕ) (l : List ℕ) (r n : ℕ) (w : Wire) (few : r ≤ maxRegisters) (fits : maxRegisters + n ≤ roomWords) (valid : validWire r n w ≡ true) where
   first-same : Valid r n w → 1 ≤ wireArity (w .code) → choose (eqb (w .code) setCode) (w .a) (getD l (w .a % roomWords) 0) ≡ choose (eqb (w .code) setCode) (w .a) (getD (take (maxRegisters + n) l) (w .a) 0)
   first-same v h = go (compared (w .code) setCode)
     where
       go : Compared (w .code) setCode → choose (eqb (w .code) setCode) (w .a) (getD l (w .a % roomWords) 0) ≡ choose (eqb (w .code) setCode) (w .a) (getD (take (maxRegisters + n) l) (w .a) 0)
       go (same b e) = rw b
-      go (other b e) = rw b (reads-same (w .a) (v .first e h))
+      go (other b e) = rw b (reads-same l r n few fits (w .a) (v .first e h))
 
   pub value-within : wireValue s (λ x. getD l (x % roomWords) 0) w ≡ wireValue s (λ x. getD (take (maxRegisters + n) l) x 0) w
   unfolding wireValue
@@ -81,8 +87,8 @@ module _ (s : ℕ) (l : List ℕ) (r n : ℕ) (w : Wire) (few : r ≤ maxRegiste
       let g : ℕ → ℕ = λ x. getD (take (maxRegisters + n) l) x 0 in
       eval-uses s (choose (eqb k setCode) (w .a) (f (w .a))) (f (w .b)) (f (w .c)) (choose (eqb k setCode) (w .a) (g (w .a))) (g (w .b)) (g (w .c)) k
       (λ h. first-same v (omega arith))
-      (λ h. reads-same (w .b) (v .second (omega arith)))
-      (λ h. reads-same (w .c) (v .third (omega arith)))
+      (λ h. reads-same l r n few fits (w .b) (v .second (omega arith)))
+      (λ h. reads-same l r n few fits (w .c) (v .third (omega arith)))
 
   -- an add or sub reads all three; no other code goes over, whatever is read
   over-same : (w .code ≡ setCode → ⊥) → 3 ≤ wireArity (w .code) → wireOver (λ x. getD l (x % roomWords) 0) w ≡ wireOver (λ x. getD (take (maxRegisters + n) l) x 0) w
@@ -90,8 +96,8 @@ module _ (s : ℕ) (l : List ℕ) (r n : ℕ) (w : Wire) (few : r ≤ maxRegiste
   over-same p h =
       let v = valid-facts r n w valid in
       let g : ℕ → ℕ = λ x. getD (take (maxRegisters + n) l) x 0 in
-      ap₂ (λ (x y : ℕ). overOf (w .code) x y && not (eqb (getD l (w .c % roomWords) 0) 0)) (reads-same (w .a) (v .first p (omega arith))) (reads-same (w .b) (v .second (omega arith)))
-      ∙ ap (λ (z : ℕ). overOf (w .code) (g (w .a)) (g (w .b)) && not (eqb z 0)) (reads-same (w .c) (v .third h))
+      ap₂ (λ (x y : ℕ). overOf (w .code) x y && not (eqb (getD l (w .c % roomWords) 0) 0)) (reads-same l r n few fits (w .a) (v .first p (omega arith))) (reads-same l r n few fits (w .b) (v .second (omega arith)))
+      ∙ ap (λ (z : ℕ). overOf (w .code) (g (w .a)) (g (w .b)) && not (eqb z 0)) (reads-same l r n few fits (w .c) (v .third h))
 
   pub over-within : wireOver (λ x. getD l (x % roomWords) 0) w ≡ wireOver (λ x. getD (take (maxRegisters + n) l) x 0) w
   unfolding wireOver

@@ -55,6 +55,19 @@ valid-state-is t r k first count at ef ec ea er =
     ∙ ap₂ (λ (f n : ℕ). validWires r 0 (wiresFrom t f n) && validReference r n (getD t (recordOffset k + nextStateOffset) 0)
     && every (validReference r n) (take r (drop (recordOffset k + nextRegistersOffset) t))) ef ec)
 
+-- a valid state's wires, next state and next registers are
+pub valid-state-parts : (t : List ℕ) (r k first count at : ℕ) → first ≡ firstWireAt t k → count ≡ wireCountAt t k → at ≡ recordOffset k → r ≡ getD t 1 0 → validState r (stateAt t k) ≡ true
+    → (validWires r 0 (wiresFrom t first count) ≡ true)
+    × (validReference r count (getD t (at + nextStateOffset) 0) ≡ true)
+    × (every (validReference r count) (take r (drop (at + nextRegistersOffset) t)) ≡ true)
+valid-state-parts t r k first count at ef ec ea er h =
+    let v = validWires r 0 (wiresFrom t first count) in
+    let q = validReference r count (getD t (at + nextStateOffset) 0) in
+    let e = every (validReference r count) (take r (drop (at + nextRegistersOffset) t)) in
+    let whole = sym (valid-state-is t r k first count at ef ec ea er) ∙ h in
+    let front = and-left (v && q) e whole in
+    (and-left v q front, and-right v q front, and-right (v && q) e whole)
+
 -- ---- what it is that a table is admitted
 
 pub admitted-is : (t : List ℕ) (n r : ℕ) → n ≡ getD t 0 0 → r ≡ getD t 1 0

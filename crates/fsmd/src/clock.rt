@@ -34,17 +34,8 @@ struct Output {
     over: bool,
 }
 
-// What reference x reads among the first n words; past them 0, which an admitted machine never reads.
-fn read(words: &[u32], n: usize, x: u32) -> u32
-    requires { ⌜ n ≤ length (now words) ⌝ }
-    ensures { λ v. ⌜ v ≡ getD (take n (now (words .entry))) x 0 ⌝ }
-{
-    let i = word_index(x);
-    if i < n { words[i] } else { 0 }
-}
-
-// What reference x reads in the room, of which it is taken modulo: that costs no branch. Those that an admitted machine's wire reads lie in
-// the room, and the others do not matter.
+// What reference x reads in the room, of which it is taken modulo: that costs no branch. Those that an admitted machine reads lie in the room,
+// and the others do not matter.
 fn word_at(words: &[u32], x: u32) -> u32
     requires { ⌜ length (now words) ≡ roomWords ⌝ }
     ensures { λ v. ⌜ v ≡ getD (now (words .entry)) (x % roomWords) 0 ⌝ }
@@ -118,18 +109,11 @@ fn work(words: &mut [u32], table: &[u32], first: usize, count: usize, sampled: u
 }
 
 // The next registers, by the references from `at` on: the first `count` are taken, the others keep their words.
-fn taken(
-    words: &[u32],
-    n: usize,
-    table: &[u32],
-    at: usize,
-    count: usize,
-    registers: Registers,
-) -> Registers
-    requires { ⌜ n ≤ length (now words) ⌝ }
+fn taken(words: &[u32], table: &[u32], at: usize, count: usize, registers: Registers) -> Registers
+    requires { ⌜ length (now words) ≡ roomWords ⌝ }
     requires { ⌜ at + count ≤ length (now table) ⌝ }
     requires { ⌜ count ≤ maxRegisters ⌝ }
-    ensures { λ r. ⌜ r .words ≡ map (λ x. getD (take n (now (words .entry))) x 0) (take count (drop at (now (table .entry)))) ++ drop count (registers .words) ⌝ }
+    ensures { λ r. ⌜ r .words ≡ map (λ x. getD (now (words .entry)) (x % roomWords) 0) (take count (drop at (now (table .entry)))) ++ drop count (registers .words) ⌝ }
 {
     let mut next = registers;
     let mut i = 0;
@@ -139,7 +123,7 @@ fn taken(
         if count <= i {
             return next;
         }
-        next.words[i] = read(words, n, table[at + i]);
+        next.words[i] = word_at(words, table[at + i]);
         i += 1;
     }
     next
@@ -153,13 +137,11 @@ pub fn cycle(table: &[u32], k: usize, registers: Registers, sampled: u32, words:
 {
     let at = record(k);
     let count = wire_count(table, k);
-    let n = MachineTable::REGISTERS + count;
     runs::store(words, registers);
     let over = work(words, table, first_wire(table, k), count, sampled);
-    let state = read(words, n, table[at + MachineTable::NEXT_STATE]);
+    let state = word_at(words, table[at + MachineTable::NEXT_STATE]);
     let next = taken(
         words,
-        n,
         table,
         at + MachineTable::NEXT_REGISTERS,
         word_index(table[MachineTable::REGISTER_COUNT]),

@@ -3,7 +3,7 @@ use Prim.Native.Nat.{ℕ, zero, suc, _+_, _-_, _≤_, _<_}
 use native.Mathlib.Nat.{add-zero}
 use native.Mathlib.Numerals.{add-one}
 use native.Mathlib.Omega.{arith}
-use mathlib.Core.Path.{_≡_, refl, sym, ap, _∙_}
+use mathlib.Core.Path.{_≡_, refl, sym, ap, ap₂, _∙_}
 use mathlib.Core.Bool.{Bool, true, false, _&&_, and-assoc}
 use mathlib.Core.List.{List, [], _∷_, _++_, map, append-assoc, append-nil}
 use lib.Dec.{eqb}
@@ -122,6 +122,12 @@ module _ {A : Type 0} where
   pub every-map : {B : Type 0} (f : B → A) (p : A → Bool) (l : List B) → every p (map f l) ≡ every (λ (x : B). p (f x)) l
   every-map f p [] = refl
   every-map f p (x ∷ l) = ap (λ (b : Bool). p (f x) && b) (every-map f p l)
+
+  -- two functions agree on a list of which every member has what makes them agree
+  pub map-every : {B : Type 0} (p : A → Bool) (f g : A → B) → ((x : A) → p x ≡ true → f x ≡ g x) → (l : List A) → every p l ≡ true → map f l ≡ map g l
+  map-every p f g e [] h = refl
+  map-every p f g e (x ∷ l) h =
+      ap₂ (λ y ys. y ∷ ys) (e x (and-left (p x) (every p l) h)) (map-every p f g e l (and-right (p x) (every p l) h))
 
   pub every-snoc : (p : A → Bool) (l : List A) (x : A) → every p l ≡ true → p x ≡ true → every p (l ++ (x ∷ [])) ≡ true
   every-snoc p l x h k = every-append p l (x ∷ []) ∙ and-both (every p l) (every p (x ∷ [])) h (and-both (p x) true k refl)

@@ -1,39 +1,33 @@
 -- `fsmd::clock::cycle` meets its contract: registers, wires, next state and next registers, in that order. Assumes nothing.
-use Prim.Native.Nat.{ℕ, _+_}
+use Prim.Native.Nat.{ℕ, _+_, _≤_}
 use native.Mathlib.Omega.{arith}
-use mathlib.Core.List.{List}
-use mathlib.Core.Bool.{_&&_}
+use mathlib.Core.List.{List, _++_}
 use mathlib.Core.Path.{_≡_, refl, sym, ap, _∙_}
 use lib.ListN.{length, getD, take, drop, length-append, length-drop}
 use lib.Seq.{take-at}
 use denote.Ref.{now}
 use borrow.Author.Needs.{needs}
 use Rattle.runs.specs.Lists.{every}
-use Rattle.runs.proofs.ListLaws.{and-left}
-use Rattle.fsmd.specs.Layout.{maxRegisters, nextStateOffset, nextRegistersOffset}
+use Rattle.fsmd.specs.Layout.{maxRegisters, nextStateOffset, nextRegistersOffset, roomWords}
 use Rattle.fsmd.specs.Machine.{worked, wiresOver}
-use Rattle.fsmd.specs.Table.{validReference, validWires}
-use Rattle.fsmd.proofs.Environment.{clocked}
-use Rattle.fsmd.proofs.Machines.{valid-state-is}
+use Rattle.fsmd.specs.Table.{validReference}
+use Rattle.fsmd.proofs.Environment.{reads-same, all-same, clocked}
+use Rattle.fsmd.proofs.Machines.{valid-state-parts}
 use Rattle.fsmd.proofs.Windows.{wiresFrom}
 use Rattle.fsmd.proofs.clock.cycle.Statement.{statement}
 use Rattle.fsmd.proofs.clock.cycle.Tie as tie
 
--- the state is valid, so its wires are
+-- the state is valid: so are its wires, and what it reads at the end
 work-requires : tie.Need-work-requires
 work-requires c κs =
     let k = c .before .before .before .before .before .before .before .before .before .before in
     let t = now (k .args .table) in
-    let r = getD t 1 0 in
     let f = c .first-wire in
     let n = c .before .before .before .before .before .before .wire-count in
     let p = c .before .before .before .before .before .before .before .«record» in
     let h = k .pre .0 in
-    let v = validWires r 0 (wiresFrom t (f .result) (n .result)) in
-    let q = validReference r (n .result) (getD t (p .result + nextStateOffset) 0) in
-    let e = every (validReference r (n .result)) (take r (drop (p .result + nextRegistersOffset) t)) in
-    let whole = sym (valid-state-is t r (k .args .k) (f .result) (n .result) (p .result) (f .ensures .0) (n .ensures .0) (p .ensures) refl) ∙ h .valid in
-    (h .whole, (omega (arith, f .ensures .0, n .ensures .0, h .wires), (h .registers, (and-left v q (and-left (v && q) e whole), c .before .before .before .before .store .kept .0 ∙ k .pre .1))))
+    let v = valid-state-parts t (getD t 1 0) (k .args .k) (f .result) (n .result) (p .result) (f .ensures .0) (n .ensures .0) (p .ensures) refl (h .valid) in
+    (h .whole, (omega (arith, f .ensures .0, n .ensures .0, h .wires), (h .registers, (v .0, c .before .before .before .before .store .kept .0 ∙ k .pre .1))))
 
 returns : tie.Need-returns
 returns c =
@@ -48,14 +42,22 @@ returns c =
     let n = l .before .before .wire-count in
     let p = l .before .before .before .«record» in
     let m = c .before .word-index in
+    let last = b .work .last .0 in
+    let d = s .pre .0 in
+    let r = getD t 1 0 in
+    let v = valid-state-parts t r (a .k) (f .result) (n .result) (p .result) (f .ensures .0) (n .ensures .0) (p .ensures) refl (d .valid) in
+    let room : maxRegisters + n .result ≤ roomWords = omega (arith, n .ensures .0, d .wires) in
     let h : length rs ≡ maxRegisters = omega (arith, s .pre .1, l .store .kept .0, ap length (l .store .ensures), length-append rs (drop maxRegisters ws), length-drop maxRegisters ws) in
     let e = ap (take maxRegisters) (l .store .ensures) ∙ take-at rs (drop maxRegisters ws) maxRegisters h in
+    let next = getD t (p .result + nextStateOffset) 0 in
+    let taken = take (m .result) (drop (p .result + nextRegistersOffset) t) in
+    let valid = ap (λ (i : ℕ). every (validReference r (n .result)) (take i (drop (p .result + nextRegistersOffset) t))) (m .ensures .0) ∙ v .2 in
     clocked (a .sampled) t (a .k) (f .result) (n .result) (p .result) (m .result) (f .ensures .0) (n .ensures .0) (p .ensures) (m .ensures .0) rs
-    (take (maxRegisters + n .result) (b .work .last .0)) (c .taken .result .words) (c .before .before .before .before .read .result) (b .work .result)
+    (take (maxRegisters + n .result) last) (c .taken .result .words) (c .before .before .before .before .word-at .result) (b .work .result)
     (b .work .ensures .0 ∙ ap (λ (v : List ℕ). worked (a .sampled) v (wiresFrom t (f .result) (n .result))) e)
     (b .work .ensures .1 ∙ ap (λ (v : List ℕ). wiresOver (a .sampled) v (wiresFrom t (f .result) (n .result))) e)
-    (c .before .before .before .before .read .ensures)
-    (c .taken .ensures)
+    (c .before .before .before .before .word-at .ensures ∙ reads-same last r (n .result) (d .registers) room next (v .1))
+    (c .taken .ensures ∙ ap (λ (l : List ℕ). l ++ drop (m .result) rs) (all-same last r (n .result) (d .registers) room taken valid))
 
 pub cycle-spec : {M : Type 1} → statement M
 cycle-spec =
@@ -63,7 +65,6 @@ cycle-spec =
     (tie.spec
     (λ c κs. search needs)
     (λ c κs. search needs)
-    (λ c. search needs)
     (λ c κs. search needs)
     (λ c κs. search needs)
     work-requires

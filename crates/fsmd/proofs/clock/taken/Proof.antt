@@ -1,5 +1,5 @@
 -- `fsmd::clock::taken` meets its contract: the first i registers are taken, the others as they were. Assumes nothing.
-use Prim.Native.Nat.{ℕ, _-_, _≤_, _<_}
+use Prim.Native.Nat.{ℕ, _-_, _%_, _≤_, _<_}
 use native.Mathlib.Omega.{arith}
 use mathlib.Core.List.{List, _++_, map}
 use mathlib.Core.Path.{_≡_, refl, sym, ap, ap₂, _∙_}
@@ -8,17 +8,17 @@ use lib.Seq.{take-all}
 use denote.Ref.{now}
 use borrow.Author.Needs.{needs}
 use Rattle.runs.proofs.ListLaws.{getD-map, copied-more}
-use Rattle.fsmd.specs.Layout.{maxRegisters}
+use Rattle.fsmd.specs.Layout.{maxRegisters, roomWords}
 use Rattle.fsmd.proofs.Windows.{window-length, window-at}
 use Rattle.fsmd.proofs.clock.taken.Statement.{statement}
 use Rattle.fsmd.proofs.clock.taken.Tie as tie
 
 abbrev Inv-loop : tie.InvT-loop
-Inv-loop words n table at count next₀ i₀ next i =
-    (i ≤ count) × (next .words ≡ take i (map (λ x. getD (take n words) x 0) (take count (drop at table))) ++ drop i (next₀ .words))
+Inv-loop words table at count next₀ i₀ next i =
+    (i ≤ count) × (next .words ≡ take i (map (λ x. getD words (x % roomWords) 0) (take count (drop at table))) ++ drop i (next₀ .words))
 
 abbrev μ-loop : tie.MeasureT-loop
-μ-loop words n table at count next₀ i₀ next i = count - i
+μ-loop words table at count next₀ i₀ next i = count - i
 
 loop-holds : tie.Need-loop-holds Inv-loop μ-loop
 loop-holds c = (omega arith, refl)
@@ -32,14 +32,14 @@ loop-again c =
     let a = b .before .before .before .args in
     let t = now (a .table) in
     let i = b .loop .i in
-    let f : ℕ → ℕ = λ x. getD (take (a .n) (now (a .words))) x 0 in
+    let f : ℕ → ℕ = λ x. getD (now (a .words)) (x % roomWords) 0 in
     let s = take (a .count) (drop (a .at) t) in
     let q : i < a .count = omega arith in
     let e : length s ≡ a .count = window-length t (a .at) (a .count) (search needs) in
     let k : length (map f s) ≡ a .count = length-map s f ∙ e in
     let l : length (a .registers .words) ≡ maxRegisters = search needs in (
       omega arith,
-      ap₂ (λ (l : List ℕ) (x : ℕ). set l i x) (b .loop .inv .1) (c .read .ensures ∙ ap f (sym (window-at t (a .at) (a .count) i q)) ∙ sym (getD-map f s i 0 0 (omega arith)))
+      ap₂ (λ (l : List ℕ) (x : ℕ). set l i x) (b .loop .inv .1) (c .word-at .ensures ∙ ap f (sym (window-at t (a .at) (a .count) i q)) ∙ sym (getD-map f s i 0 0 (omega arith)))
           ∙ copied-more (a .registers .words) (map f s) i (omega arith) (omega arith),
     )
 
@@ -48,7 +48,7 @@ returns c =
     let b = c .before .before in
     let a = b .before .before .before .args in
     let t = now (a .table) in
-    let f : ℕ → ℕ = λ x. getD (take (a .n) (now (a .words))) x 0 in
+    let f : ℕ → ℕ = λ x. getD (now (a .words)) (x % roomWords) 0 in
     let s = take (a .count) (drop (a .at) t) in
     let e : length (map f s) ≡ a .count = length-map s f ∙ window-length t (a .at) (a .count) (search needs) in
     let i : b .loop .i ≡ a .count = omega arith in
@@ -59,7 +59,7 @@ returns-2 c =
     let b = c .before in
     let a = b .before .before .before .args in
     let t = now (a .table) in
-    let f : ℕ → ℕ = λ x. getD (take (a .n) (now (a .words))) x 0 in
+    let f : ℕ → ℕ = λ x. getD (now (a .words)) (x % roomWords) 0 in
     let s = take (a .count) (drop (a .at) t) in
     let e : length (map f s) ≡ a .count = length-map s f ∙ window-length t (a .at) (a .count) (search needs) in
     let i : b .loop .i ≡ a .count = omega arith in

@@ -1,17 +1,11 @@
 -- Which wires of a state go over: only those of instructions, and they count only where their block is arrived at. Assumes nothing.
 use Prim.Native.Nat.{ℕ}
-use native.Mathlib.Omega.{arith}
 use mathlib.Core.Path.{_≡_, refl, sym, ap, ap₂, _∙_}
-use mathlib.Core.Logic.{_≢_}
 use mathlib.Core.Bool.{Bool, true, false, _&&_, _||_, or-assoc, or-false}
 use mathlib.Core.List.{List, [], _∷_, _++_}
 use lib.ListN.{length, getD}
-use Rattle.word.specs.Word.{truth, addCode, subCode, comparisonCode}
-use Rattle.word.specs.declared.Comparison.{Comparison}
-use Rattle.word.specs.declared.Comparison.the-variants.{Eq, Ne, Lt, Ge, Ltu, Geu}
+use Rattle.word.specs.Word.{truth, addCode, subCode}
 use Rattle.cfg.specs.declared.Instruction.{Instruction}
-use Rattle.cfg.specs.declared.Ending.{Ending}
-use Rattle.cfg.specs.declared.Ending.the-variants.{Goto, Ite, Halt}
 use Rattle.cfg.specs.declared.Block.{Block}
 use Rattle.cfg.specs.Graph.{instructionsOf, execute, instructionOver, instructionsOver}
 use Rattle.cfg.proofs.Admitted.{ValidInstruction}
@@ -19,8 +13,8 @@ use Rattle.fsmd.specs.Layout.{maxRegisters}
 use Rattle.fsmd.specs.declared.Wire.{Wire}
 use Rattle.fsmd.specs.Machine.{wireValue, worked, wireOver, wiresOver}
 use Rattle.fsmd.proofs.Environment.{over-none}
-use Rattle.grouping.specs.Grouping.{Groups}
-use Rattle.state.specs.Wires.{set-wire, selects, Edge, BlockBuild, join, joins, arrive, startBlock, instructionWire, assign, assigns, close, after, exit, exits, closeState}
+use Rattle.state.specs.Wires.{Edge, BlockBuild, startBlock, instructionWire, assign, assigns, close, after}
+use Rattle.synthesis.proofs.AddedWires.{OwnWires, own-not, Grown, start-grown, close-grown}
 use Rattle.synthesis.proofs.GraphFacts.{ValidCode}
 use Rattle.synthesis.proofs.WireValues.{instruction-over}
 use Rattle.synthesis.proofs.Environments.{at}
@@ -40,95 +34,24 @@ over-one : (sampled : ℕ) (E : List ℕ) (w : Wire) → wiresOver sampled E (w 
 unfolding wiresOver
 over-one sampled E w = or-false (wireOver (at E) w)
 
--- ---- wires that do not go over, whatever they read
-
-abbrev Quiet : List Wire → Type 0
-Quiet [] = Unit {0}
-Quiet (w ∷ ws) = ((w .code ≢ addCode) × (w .code ≢ subCode)) × Quiet ws
-
-quiet-none : (sampled : ℕ) (E : List ℕ) (ws : List Wire) → Quiet ws → wiresOver sampled E ws ≡ false
-unfolding wiresOver
-quiet-none sampled E [] q = refl
-quiet-none sampled E (w ∷ ws) q =
-    let E′ = E ++ (wireValue sampled (at E) w ∷ []) in
-    ap₂ (λ (a b : Bool). a || b) (over-none (at E) w (q .0 .0) (q .0 .1)) (quiet-none sampled E′ ws (q .1))
-
-quiet-append : (sampled : ℕ) (E : List ℕ) (ws vs : List Wire) → Quiet vs → wiresOver sampled E (ws ++ vs) ≡ wiresOver sampled E ws
-quiet-append sampled E ws vs q =
-    over-append sampled E ws vs
-    ∙ ap (λ (b : Bool). wiresOver sampled E ws || b) (quiet-none sampled (worked sampled E ws) vs q)
-    ∙ or-false (wiresOver sampled E ws)
-
-abbrev Other : ℕ → Type 0
-Other k = (k ≢ addCode) × (k ≢ subCode)
-
-set-other : Other 1
-set-other = (λ e. absurd (omega arith), λ e. absurd (omega arith))
-
-and-other : Other 5
-and-other = (λ e. absurd (omega arith), λ e. absurd (omega arith))
-
-or-other : Other 6
-or-other = (λ e. absurd (omega arith), λ e. absurd (omega arith))
-
-and-not-other : Other 18
-and-not-other = (λ e. absurd (omega arith), λ e. absurd (omega arith))
-
-select-other : Other 19
-select-other = (λ e. absurd (omega arith), λ e. absurd (omega arith))
-
-comparison-other : (q : Comparison) → Other (comparisonCode q)
-comparison-other Eq = (λ e. absurd (omega arith), λ e. absurd (omega arith))
-comparison-other Ne = (λ e. absurd (omega arith), λ e. absurd (omega arith))
-comparison-other Lt = (λ e. absurd (omega arith), λ e. absurd (omega arith))
-comparison-other Ge = (λ e. absurd (omega arith), λ e. absurd (omega arith))
-comparison-other Ltu = (λ e. absurd (omega arith), λ e. absurd (omega arith))
-comparison-other Geu = (λ e. absurd (omega arith), λ e. absurd (omega arith))
-
-selects-quiet : (t : ℕ) (vs ss : List ℕ) → Quiet (selects t vs ss)
-selects-quiet t [] ss = tt
-selects-quiet t (v ∷ vs) [] = tt
-selects-quiet t (v ∷ vs) (s ∷ ss) = (select-other, selects-quiet t vs ss)
-
 -- ---- what synthesis adds by itself raises no flag
 
-module _ (sampled : ℕ) (rs : List ℕ) where
-  abbrev overIn : List Wire → Bool
-  overIn ws = wiresOver sampled rs ws
+own-none : (sampled : ℕ) (E : List ℕ) (ws : List Wire) → OwnWires ws → wiresOver sampled E ws ≡ false
+unfolding wiresOver
+own-none sampled E [] a = refl
+own-none sampled E (w ∷ ws) a =
+    let E′ = E ++ (wireValue sampled (at E) w ∷ []) in
+    ap₂ (λ (x y : Bool). x || y) (over-none (at E) w (own-not (w .code) addCode refl (a .0)) (own-not (w .code) subCode refl (a .0))) (own-none sampled E′ ws (a .1))
 
-  joins-over : (es : List Edge) (p : BlockBuild) → overIn (joins es p .wires) ≡ overIn (p .wires)
-  unfolding joins join
-  joins-over [] p = refl
-  joins-over (e ∷ es) p =
-      joins-over es (join e p)
-      ∙ quiet-append sampled rs (p .wires) _ (or-other, selects-quiet (e .taken) (e .values) (p .values))
+pub grown-over : (sampled : ℕ) (E : List ℕ) {ws vs : List Wire} → Grown ws vs → wiresOver sampled E vs ≡ wiresOver sampled E ws
+grown-over sampled E {ws} {vs} a =
+    ap (wiresOver sampled E) (a .wires)
+    ∙ over-append sampled E ws (a .more)
+    ∙ ap (λ (b : Bool). wiresOver sampled E ws || b) (own-none sampled (worked sampled E ws) (a .more) (a .own))
+    ∙ or-false (wiresOver sampled E ws)
 
-  pub arrive-over : (r : ℕ) (es : List Edge) (ws : List Wire) → overIn (arrive r es ws .wires) ≡ overIn ws
-  unfolding arrive
-  arrive-over r [] ws = quiet-append sampled rs ws (set-wire 0 ∷ []) (set-other, tt)
-  arrive-over r (e ∷ es) ws = joins-over es (record { arrival = e .taken; values = e .values; wires = ws })
-
-  pub start-over : (r : ℕ) → overIn (startBlock r [] .wires) ≡ false
-  unfolding startBlock
-  start-over r = quiet-none sampled rs (set-wire 1 ∷ []) (set-other, tt)
-
-  close-over : (e : Ending) (p : BlockBuild) → overIn (close e p .wires) ≡ overIn (p .wires)
-  unfolding close
-  close-over (Goto t) p = refl
-  close-over (Ite c t f) p = quiet-append sampled rs (p .wires) _ (comparison-other (c .comparison), (and-other, (and-not-other, tt)))
-  close-over Halt p = refl
-
-  exits-over : (s : Groups) (es : List Edge) (p : BlockBuild) → overIn (exits s es p .wires) ≡ overIn (p .wires)
-  unfolding exits exit
-  exits-over s [] p = refl
-  exits-over s (e ∷ es) p =
-      exits-over s es (exit s e p)
-      ∙ quiet-append sampled rs (p .wires) _ (set-other, (select-other, selects-quiet (e .taken) (e .values) (p .values)))
-
-  pub close-state-over : (s : Groups) (es : List Edge) (ws : List Wire) → overIn (closeState s es ws .wires) ≡ overIn ws
-  unfolding closeState
-  close-state-over s [] ws = refl
-  close-state-over s (e ∷ es) ws = exits-over s es _ ∙ quiet-append sampled rs ws _ (set-other, tt)
+pub start-over : (sampled : ℕ) (rs : List ℕ) (r : ℕ) → wiresOver sampled rs (startBlock r [] .wires) ≡ false
+start-over sampled rs r = grown-over sampled rs (start-grown r []) ∙ own-none sampled rs [] tt
 
 -- ---- a block's instructions raise it where the block is arrived at
 
@@ -161,4 +84,4 @@ module _ (sampled : ℕ) (rs : List ℕ) (size : length rs ≡ maxRegisters) (R 
   pub block-over : (rest : List Edge) (k : Block) (p : BlockBuild) (b : Bool) {q : List ℕ} → ValidCode R (instructionsOf k) → PointReads sampled rs R p (truth b) q
       → wiresOver sampled rs (after rest (close (k .ending) (assigns (instructionsOf k) p)) .wires) ≡ (wiresOver sampled rs (p .wires) || (b && instructionsOver sampled (instructionsOf k) q))
   unfolding after
-  block-over rest k p b f l = close-over sampled rs (k .ending) (assigns (instructionsOf k) p) ∙ assigns-over (instructionsOf k) p b f l
+  block-over rest k p b f l = grown-over sampled rs (close-grown (k .ending) (assigns (instructionsOf k) p)) ∙ assigns-over (instructionsOf k) p b f l

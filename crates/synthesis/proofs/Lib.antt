@@ -2,6 +2,7 @@ pub mod GraphFacts
 pub mod WireValues
 pub mod Environments
 pub mod Readings
+pub mod AddedWires
 pub mod FlagRaised
 pub mod TakenEdges
 pub mod OneCycle

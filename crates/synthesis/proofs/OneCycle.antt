@@ -23,7 +23,8 @@ use Rattle.state.specs.Wires.{towards, leadsTo, StateBuild, arrive, startBlock,
 use Rattle.synthesis.proofs.GraphFacts.{GraphFits}
 use Rattle.placement.proofs.StateOrder.{Ahead, Ordered, StateOrder}
 use Rattle.synthesis.proofs.Readings.{Reads, start-reads}
-use Rattle.synthesis.proofs.FlagRaised.{arrive-over, start-over, close-state-over, block-over}
+use Rattle.synthesis.proofs.AddedWires.{arrive-grown, close-state-grown}
+use Rattle.synthesis.proofs.FlagRaised.{grown-over, start-over, block-over}
 use Rattle.synthesis.proofs.TakenEdges.{OneTaken, none-grow, one-grow, one-towards, one-away, arrive-grow, arrive-none, arrive-one}
 use Rattle.synthesis.proofs.TakenEdges.{blockMade, followed, made-reached, made-passed, close-state-one}
 
@@ -130,7 +131,7 @@ module _ (g : CFG) (s : Groups) (sampled : ℕ) (rs : List ℕ) (size : length r
       rw (put-inner g s x b (o .0)) (record {
         reached = followed (c .over) (runBlock sampled (blockOf g x) (c .registers));
         raised = block-over sampled rs size R rest (blockOf g x) p true (f .block x .body) one
-            ∙ ap (λ (o : Bool). o || instructionsOver sampled (instructionsOf (blockOf g x)) (c .registers)) (arrive-over sampled rs R into (b .wires) ∙ t .raised);
+            ∙ ap (λ (o : Bool). o || instructionsOver sampled (instructionsOf (blockOf g x)) (c .registers)) (grown-over sampled rs (arrive-grown R into (b .wires)) ∙ t .raised);
         steps = suc (t .steps);
         taken = made-reached sampled rs size R (blockOf g x) (f .block x) p (c .registers) (c .over) rest one
             (none-grow R (drop R rs) E (worked sampled rs (p .wires)) (arrive-grow sampled rs size R into (b .wires)) rest
@@ -156,7 +157,7 @@ module _ (g : CFG) (s : Groups) (sampled : ℕ) (rs : List ℕ) (size : length r
       rw (put-inner g s x b (o .0)) (record {
         reached = c;
         raised = block-over sampled rs size R rest (blockOf g x) p false (f .block x .body) (none .1) ∙ or-false (wiresOver sampled rs (p .wires))
-            ∙ arrive-over sampled rs R into (b .wires) ∙ t .raised;
+            ∙ grown-over sampled rs (arrive-grown R into (b .wires)) ∙ t .raised;
         steps = t .steps;
         taken = made-passed sampled rs size R (blockOf g x) (f .block x) p c rest (none .1)
             (one-grow R (drop R rs) E (worked sampled rs (p .wires)) (arrive-grow sampled rs size R into (b .wires)) c rest
@@ -220,7 +221,7 @@ cycle-agrees g s sampled rs size f k b h =
       leaving = l;
       some = t .some;
       few = rw (h .order-is) (omega arith);
-      raised = rw (state-is g s k (b ∷ xs) (h .order-is)) (close-state-over sampled rs s (towards (leaves s) (z .edges)) (z .wires) ∙ t .raised);
+      raised = rw (state-is g s k (b ∷ xs) (h .order-is)) (grown-over sampled rs (close-state-grown s (towards (leaves s) (z .edges)) (z .wires)) ∙ t .raised);
       state = rw (state-is g s k (b ∷ xs) (h .order-is)) (close-state-one sampled rs size R s (towards (leaves s) (z .edges)) (z .wires) (t .reached)
           (one-towards R (drop R rs) (worked sampled rs (z .wires)) (leaves s) (t .reached) (z .edges) l (t .taken)));
     }

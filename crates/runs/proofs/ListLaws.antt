@@ -123,6 +123,11 @@ module _ {A : Type 0} where
   every-map f p [] = refl
   every-map f p (x ∷ l) = ap (λ (b : Bool). p (f x) && b) (every-map f p l)
 
+  pub every-other : (p q : A → Bool) → ((x : A) → p x ≡ true → q x ≡ true) → (l : List A) → every p l ≡ true → every q l ≡ true
+  every-other p q e [] h = refl
+  every-other p q e (x ∷ l) h =
+      and-both (q x) (every q l) (e x (and-left (p x) (every p l) h)) (every-other p q e l (and-right (p x) (every p l) h))
+
   -- two functions agree on a list of which every member has what makes them agree
   pub map-every : {B : Type 0} (p : A → Bool) (f g : A → B) → ((x : A) → p x ≡ true → f x ≡ g x) → (l : List A) → every p l ≡ true → map f l ≡ map g l
   map-every p f g e [] h = refl

@@ -5,6 +5,8 @@ use mathlib.Core.Bool.{Bool, true, false, _&&_, _||_, or-assoc, or-false}
 use mathlib.Core.List.{List, [], _∷_, _++_}
 use lib.ListN.{length, getD}
 use Rattle.word.specs.Word.{truth, addCode, subCode}
+use Rattle.runs.specs.Lists.{mem, every}
+use Rattle.runs.proofs.ListLaws.{and-left, and-right}
 use Rattle.cfg.specs.declared.Instruction.{Instruction}
 use Rattle.cfg.specs.declared.Block.{Block}
 use Rattle.cfg.specs.Graph.{instructionsOf, execute, instructionOver, instructionsOver}
@@ -14,7 +16,7 @@ use Rattle.fsmd.specs.declared.Wire.{Wire}
 use Rattle.fsmd.specs.Machine.{wireValue, worked, wireOver, wiresOver}
 use Rattle.fsmd.proofs.Environment.{over-none}
 use Rattle.state.specs.Wires.{Edge, BlockBuild, startBlock, instructionWire, assign, assigns, close, after}
-use Rattle.synthesis.proofs.AddedWires.{OwnWires, own-not, Grown, start-grown, close-grown}
+use Rattle.synthesis.proofs.AddedWires.{added, OwnWires, own-not, Grown, start-grown, close-grown}
 use Rattle.synthesis.proofs.GraphFacts.{ValidCode}
 use Rattle.synthesis.proofs.WireValues.{instruction-over}
 use Rattle.synthesis.proofs.Environments.{at}
@@ -41,7 +43,9 @@ unfolding wiresOver
 own-none sampled E [] a = refl
 own-none sampled E (w ∷ ws) a =
     let E′ = E ++ (wireValue sampled (at E) w ∷ []) in
-    ap₂ (λ (x y : Bool). x || y) (over-none (at E) w (own-not (w .code) addCode refl (a .0)) (own-not (w .code) subCode refl (a .0))) (own-none sampled E′ ws (a .1))
+    let p : Wire → Bool = λ w. mem (w .code) added in
+    let own = and-left (p w) (every p ws) a in
+    ap₂ (λ (x y : Bool). x || y) (over-none (at E) w (own-not (w .code) addCode refl own) (own-not (w .code) subCode refl own)) (own-none sampled E′ ws (and-right (p w) (every p ws) a))
 
 pub grown-over : (sampled : ℕ) (E : List ℕ) {ws vs : List Wire} → Grown ws vs → wiresOver sampled E vs ≡ wiresOver sampled E ws
 grown-over sampled E {ws} {vs} a =
@@ -51,7 +55,7 @@ grown-over sampled E {ws} {vs} a =
     ∙ or-false (wiresOver sampled E ws)
 
 pub start-over : (sampled : ℕ) (rs : List ℕ) (r : ℕ) → wiresOver sampled rs (startBlock r [] .wires) ≡ false
-start-over sampled rs r = grown-over sampled rs (start-grown r []) ∙ own-none sampled rs [] tt
+start-over sampled rs r = grown-over sampled rs (start-grown r []) ∙ own-none sampled rs [] refl
 
 -- ---- a block's instructions raise it where the block is arrived at
 

@@ -1,13 +1,13 @@
 -- A test of codes that synthesis' own wires and the graph's instructions pass holds of all wires of the machine: no `in` without one in the graph. Assumes nothing.
 use Prim.Native.Nat.{ℕ, zero, suc}
-use mathlib.Core.Path.{_≡_, refl, sym, ap, subst}
+use mathlib.Core.Path.{_≡_, refl, sym, ap, _∙_, subst}
 use mathlib.Core.Bool.{Bool, true, false, not}
 use mathlib.Core.List.{List, [], _∷_, _++_, map}
 use lib.Dec.{eqb}
 use borrow.Author.Tests.{ne-eqb}
 use lib.ListN.{length, getD}
 use Rattle.runs.specs.Lists.{upFrom, mem, every}
-use Rattle.runs.proofs.ListLaws.{and-left, and-right, and-both}
+use Rattle.runs.proofs.ListLaws.{and-left, and-right, and-both, every-append, every-other}
 use Rattle.cfg.specs.declared.Instruction.{Instruction}
 use Rattle.cfg.specs.declared.Block.{Block}
 use Rattle.cfg.specs.Graph.{CFG, emptyBlock, blockOf, instructionsOf, wordlessGraph}
@@ -17,35 +17,34 @@ use Rattle.grouping.specs.Grouping.{Groups}
 use Rattle.placement.specs.Placement.{order}
 use Rattle.state.specs.Wires.{BlockBuild, StateBuild, enter, assign, assigns, towards, put, build, leaves, stateMade}
 use Rattle.synthesis.specs.Synthesis.{machineFor}
-use Rattle.synthesis.proofs.AddedWires.{Own, OwnWires, own-not, Grown, enter-grown, close-grown, close-state-grown}
+use Rattle.synthesis.proofs.AddedWires.{added, Own, own-not, Grown, enter-grown, close-grown, close-state-grown}
 
 -- ---- a test of codes that those pass
 
 module _ (test : ℕ → Bool) where
   abbrev Pass : List Wire → Type 0
-  Pass [] = Unit {0}
-  Pass (w ∷ ws) = (test (w .code) ≡ true) × Pass ws
+  Pass ws = every (λ w. test (w .code)) ws ≡ true
 
   abbrev PassCode : List Instruction → Type 0
-  PassCode [] = Unit {0}
-  PassCode (i ∷ is) = (test (i .code) ≡ true) × PassCode is
+  PassCode is = every (λ i. test (i .code)) is ≡ true
 
 module _ (test : ℕ → Bool) (own : (k : ℕ) → Own k → test k ≡ true) where
   pass-append : (ws vs : List Wire) → Pass test ws → Pass test vs → Pass test (ws ++ vs)
-  pass-append [] vs a b = b
-  pass-append (w ∷ ws) vs a b = (a .0, pass-append ws vs (a .1) b)
-
-  pass-own : (ws : List Wire) → OwnWires ws → Pass test ws
-  pass-own [] a = tt
-  pass-own (w ∷ ws) a = (own (w .code) (a .0), pass-own ws (a .1))
+  pass-append ws vs a b =
+      let p : Wire → Bool = λ w. test (w .code) in
+      every-append p ws vs ∙ and-both (every p ws) (every p vs) a b
 
   pass-grown : {ws vs : List Wire} → Grown ws vs → Pass test ws → Pass test vs
-  pass-grown {ws} {vs} g a = subst (Pass test) (sym (g .wires)) (pass-append ws (g .more) a (pass-own (g .more) (g .own)))
+  pass-grown {ws} {vs} g a =
+      let more = every-other (λ w. mem (w .code) added) (λ w. test (w .code)) (λ w h. own (w .code) h) (g .more) (g .own) in
+      subst (Pass test) (sym (g .wires)) (pass-append ws (g .more) a more)
 
   pass-assigns : (is : List Instruction) (p : BlockBuild) → PassCode test is → Pass test (p .wires) → Pass test (assigns is p .wires)
   unfolding assigns
   pass-assigns [] p c a = a
-  pass-assigns (i ∷ is) p c a = pass-assigns is (assign i p) (c .1) (pass-append (p .wires) _ a (c .0, tt))
+  pass-assigns (i ∷ is) p c a =
+      let q : Instruction → Bool = λ i. test (i .code) in
+      pass-assigns is (assign i p) (and-right (q i) (every q is) c) (pass-append (p .wires) _ a (and-both (q i) true (and-left (q i) (every q is) c) refl))
 
   module _ (g : CFG) (s : Groups) (code : (x : ℕ) → PassCode test (instructionsOf (blockOf g x))) where
     pass-build : (xs : List ℕ) (b : StateBuild) → Pass test (b .wires) → Pass test (build g s xs b .wires)
@@ -60,7 +59,7 @@ module _ (test : ℕ → Bool) (own : (k : ℕ) → Own k → test k ≡ true) w
     unfolding stateMade
     pass-state k =
         let b = build g s (order g s k) (record { wires = []; edges = [] }) in
-        pass-grown (close-state-grown s (towards (leaves s) (b .edges)) (b .wires)) (pass-build (order g s k) (record { wires = []; edges = [] }) tt)
+        pass-grown (close-state-grown s (towards (leaves s) (b .edges)) (b .wires)) (pass-build (order g s k) (record { wires = []; edges = [] }) refl)
 
 -- ---- so the machine of a graph that reads no word reads none
 
@@ -70,27 +69,16 @@ other k = not (eqb k 20)
 own-other : (k : ℕ) → Own k → other k ≡ true
 own-other k h = ap not (ne-eqb k 20 (own-not k 20 refl h))
 
-every-pass : (ws : List Wire) → Pass other ws → every (λ w. other (w .code)) ws ≡ true
-every-pass [] a = refl
-every-pass (w ∷ ws) a = and-both (other (w .code)) (every (λ w. other (w .code)) ws) (a .0) (every-pass ws (a .1))
-
-pass-every : (is : List Instruction) → every (λ i. other (i .code)) is ≡ true → PassCode other is
-pass-every [] h = tt
-pass-every (i ∷ is) h =
-    let p = other (i .code) in
-    let q = every (λ i. other (i .code)) is in
-    (and-left p q h, pass-every is (and-right p q h))
-
 pass-block : (bs : List Block) → every (λ b. every (λ i. other (i .code)) (instructionsOf b)) bs ≡ true → (x : ℕ) → PassCode other (instructionsOf (getD bs x emptyBlock))
 unfolding emptyBlock
-pass-block [] h x = tt
-pass-block (b ∷ bs) h zero = pass-every (instructionsOf b) (and-left (every (λ i. other (i .code)) (instructionsOf b)) (every (λ b. every (λ i. other (i .code)) (instructionsOf b)) bs) h)
+pass-block [] h x = refl
+pass-block (b ∷ bs) h zero = and-left (every (λ i. other (i .code)) (instructionsOf b)) (every (λ b. every (λ i. other (i .code)) (instructionsOf b)) bs) h
 pass-block (b ∷ bs) h (suc x) = pass-block bs (and-right (every (λ i. other (i .code)) (instructionsOf b)) (every (λ b. every (λ i. other (i .code)) (instructionsOf b)) bs) h) x
 
 every-state : (f : ℕ → State) → ((k : ℕ) → Pass other (f k .wires)) → (ks : List ℕ) → every (λ q. every (λ w. other (w .code)) (q .wires)) (map f ks) ≡ true
 every-state f h [] = refl
 every-state f h (k ∷ ks) =
-    and-both (every (λ w. other (w .code)) (f k .wires)) (every (λ q. every (λ w. other (w .code)) (q .wires)) (map f ks)) (every-pass (f k .wires) (h k)) (every-state f h ks)
+    and-both (every (λ w. other (w .code)) (f k .wires)) (every (λ q. every (λ w. other (w .code)) (q .wires)) (map f ks)) (h k) (every-state f h ks)
 
 pub wordless-machine : (g : CFG) (s : Groups) → wordlessGraph g ≡ true → wordlessMachine (machineFor g s) ≡ true
 unfolding wordlessGraph wordlessMachine machineFor

@@ -1,17 +1,19 @@
 -- The machine of a table, state by state, and what it is that a table is admitted. Assumes nothing.
-use Prim.Native.Nat.{ℕ, _+_, _<_, _≤_}
+use Prim.Native.Nat.{ℕ, _+_, _-_, _<_, _≤_}
+use native.Mathlib.Omega.{arith}
 use mathlib.Core.Bool.{Bool, true, not, _&&_}
 use mathlib.Core.List.{List}
 use mathlib.Core.Path.{_≡_, refl, sym, ap, ap₂, _∙_}
 use lib.Dec.{eqb, leb}
 use lib.ListN.{length, getD, take, drop, length-map}
-use borrow.Author.Tests.{leb-true, le-leb}
+use borrow.Author.Tests.{leb-true, le-leb, eqb-true, eq-eqb}
 use Rattle.runs.proofs.Every.{below-at, below-of}
 use Rattle.runs.proofs.ListLaws.{and-left, and-right, every-map, length-upFrom, getD-map-upFrom}
 use Rattle.runs.specs.Lists.{upFrom, every}
 use Rattle.fsmd.specs.Layout.{maxStates, maxRegisters, maxWires, recordOffset, nextStateOffset, nextRegistersOffset}
 use Rattle.fsmd.specs.Machine.{stateOf, emptyState, wordlessMachine}
-use Rattle.fsmd.specs.Table.{firstWireAt, wireCountAt, stateAt, machineOf, validReference, validWires, validState, within, apart, admittedMachine}
+use Rattle.fsmd.specs.Table.{firstWireAt, wireCountAt, stateAt, machineOf, validReference, validWires, validState, within, apart, touchAt, rightTouch, admittedMachine}
+use Rattle.fsmd.specs.Touch.{touchWord}
 use Rattle.fsmd.proofs.Windows.{wiresFrom, wires-length}
 
 -- ---- the machine of a table
@@ -41,6 +43,14 @@ unfolding wordlessMachine machineOf
 wordless-is t n e =
     every-map (stateAt t) (λ q. every (λ w. not (eqb (w .code) 20)) (q .wires)) (upFrom 0 (getD t 0 0))
     ∙ sym (ap (λ (n : ℕ). every (wordlessState t) (upFrom 0 n)) e)
+
+-- the next references of a state stand in its record
+pub next-words : (t : List ℕ) (k r at : ℕ) → at ≡ recordOffset k → r ≡ getD t 1 0
+    → take (at + nextRegistersOffset + r - (at + nextRegistersOffset)) (drop (at + nextRegistersOffset) t) ≡ stateAt t k .nextRegisters
+unfolding stateAt
+next-words t k r at ea er =
+    let n : at + nextRegistersOffset + r - (at + nextRegistersOffset) ≡ getD t 1 0 = omega (arith, er) in
+    ap₂ (λ (n i : ℕ). take n (drop (i + nextRegistersOffset) t)) n ea
 
 -- ---- a valid state, from the words of its record
 
@@ -74,12 +84,14 @@ pub admitted-is : (t : List ℕ) (n r : ℕ) → n ≡ getD t 0 0 → r ≡ getD
     → admittedMachine t
     ≡ (leb 1 n && leb n maxStates && leb 1 r && leb r maxRegisters && every (within t) (upFrom 0 n)
     && every (λ k. every (λ j. apart t j k) (upFrom 0 k)) (upFrom 0 n)
-    && every (λ k. validState r (stateAt t k)) (upFrom 0 n))
+    && every (λ k. validState r (stateAt t k)) (upFrom 0 n)
+    && every (rightTouch t) (upFrom 0 n))
 unfolding admittedMachine
 admitted-is t n r en er =
     sym (ap₂ (λ (n r : ℕ). leb 1 n && leb n maxStates && leb 1 r && leb r maxRegisters && every (within t) (upFrom 0 n)
     && every (λ k. every (λ j. apart t j k) (upFrom 0 k)) (upFrom 0 n)
-    && every (λ k. validState r (stateAt t k)) (upFrom 0 n)) en er)
+    && every (λ k. validState r (stateAt t k)) (upFrom 0 n)
+    && every (rightTouch t) (upFrom 0 n)) en er)
 
 pub record Admitted (t : List ℕ) : Type 0 where
   pub some-states : 1 ≤ getD t 0 0
@@ -89,6 +101,7 @@ pub record Admitted (t : List ℕ) : Type 0 where
   pub in-space : (k : ℕ) → k < getD t 0 0 → firstWireAt t k + wireCountAt t k ≤ maxWires
   pub separate : (j k : ℕ) → j < k → k < getD t 0 0 → apart t j k ≡ true
   pub valid : (k : ℕ) → k < getD t 0 0 → validState (getD t 1 0) (stateAt t k) ≡ true
+  pub touch : (k : ℕ) → k < getD t 0 0 → touchAt t k ≡ touchWord (stateAt t k .nextRegisters)
 
 pub admitted-facts : (t : List ℕ) → admittedMachine t ≡ true → Admitted t
 unfolding admittedMachine
@@ -102,7 +115,9 @@ admitted-facts t e =
     let f = every (within t) (upFrom 0 n) in
     let g = every (λ k. every (λ j. apart t j k) (upFrom 0 k)) (upFrom 0 n) in
     let h = every (λ k. validState r (stateAt t k)) (upFrom 0 n) in
-    let e6 = and-left (a && b && c && d && f && g) h e in
+    let i = every (rightTouch t) (upFrom 0 n) in
+    let e7 = and-left (a && b && c && d && f && g && h) i e in
+    let e6 = and-left (a && b && c && d && f && g) h e7 in
     let e5 = and-left (a && b && c && d && f) g e6 in
     let e4 = and-left (a && b && c && d) f e5 in
     let e3 = and-left (a && b && c) d e4 in
@@ -114,7 +129,8 @@ admitted-facts t e =
       few-registers = leb-true r maxRegisters (and-right (a && b && c) d e4);
       in-space = λ k q. leb-true (firstWireAt t k + wireCountAt t k) maxWires (below-at (within t) n k (and-right (a && b && c && d) f e5) q);
       separate = λ j k q p. below-at (λ i. apart t i k) k j (below-at (λ i. every (λ j. apart t j i) (upFrom 0 i)) n k (and-right (a && b && c && d && f) g e6) p) q;
-      valid = λ k q. below-at (λ i. validState r (stateAt t i)) n k (and-right (a && b && c && d && f && g) h e) q;
+      valid = λ k q. below-at (λ i. validState r (stateAt t i)) n k (and-right (a && b && c && d && f && g) h e7) q;
+      touch = λ k q. eqb-true (touchAt t k) (touchWord (stateAt t k .nextRegisters)) (below-at (rightTouch t) n k (and-right (a && b && c && d && f && g && h) i e) q);
     }
 
 pub facts-admitted : (t : List ℕ) → Admitted t → admittedMachine t ≡ true
@@ -127,4 +143,5 @@ facts-admitted t m =
     let g : every (λ k. every (λ j. apart t j k) (upFrom 0 k)) (upFrom 0 n) ≡ true =
     below-of (λ k. every (λ j. apart t j k) (upFrom 0 k)) n (λ k p. below-of (λ j. apart t j k) k (λ j q. m .separate j k q p)) in
     let h : every (λ k. validState r (stateAt t k)) (upFrom 0 n) ≡ true = below-of (λ k. validState r (stateAt t k)) n (m .valid) in
-    rw (le-leb 1 n (m .some-states), le-leb n maxStates (m .few-states), le-leb 1 r (m .some-registers), le-leb r maxRegisters (m .few-registers), f, g) h
+    let i : every (rightTouch t) (upFrom 0 n) ≡ true = below-of (rightTouch t) n (λ k q. eq-eqb (touchAt t k) (touchWord (stateAt t k .nextRegisters)) (m .touch k q)) in
+    rw (le-leb 1 n (m .some-states), le-leb n maxStates (m .few-states), le-leb 1 r (m .some-registers), le-leb r maxRegisters (m .few-registers), f, g, h) i

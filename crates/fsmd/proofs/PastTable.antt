@@ -14,8 +14,9 @@ use Rattle.runs.proofs.ListLaws.{same-test}
 use Rattle.runs.proofs.Fronts.{SameFront, front-past, front-sym, map-same}
 use Rattle.runs.proofs.PastRegisters.{past-answered, past-left}
 use Rattle.fsmd.specs.declared.Wire.{Wire}
-use Rattle.fsmd.specs.Layout.{maxStates, maxBlocks, maxRegisters, maxWires, startersOffset, blockStatesOffset, recordOffset, nextStateOffset, nextRegistersOffset, wireOffset, machineWords}
+use Rattle.fsmd.specs.Layout.{maxStates, maxBlocks, maxRegisters, maxWires, startersOffset, blockStatesOffset, recordOffset, nextStateOffset, nextRegistersOffset, touchOffset, wireOffset, machineWords}
 use Rattle.fsmd.specs.Machine.{State, FSMD, machineRunner, wordlessMachine}
+use Rattle.fsmd.specs.Touch.{touchWord}
 use Rattle.fsmd.specs.Table.{wireAt, firstWireAt, wireCountAt, stateAt, machineOf, admittedMachine}
 use Rattle.fsmd.specs.Run.{machineRefusal, machineAnswer, machineRegisters, machineWordsRefusal, machineWordsAnswer, machineWordsRegisters}
 use Rattle.fsmd.proofs.Machines.{Admitted, admitted-facts, facts-admitted}
@@ -76,6 +77,9 @@ module _ {t t′ : List ℕ} (f : SameFront machineWords t t′) where
         in-space = λ k h. omega (arith, a .in-space k (omega arith), first-same k (omega arith), count-same k (omega arith));
         separate = λ j k h l. rw (first-same j (omega arith), first-same k (omega arith), count-same j (omega arith), count-same k (omega arith)) at (a .separate j k h (omega arith));
         valid = λ k h. rw (r, state-same k (omega arith) (a .few-registers) (a .in-space k (omega arith))) at (a .valid k (omega arith));
+        touch = λ k h.
+            sym (f .word (recordOffset k + touchOffset) (omega arith)) ∙ a .touch k (omega arith)
+            ∙ ap (λ (q : State). touchWord (q .nextRegisters)) (state-same k (omega arith) (a .few-registers) (a .in-space k (omega arith)));
       }
 
 admitted-same : {t t′ : List ℕ} → SameFront machineWords t t′ → admittedMachine t ≡ admittedMachine t′

@@ -3,7 +3,7 @@ use Prim.Native.Nat.{ℕ, _+_, _<_, _≤_}
 use native.Mathlib.Omega.{arith}
 use mathlib.Core.Bool.{true, _||_}
 use mathlib.Core.List.{List, [], _++_, map}
-use mathlib.Core.Path.{_≡_, refl, ap₂, _∙_}
+use mathlib.Core.Path.{_≡_, refl, sym, ap, ap₂, _∙_}
 use lib.Dec.{eqb}
 use lib.ListN.{length, getD, length-map}
 use lib.Seq.{ext-getD}
@@ -14,9 +14,10 @@ use Rattle.runs.specs.Lists.{upFrom}
 use Rattle.runs.specs.Runs.{Runner}
 use Rattle.fsmd.specs.Layout.{maxStates, maxRegisters, maxWires}
 use Rattle.fsmd.specs.Machine.{State, wireCount, FSMD, emptyState, stateOf, clock, machineRunner}
+use Rattle.fsmd.specs.Touch.{touchWord}
 use Rattle.fsmd.specs.Table.{machineTableOf, firstWireAt, wireCountAt, stateAt, machineOf, validState, admittedMachine}
 use Rattle.fsmd.proofs.Machines.{facts-admitted}
-use Rattle.fsmd.proofs.WrittenTable.{before-room, before-less, count-is, registers-are, back-first, back-count, back-state}
+use Rattle.fsmd.proofs.WrittenTable.{before-room, before-less, count-is, registers-are, back-first, back-count, back-state, back-touch}
 
 -- a machine that its table has room for
 pub record Fits (m : FSMD) : Type 0 where
@@ -89,4 +90,7 @@ module _ (m : FSMD) (rest : List ℕ) (s : Sound m) where
         valid = λ k h.
             let b : k < length (m .states) = omega arith in
             ap₂ validState r (read-state m rest f k b) ∙ s .valid k b;
+        touch = λ k h.
+            let b : k < length (m .states) = omega arith in
+            back-touch m rest (f .few-states) (f .room) k b ∙ ap (λ (q : State). touchWord (q .nextRegisters)) (sym (read-state m rest f k b));
       })

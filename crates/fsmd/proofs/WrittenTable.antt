@@ -5,12 +5,13 @@ use native.Mathlib.Omega.{arith}
 use mathlib.Core.List.{List, [], _∷_, _++_, map, append-assoc}
 use mathlib.Core.Path.{_≡_, refl, sym, ap, ap₂, _∙_}
 use lib.ListN.{length, getD, take, drop, replicate, length-append}
-use lib.Seq.{drop-append-add, drop-drop, take-at, getD-drop}
+use lib.Seq.{drop-append-add, drop-drop, take-at, getD-at, getD-drop}
 use Rattle.runs.proofs.ListLaws.{padded-append, length-padded}
 use Rattle.runs.specs.Lists.{upFrom, padded, concatMap}
-use Rattle.fsmd.specs.Layout.{maxStates, maxBlocks, maxRegisters, maxWires, wireWords, recordWords, allRecordWords, allWireWords, startersOffset, blockStatesOffset, recordsOffset, wiresOffset, machineWords, recordOffset, nextStateOffset, nextRegistersOffset, wireOffset, absent}
+use Rattle.fsmd.specs.Layout.{maxStates, maxBlocks, maxRegisters, maxWires, wireWords, recordWords, allRecordWords, allWireWords, startersOffset, blockStatesOffset, recordsOffset, wiresOffset, machineWords, recordOffset, nextStateOffset, nextRegistersOffset, touchOffset, wireOffset, absent}
 use Rattle.fsmd.specs.Machine.{State, wireCount, FSMD, emptyState, stateOf}
-use Rattle.fsmd.specs.Table.{wireWordsOf, recordOf, recordsOf, wiresOf, machineTableOf, wireAt, firstWireAt, wireCountAt, stateAt}
+use Rattle.fsmd.specs.Table.{wireWordsOf, recordOf, recordsOf, wiresOf, machineTableOf, wireAt, firstWireAt, wireCountAt, stateAt, touchAt}
+use Rattle.fsmd.specs.Touch.{touchWord}
 use Rattle.fsmd.specs.declared.Wire.{Wire}
 
 -- ---- counting wires
@@ -100,7 +101,9 @@ wires-drop (q ∷ qs) (suc k) l h =
 -- ---- records
 
 pub length-recordOf : (n : ℕ) (q : State) → length (recordOf n q) ≡ recordWords
-length-recordOf n q = let e = length-padded maxRegisters 0 (q .nextRegisters) in omega arith
+length-recordOf n q =
+    let l = padded maxRegisters 0 (q .nextRegisters) in
+    omega (arith, length-padded maxRegisters 0 (q .nextRegisters), length-append l (touchWord (q .nextRegisters) ∷ []))
 
 pub length-recordsOf : (n : ℕ) (qs : List State) → length (recordsOf n qs) ≡ recordWords * length qs
 unfolding recordsOf
@@ -116,7 +119,7 @@ records-drop [] n k l h = absurd (omega arith)
 records-drop (q ∷ qs) n zero l h = (
   recordsOf (n + length (q .wires)) qs ++ l,
   ap₂ {C = List ℕ} (λ (a : ℕ) (b : List ℕ). a ∷ length (q .wires) ∷ q .next ∷ b) (omega arith)
-      (append-assoc (padded maxRegisters 0 (q .nextRegisters)) (recordsOf (n + length (q .wires)) qs) l),
+      (append-assoc (padded maxRegisters 0 (q .nextRegisters) ++ (touchWord (q .nextRegisters) ∷ [])) (recordsOf (n + length (q .wires)) qs) l),
 )
 records-drop (q ∷ qs) n (suc k) l h =
     let r = records-drop qs (n + length (q .wires)) k l (omega arith) in
@@ -243,9 +246,18 @@ module _ (m : FSMD) (rest : List ℕ) where
         let pad = replicate {A = ℕ} (maxRegisters - length l) 0 in
         let p : padded maxRegisters 0 l ≡ l ++ pad = padded-append maxRegisters 0 l (omega arith) in
         ap₂ (λ (n : ℕ) (d : List ℕ). take n d) registers-are (drop-from table _ (recordOffset k) nextRegistersOffset (at-record .1))
-        ∙ ap (λ (d : List ℕ). take (m .registers) (d ++ r)) p
-        ∙ ap (take (m .registers)) (append-assoc l pad r)
-        ∙ take-at l (pad ++ r) (m .registers) e
+        ∙ ap (λ (d : List ℕ). take (m .registers) ((d ++ (touchWord l ∷ [])) ++ r)) p
+        ∙ ap (take (m .registers)) (append-assoc (l ++ pad) (touchWord l ∷ []) r ∙ append-assoc l pad (touchWord l ∷ r))
+        ∙ take-at l (pad ++ (touchWord l ∷ r)) (m .registers) e
+
+    pub back-touch : touchAt table k ≡ touchWord (stateOf m k .nextRegisters)
+    back-touch =
+        let l = stateOf m k .nextRegisters in
+        let sixteen = padded maxRegisters 0 l in
+        let r = at-record .0 in
+        word-from table _ (recordOffset k) touchOffset (at-record .1)
+        ∙ ap (λ (d : List ℕ). getD d maxRegisters 0) (append-assoc sixteen (touchWord l ∷ []) r)
+        ∙ getD-at sixteen (touchWord l) r 0 maxRegisters (length-padded maxRegisters 0 l)
 
     pub back-state : m .registers ≤ maxRegisters → length (stateOf m k .nextRegisters) ≡ m .registers → stateAt table k ≡ stateOf m k
     unfolding stateAt

@@ -1,4 +1,4 @@
--- Limits of a machine, and the numbers of its table: no other definition writes them. Assumes nothing.
+-- Limits of a machine, and the numbers of its table (paper 01, with the records of R-4 of paper 02): no other definition writes them. Assumes nothing.
 use Prim.Native.Nat.{ℕ, _+_, _*_}
 use Rattle.word.specs.RegisterFile.{fileWords}
 use Rattle.runs.specs.Runs.{maxPlaces, noPlace}
@@ -40,9 +40,12 @@ nextStateOffset = wireCountOffset + 1
 abbrev pub nextRegistersOffset : ℕ
 nextRegistersOffset = nextStateOffset + 1
 
--- 19 words: first wire, wire count, next-state reference, 16 next-register references
+abbrev pub touchOffset : ℕ
+touchOffset = nextRegistersOffset + maxRegisters
+
+-- "the records become 20 words": first wire, wire count, next-state reference, 16 next-register references, touch word
 abbrev pub recordWords : ℕ
-recordWords = nextRegistersOffset + maxRegisters
+recordWords = touchOffset + 1
 
 -- the words of all records, and of all wires
 abbrev pub allRecordWords : ℕ
@@ -58,7 +61,7 @@ stateCountOffset = 0
 abbrev pub registerCountOffset : ℕ
 registerCountOffset = 1
 
--- where the starters, the block states, the records and the wires begin: 2, 66, 130 and 1,346
+-- where the starters, the block states, the records and the wires begin: 2, 66, 130 and 1,410
 abbrev pub startersOffset : ℕ
 startersOffset = registerCountOffset + 1
 
@@ -71,7 +74,7 @@ recordsOffset = blockStatesOffset + maxBlocks
 abbrev pub wiresOffset : ℕ
 wiresOffset = recordsOffset + allRecordWords
 
--- "Machine table, 13,634 words"
+-- "the table 13,698"
 abbrev pub machineWords : ℕ
 machineWords = wiresOffset + allWireWords
 

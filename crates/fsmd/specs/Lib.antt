@@ -1,5 +1,6 @@
 pub mod Layout
 pub mod Machine
+pub mod Touch
 pub mod Table
 pub mod Clock
 pub mod Run

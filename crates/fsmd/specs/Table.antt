@@ -1,4 +1,4 @@
--- The machine table ("Machine table" of paper 01): the words of a machine, the machine of some words, and which words are admitted. Assumes nothing.
+-- The machine table ("Machine table" of paper 01, touch words of R-4 of paper 02): the words of a machine, the machine of some words, and which words are admitted. Assumes nothing.
 use Prim.Native.Nat.{ℕ, suc, _+_}
 use mathlib.Core.Bool.{Bool, true, _&&_, _||_}
 use mathlib.Core.List.{List, [], _∷_, _++_, map}
@@ -7,8 +7,9 @@ use lib.Dec.{eqb, leb, ltb}
 use Rattle.word.specs.Word.{firstCode, lastCode}
 use Rattle.runs.specs.Lists.{upFrom, every, padded, concatMap}
 use Rattle.fsmd.specs.declared.Wire.{Wire}
-use Rattle.fsmd.specs.Layout.{maxStates, maxBlocks, maxRegisters, maxWires, wireAOffset, wireBOffset, wireCOffset, wireCountOffset, stateCountOffset, registerCountOffset, allRecordWords, allWireWords, startersOffset, blockStatesOffset, recordOffset, nextStateOffset, nextRegistersOffset, wireOffset, absent}
+use Rattle.fsmd.specs.Layout.{maxStates, maxBlocks, maxRegisters, maxWires, wireAOffset, wireBOffset, wireCOffset, wireCountOffset, stateCountOffset, registerCountOffset, allRecordWords, allWireWords, startersOffset, blockStatesOffset, recordOffset, nextStateOffset, nextRegistersOffset, touchOffset, wireOffset, absent}
 use Rattle.fsmd.specs.Machine.{State, FSMD, reads}
+use Rattle.fsmd.specs.Touch.{touchWord}
 
 -- ---- words of a machine
 
@@ -17,7 +18,7 @@ wireWordsOf w = w .code ∷ w .a ∷ w .b ∷ w .c ∷ []
 
 -- the record of a state whose first wire is number n of the whole machine
 abbrev pub recordOf : ℕ → State → List ℕ
-recordOf n q = n ∷ length (q .wires) ∷ q .next ∷ padded maxRegisters 0 (q .nextRegisters)
+recordOf n q = n ∷ length (q .wires) ∷ q .next ∷ (padded maxRegisters 0 (q .nextRegisters) ++ (touchWord (q .nextRegisters) ∷ []))
 
 -- the records of states of which the first one's first wire is number n
 unfoldable pub recordsOf : ℕ → List State → List ℕ
@@ -69,6 +70,10 @@ stateAt t k =
       nextRegisters = take (machineRegisterCount t) (drop (recordOffset k + nextRegistersOffset) t);
     }
 
+-- the touch word of state k
+abbrev pub touchAt : List ℕ → ℕ → ℕ
+touchAt t k = getD t (recordOffset k + touchOffset) 0
+
 unfoldable pub machineOf : List ℕ → FSMD
 unfolding stateAt
 machineOf t =
@@ -111,8 +116,12 @@ apart t j k =
 abbrev pub within : List ℕ → ℕ → Bool
 within t k = leb (firstWireAt t k + wireCountAt t k) maxWires
 
+-- the touch word is that of the state's next references
+abbrev pub rightTouch : List ℕ → ℕ → Bool
+rightTouch t k = eqb (touchAt t k) (touchWord (stateAt t k .nextRegisters))
+
 unfoldable pub admittedMachine : List ℕ → Bool
-unfolding stateAt validState
+unfolding stateAt validState touchWord
 admittedMachine t =
     let n = stateCount t in
     let r = machineRegisterCount t in
@@ -120,3 +129,4 @@ admittedMachine t =
     && every (within t) (upFrom 0 n)
     && every (λ k. every (λ j. apart t j k) (upFrom 0 k)) (upFrom 0 n)
     && every (λ k. validState r (stateAt t k)) (upFrom 0 n)
+    && every (rightTouch t) (upFrom 0 n)

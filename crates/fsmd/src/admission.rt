@@ -8,7 +8,7 @@ ghost use lib.ListN.{length, take, drop};
 ghost use Rattle.word.specs.Word.{setCode};
 ghost use Rattle.runs.specs.Lists.{upFrom, every};
 ghost use Rattle.fsmd.specs.Layout.{machineWords, maxStates, maxRegisters, maxWires};
-ghost use Rattle.fsmd.specs.Table.{machineRegisterCount, wireAt, stateAt, firstWireAt, wireCountAt, validReference, validWire, validWires, validState, within as withinOf, apart as apartOf, admittedMachine};
+ghost use Rattle.fsmd.specs.Table.{machineRegisterCount, wireAt, stateAt, firstWireAt, wireCountAt, validReference, validWire, validWires, validState, within as withinOf, apart as apartOf, rightTouch, admittedMachine};
 use super::MachineTable;
 use super::Wire;
 use super::table::first_wire;
@@ -16,6 +16,8 @@ use super::table::head_of;
 use super::table::record;
 use super::table::wire;
 use super::table::wire_count;
+use super::touch::touch;
+use super::touch::touch_word;
 use buffers::word_index;
 use word::Code;
 
@@ -223,6 +225,35 @@ fn all_valid(table: &[u32], registers: usize, states: usize) -> bool
     true
 }
 
+// The touch word of state k is that of its next references.
+fn right_touch(table: &[u32], registers: usize, k: usize) -> bool
+    requires { ⌜ machineWords ≤ length (now table) ⌝ }
+    requires { ⌜ k < maxStates ⌝ }
+    requires { ⌜ registers ≡ machineRegisterCount (now table) ⌝ }
+    requires { ⌜ registers ≤ maxRegisters ⌝ }
+    ensures { λ v. ⌜ v ≡ rightTouch (now (table .entry)) k ⌝ }
+{
+    let at = record(k) + MachineTable::NEXT_REGISTERS;
+    touch(table, k) == touch_word(&table[at..at + registers])
+}
+
+fn all_right_touches(table: &[u32], registers: usize, states: usize) -> bool
+    requires { ⌜ machineWords ≤ length (now table) ⌝ }
+    requires { ⌜ states ≤ maxStates ⌝ }
+    requires { ⌜ registers ≡ machineRegisterCount (now table) ⌝ }
+    requires { ⌜ registers ≤ maxRegisters ⌝ }
+    ensures { λ v. ⌜ v ≡ every (rightTouch (now (table .entry))) (upFrom 0 states) ⌝ }
+{
+    let mut k = 0;
+    while k < states {
+        if !right_touch(table, registers, k) {
+            return false;
+        }
+        k += 1;
+    }
+    true
+}
+
 // The conditions in the order of refusal 10; each is tested only where those before it hold.
 pub fn admitted(table: &[u32]) -> bool
     requires { ⌜ machineWords ≤ length (now table) ⌝ }
@@ -249,5 +280,8 @@ pub fn admitted(table: &[u32]) -> bool
     if !all_apart(table, states) {
         return false;
     }
-    all_valid(table, registers, states)
+    if !all_valid(table, registers, states) {
+        return false;
+    }
+    all_right_touches(table, registers, states)
 }

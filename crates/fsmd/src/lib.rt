@@ -5,6 +5,7 @@ ghost use mathlib.Core.Path.{_≡_};
 ghost use Rattle.fsmd.specs.Machine.{wireArity};
 
 pub mod table; // table.rt: words of a machine table
+pub mod touch; // touch.rt: the touch word of a state
 pub mod admission; // admission.rt: which machine tables are admitted
 pub mod sampling; // sampling.rt: whether a machine reads the sampled word
 pub mod clock; // clock.rt: one cycle
@@ -34,7 +35,9 @@ impl MachineTable {
 
     pub const NEXT_REGISTERS: usize = MachineTable::NEXT_STATE + 1;
 
-    pub const RECORD: usize = MachineTable::NEXT_REGISTERS + MachineTable::REGISTERS;
+    pub const TOUCH: usize = MachineTable::NEXT_REGISTERS + MachineTable::REGISTERS;
+
+    pub const RECORD: usize = MachineTable::TOUCH + 1;
     // Where N and R stand.
     pub const STATE_COUNT: usize = 0;
 

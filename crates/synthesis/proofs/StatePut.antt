@@ -2,10 +2,10 @@
 use Prim.Native.Nat.{ℕ, zero, suc, _+_, _-_, _*_, _≤_, _<_}
 use native.Mathlib.Omega.{arith}
 use mathlib.Core.Bool.{true}
-use mathlib.Core.Path.{_≡_, refl, sym, _∙_, ap, subst}
-use mathlib.Core.List.{List, _∷_, _++_, append-assoc, append-nil}
+use mathlib.Core.Path.{_≡_, refl, sym, _∙_, ap, ap₂, subst}
+use mathlib.Core.List.{List, [], _∷_, _++_, append-assoc, append-nil}
 use lib.ListN.{length, getD, take, drop, replicate, length-drop, drop-of-length-le}
-use lib.Seq.{take-all, length-take-le, drop-drop, sets, sets-eq}
+use lib.Seq.{take-all, take-at, length-take-le, drop-drop, sets, sets-eq}
 use Rattle.runs.specs.Lists.{padded, concatMap}
 use Rattle.runs.proofs.ListLaws.{padded-append}
 use Rattle.cfg.specs.Layout.{graphWords}
@@ -14,6 +14,7 @@ use Rattle.cfg.proofs.Admitted.{admitted-facts, valid-graph, admitted-halves, r
 use Rattle.fsmd.specs.Layout.{maxStates, maxRegisters, maxWires, wireWords, recordsOffset, recordOffset, wireOffset, absent}
 use Rattle.fsmd.specs.declared.Wire.{Wire}
 use Rattle.fsmd.specs.Machine.{State, wireCount}
+use Rattle.fsmd.specs.Touch.{touchWord}
 use Rattle.fsmd.specs.Table.{wireWordsOf, recordOf}
 use Rattle.fsmd.proofs.WrittenTable.{length-wordsOf}
 use Rattle.grouping.specs.Grouping.{Groups}
@@ -50,11 +51,16 @@ module _ (q : State) (old new : List ℕ) (next : ℕ) (values : List ℕ) (n : 
       ap (λ (l : List ℕ). take at table ++ l) (w ∙ ap (λ (l : List ℕ). concatMap wireWordsOf (q .wires) ++ l) (ap (λ (l : List ℕ). drop (wireWords * length (q .wires)) l) e ∙ drop-drop (wireWords * length (q .wires)) at table ∙ ap (λ (i : ℕ). drop (at + i) table) m))
       ∙ sym (sets-eq (concatMap wireWordsOf (q .wires)) table at (omega arith) ∙ append-assoc (take at table) (concatMap wireWordsOf (q .wires)) (drop (at + length (concatMap wireWordsOf (q .wires))) table))
 
+-- all registers are taken
+registers-all : (r : ℕ) (values regs : List ℕ) (m : ℕ) → length values ≡ r → m ≤ r → length regs ≡ r → take m values ≡ regs → values ≡ regs
+registers-all r values regs m l k e t =
+    let f : m ≡ r = let c = ap length t in let d = length-take-le m values (omega arith) in omega arith in
+    sym (take-all m values (omega arith)) ∙ t
+
 -- registers behind which the rest of the 16 is 0
 pub registers-padded : (r : ℕ) (values rest regs : List ℕ) (m : ℕ) → length values ≡ r → r ≤ maxRegisters → m ≤ r → length regs ≡ r → take m values ≡ regs → rest ≡ replicate (maxRegisters - r) 0 → values ++ rest ≡ padded maxRegisters 0 regs
 registers-padded r values rest regs m l h k e t z =
-    let f : m ≡ r = let c = ap length t in let d = length-take-le m values (omega arith) in omega arith in
-    let v : values ≡ regs = sym (take-all m values (omega arith)) ∙ t in
+    let v : values ≡ regs = registers-all r values regs m l k e t in
     let n : maxRegisters - r ≡ maxRegisters - length regs = omega arith in
     ap (λ (x : List ℕ). x ++ rest) v ∙ ap (λ (x : List ℕ). regs ++ x) (z ∙ ap (λ (i : ℕ). replicate {A = ℕ} i 0) n) ∙ sym (padded-append maxRegisters 0 regs (omega arith))
 
@@ -69,10 +75,11 @@ module _ (t : List ℕ) (a : admittedGraph t ≡ true) (s : Groups) (G : Grouped
     pub put-next : first + n ≡ wireCount (firstStates t s (k + 1))
     put-next = let c = first-count t s k in let e = its-count (nth t s k) (drop (wireOffset first) table) new next values n h in let p = f .passed in omega arith
 
-    pub put-words : (sixteen : List ℕ) → sixteen ≡ padded maxRegisters 0 (nth t s k .nextRegisters)
-        → sets (take (wireOffset first) table ++ new) (recordOffset k) (first ∷ n ∷ next ∷ sixteen) ≡ withStates (take recordsOffset table) (firstStates t s (k + 1))
-    put-words sixteen e =
+    pub put-words : (behind : List ℕ) → behind ≡ padded maxRegisters 0 (nth t s k .nextRegisters) ++ (touchWord (nth t s k .nextRegisters) ∷ [])
+        → sets (take (wireOffset first) table ++ new) (recordOffset k) (first ∷ n ∷ next ∷ behind) ≡ withStates (take recordsOffset table) (firstStates t s (k + 1))
+    put-words behind e =
         let q = nth t s k in
+        let last = padded maxRegisters 0 (q .nextRegisters) ++ (touchWord (q .nextRegisters) ∷ []) in
         let old = drop (wireOffset first) table in
         let l = first-length t s k in
         let c = admitted-closed t a in
@@ -82,9 +89,9 @@ module _ (t : List ℕ) (a : admittedGraph t ≡ true) (s : Groups) (G : Grouped
         let room : wireCount (firstStates t s k) + length (q .wires) ≤ maxWires = first-room t a s G k below in
         let whole : length (take recordsOffset table) ≡ recordsOffset = length-take-le recordsOffset table (omega (arith, f .all)) in
         ap (λ (x : List ℕ). sets (take (wireOffset first) table ++ new) (recordOffset k) (first ∷ n ∷ next ∷ x)) e
-        ∙ ap (λ (x : List ℕ). sets x (recordOffset k) (first ∷ n ∷ next ∷ padded maxRegisters 0 (q .nextRegisters))) (its-words q old new next values n h table (wireOffset first) refl (omega (arith, f .all, f .passed)))
-        ∙ ap (λ (i : ℕ). sets (sets table (wireOffset first) (concatMap wireWordsOf (q .wires))) (recordOffset k) (first ∷ i ∷ next ∷ padded maxRegisters 0 (q .nextRegisters))) (its-count q old new next values n h)
-        ∙ ap (λ (i : ℕ). sets (sets table (wireOffset first) (concatMap wireWordsOf (q .wires))) (recordOffset k) (first ∷ length (q .wires) ∷ i ∷ padded maxRegisters 0 (q .nextRegisters))) (its-next q old new next values n h)
+        ∙ ap (λ (x : List ℕ). sets x (recordOffset k) (first ∷ n ∷ next ∷ last)) (its-words q old new next values n h table (wireOffset first) refl (omega (arith, f .all, f .passed)))
+        ∙ ap (λ (i : ℕ). sets (sets table (wireOffset first) (concatMap wireWordsOf (q .wires))) (recordOffset k) (first ∷ i ∷ next ∷ last)) (its-count q old new next values n h)
+        ∙ ap (λ (i : ℕ). sets (sets table (wireOffset first) (concatMap wireWordsOf (q .wires))) (recordOffset k) (first ∷ length (q .wires) ∷ i ∷ last)) (its-next q old new next values n h)
         ∙ ap (λ (i : ℕ). sets (sets table (wireOffset i) (concatMap wireWordsOf (q .wires))) (recordOffset k) (recordOf i q)) (f .passed)
         ∙ ap (λ (i : ℕ). sets (sets table (wireOffset (wireCount (firstStates t s k))) (concatMap wireWordsOf (q .wires))) (recordOffset i) (recordOf (wireCount (firstStates t s k)) q)) (sym (first-length t s k))
         ∙ state-written (take recordsOffset table) (firstStates t s k) q whole few room table (f .words)
@@ -160,9 +167,14 @@ module _ (t : List ℕ) (s : Groups) (G : Grouped (graphOf t) s) (edges starts s
         ap (λ (x : List ℕ). new ++ x) (drop-of-length-le (drop (wireOffset first) table) {i = length table - (wireOffset first)} (omega arith)) ∙ append-nil new
 
     pub made-words : (rest table′ last : List ℕ) → rest ≡ replicate (maxRegisters - getD t 1 0) 0 → table′ ≡ take (wireOffset first) table ++ new
-        → last ≡ sets table′ (recordOffset k) (first ∷ n ∷ next ∷ (values ++ rest)) → last ≡ withStates (take recordsOffset table) (firstStates t s (k + 1))
+        → last ≡ sets table′ (recordOffset k) (first ∷ n ∷ next ∷ ((values ++ rest) ++ (touchWord (take (getD t 1 0) (values ++ rest)) ∷ []))) → last ≡ withStates (take recordsOffset table) (firstStates t s (k + 1))
     made-words rest table′ last z e w =
         let v : values ++ rest ≡ padded maxRegisters 0 (nth t s k .nextRegisters) =
         registers-padded (getD t 1 0) values rest (nth t s k .nextRegisters) m as-many registers-low m-low (put-registers t (p .admits) s G table k first f below)
         (its-registers (nth t s k) (drop (wireOffset first) table) new next (take m values) n held) z in
-        w ∙ ap (λ (l : List ℕ). sets l (recordOffset k) (first ∷ n ∷ next ∷ (values ++ rest))) e ∙ put-words t (p .admits) s G table k first f below new next (take m values) n held (values ++ rest) v
+        let all = registers-all (getD t 1 0) values (nth t s k .nextRegisters) m as-many m-low (put-registers t (p .admits) s G table k first f below)
+        (its-registers (nth t s k) (drop (wireOffset first) table) new next (take m values) n held) in
+        let touch : touchWord (take (getD t 1 0) (values ++ rest)) ≡ touchWord (nth t s k .nextRegisters) = ap touchWord (take-at values rest (getD t 1 0) as-many ∙ all) in
+        let behind = (values ++ rest) ++ (touchWord (take (getD t 1 0) (values ++ rest)) ∷ []) in
+        w ∙ ap (λ (l : List ℕ). sets l (recordOffset k) (first ∷ n ∷ next ∷ behind)) e
+        ∙ put-words t (p .admits) s G table k first f below new next (take m values) n held behind (ap₂ (λ (l : List ℕ) (x : ℕ). l ++ (x ∷ [])) v touch)

@@ -9,7 +9,7 @@ use lib.Dec.{eqb}
 use lib.ListN.{length, getD, take, replicate, set, length-append, length-replicate, length-set, replicate-append-replicate}
 use lib.Seq.{take-suc, take-all, sets}
 use Rattle.buffers.proofs.Copies.{sets-append, sets-over}
-use Rattle.fsmd.specs.Layout.{maxStates, maxBlocks, startersOffset, blockStatesOffset, machineWords}
+use Rattle.fsmd.specs.Layout.{maxStates, maxBlocks, maxRegisters, startersOffset, blockStatesOffset, touchOffset, machineWords}
 use Rattle.runs.specs.Lists.{mem}
 use Rattle.placement.specs.PlacementBytes.{marked}
 use Rattle.synthesis.specs.StateWords.{withStates}
@@ -34,12 +34,14 @@ head-written n c r x y e g h =
 
 -- ---- a record
 
-pub record-written : (w s : List ℕ) (at a b c : ℕ) → sets (set (set (set w at a) (at + 1) b) (at + 2) c) (at + 3) s ≡ sets w at (a ∷ b ∷ c ∷ s)
-record-written w s at a b c =
+pub record-written : (w s : List ℕ) (at a b c v : ℕ) → length s ≡ maxRegisters
+    → set (sets (set (set (set w at a) (at + 1) b) (at + 2) c) (at + 3) s) (at + touchOffset) v ≡ sets w at (a ∷ b ∷ c ∷ (s ++ (v ∷ [])))
+record-written w s at a b c v l =
     let one : at + 1 ≡ suc at = omega arith in
     let two : at + 2 ≡ suc (suc at) = omega arith in
     let three : at + 3 ≡ suc (suc (suc at)) = omega arith in
-    rw (one, two, three)
+    let last : at + touchOffset ≡ at + length (a ∷ b ∷ c ∷ s) = omega arith in
+    rw (one, two, three, last) (sets-append w at (a ∷ b ∷ c ∷ s) (v ∷ []))
 
 -- ---- the starters' marks
 

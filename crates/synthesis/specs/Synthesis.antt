@@ -43,7 +43,7 @@ abbrev pub made : SynthesisAnswer → List ℕ → List ℕ → List ℕ
 made (Refused n) new old = old
 made Made new old = new
 
--- the words from 13,634 up stay
+-- the words past the table stay
 unfoldable pub synthesisWords : List ℕ → List ℕ → List ℕ
 unfolding synthesisAnswer machine graphOf machineTableOf
 synthesisWords t m = made (synthesisAnswer t m) (machineTableOf (machine (graphOf t)) ++ drop machineWords m) m

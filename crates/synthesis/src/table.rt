@@ -4,6 +4,7 @@ use cfg::GraphTable;
 use cfg::admission;
 use fsmd::MachineTable;
 use fsmd::Wire;
+use fsmd::touch::touch_word;
 use grouping::edges;
 use state::StateProgress;
 ghost use mathlib.Core.Path.{_≡_};
@@ -16,6 +17,7 @@ ghost use Rattle.runs.specs.Lists.{mem};
 ghost use Rattle.cfg.specs.Table.{graphOf, admittedGraph};
 ghost use Rattle.fsmd.specs.Layout.{maxBlocks, maxRegisters, maxWires, recordWords, recordsOffset, machineWords};
 ghost use Rattle.fsmd.specs.Machine.{wireCount};
+ghost use Rattle.fsmd.specs.Touch.{touchWord};
 ghost use Rattle.fsmd.specs.Table.{machineTableOf};
 ghost use Rattle.grouping.specs.Grouping.{groups};
 ghost use Rattle.placement.specs.PlacementBytes.{marked};
@@ -35,7 +37,7 @@ fn write_head(table: &mut [u32], count: u32, registers: u32, starters: &[u8], st
     buffers::widen_bytes(table, MachineTable::BLOCK_STATES, states);
 }
 
-// A state's record at word `at`.
+// A state's record at word `at`. Of the sixteen next references the first `used` are those of registers.
 fn write_record(
     words: &mut [u32],
     at: usize,
@@ -43,14 +45,16 @@ fn write_record(
     count: usize,
     next: u32,
     registers: &[u32],
+    used: usize,
 )
-    requires { ⌜ (at + recordWords ≤ length (now words)) × (length (now registers) ≡ maxRegisters) × (first ≤ maxWires) × (count ≤ maxWires) ⌝ }
-    ensures { λ r. ⌜ now (words .exit) ≡ sets (now (words .entry)) at (first ∷ count ∷ next ∷ now (registers .entry)) ⌝ }
+    requires { ⌜ (at + recordWords ≤ length (now words)) × (length (now registers) ≡ maxRegisters) × (first ≤ maxWires) × (count ≤ maxWires) × (used ≤ maxRegisters) ⌝ }
+    ensures { λ r. ⌜ now (words .exit) ≡ sets (now (words .entry)) at (first ∷ count ∷ next ∷ (now (registers .entry) ++ (touchWord (take used (now (registers .entry))) ∷ []))) ⌝ }
 {
     words[at] = first as u32;
     words[at + MachineTable::WIRE_COUNT] = count as u32;
     words[at + MachineTable::NEXT_STATE] = next;
     buffers::copy_words(words, at + MachineTable::NEXT_REGISTERS, registers);
+    words[at + MachineTable::TOUCH] = touch_word(&registers[..used]);
 }
 
 // A mark at each starter.
@@ -107,6 +111,7 @@ fn one_state(
         made.wires,
         made.next,
         &values,
+        registers,
     );
     first + made.wires
 }

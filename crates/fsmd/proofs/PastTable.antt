@@ -98,14 +98,22 @@ module _ (t u : List ℕ) (whole : machineWords ≤ length t) where
   front : SameFront machineWords (t ++ u) t
   front = front-past machineWords t u whole
 
-  past-whole : machineWords ≤ length (t ++ u)
+  pub past-whole : machineWords ≤ length (t ++ u)
   past-whole = rw length-append (omega arith)
 
-  past-admitted : admittedMachine (t ++ u) ≡ admittedMachine t
+  pub past-admitted : admittedMachine (t ++ u) ≡ admittedMachine t
   past-admitted = admitted-same front
 
   past-machine : admittedMachine t ≡ true → machineOf (t ++ u) ≡ machineOf t
   past-machine h = sym (machine-same (front-sym front) (admitted-facts t h))
+
+  pub past-count : getD (t ++ u) 0 0 ≡ getD t 0 0
+  past-count = front .word 0 (omega arith)
+
+  pub past-state : admittedMachine t ≡ true → (k : ℕ) → k < getD t 0 0 → stateAt (t ++ u) k ≡ stateAt t k
+  past-state h k l =
+      let a = admitted-facts t h in
+      sym (state-same (front-sym front) k (omega (arith, l, a .few-states)) (a .few-registers) (a .in-space k l))
 
   -- ---- runs: registers rs, and words past them
 

@@ -12,7 +12,7 @@ use Rattle.word.specs.Word.{choose}
 use Rattle.runs.specs.Lists.{upFrom}
 use Rattle.runs.proofs.ListLaws.{length-upFrom, upFrom-cons, upFrom-done, getD-map-upFrom}
 use Rattle.fsmd.specs.Layout.{maxRegisters}
-use Rattle.fsmd.specs.Touch.{touches, bitsOf, touchWord}
+use Rattle.fsmd.specs.Touch.{touches, bitsOf, bit, touchWord}
 
 -- ---- words of bits
 
@@ -24,10 +24,6 @@ bits-low : (bs : List Bool) → bitsOf bs < 2 ^ length bs
 unfolding bitsOf
 bits-low [] = omega arith
 bits-low (b ∷ bs) = omega (arith, bits-low bs, bit-low b, two-pow-succ (length bs))
-
--- bit i of a word
-abbrev pub bit : ℕ → ℕ → Bool
-bit w i = eqb (w / 2 ^ i % 2) 1
 
 -- the lowest bit, and those above it
 lowest : (b : Bool) (w : ℕ) → bit (choose b 1 0 + 2 * w) 0 ≡ b

@@ -1,5 +1,5 @@
 -- Which registers a state touches, and its touch word (R-4 of paper 02). Assumes nothing.
-use Prim.Native.Nat.{ℕ, _+_, _*_}
+use Prim.Native.Nat.{ℕ, _+_, _*_, _/_, _%_, _^_}
 use mathlib.Core.Bool.{Bool, not, _&&_}
 use mathlib.Core.List.{List, [], _∷_, map}
 use lib.Dec.{eqb, ltb}
@@ -15,6 +15,10 @@ touches next i = ltb i (length next) && not (eqb (getD next i 0) i)
 unfoldable pub bitsOf : List Bool → ℕ
 bitsOf [] = 0
 bitsOf (b ∷ bs) = choose b 1 0 + 2 * bitsOf bs
+
+-- bit i of a word
+abbrev pub bit : ℕ → ℕ → Bool
+bit w i = eqb (w / 2 ^ i % 2) 1
 
 -- the word whose bit i says whether register i is touched; bits from R up are 0
 unfoldable pub touchWord : List ℕ → ℕ

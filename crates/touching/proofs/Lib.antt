@@ -1,0 +1,4 @@
+pub mod Searches
+pub mod Answers
+pub mod Values
+pub mod PastTable

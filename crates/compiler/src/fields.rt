@@ -5,12 +5,16 @@ use capture::CaptureAnswer;
 use capture::Difference;
 use cfg_text::ReadAnswer;
 use cfg_write::WriteAnswer;
+use fsmd::MachineTable;
 use runs::RunAnswer;
 use synthesis::SynthesisAnswer;
+use touching::FirstTouchingAnswer;
+use touching::TouchesAnswer;
 ghost use Rattle.capture.specs.Capture.{refusalNumber, faultyRecording, faultyLine, sharedCount, differsFlag, differingCycle};
 ghost use Rattle.cfg_text.specs.Read.{readNumber, readLine};
 ghost use Rattle.cfg_write.specs.Write.{writeNumber, writeLength};
 ghost use Rattle.synthesis.specs.Synthesis.{synthesisNumber};
+ghost use Rattle.touching.specs.Touching.{touchesNumber, touchedField, firstNumber, firstState};
 
 pub fn read_number(answer: ReadAnswer) -> u32
     ensures { λ r. ⌜ r ≡ readNumber answer ⌝ }
@@ -174,5 +178,45 @@ pub fn capture_cycle(answer: CaptureAnswer) -> u32
     match difference {
         Difference::Nowhere => 0,
         Difference::At(cycle) => cycle,
+    }
+}
+
+pub fn touches_number(answer: TouchesAnswer) -> u32
+    ensures { λ r. ⌜ r ≡ touchesNumber answer ⌝ }
+{
+    match answer {
+        TouchesAnswer::Refused(number) => number,
+        TouchesAnswer::Answered(_) => 0,
+    }
+}
+
+// 1 where the state touches the register, else 0.
+pub fn touched(answer: TouchesAnswer) -> u32
+    ensures { λ r. ⌜ r ≡ touchedField answer ⌝ }
+{
+    match answer {
+        TouchesAnswer::Refused(_) => 0,
+        TouchesAnswer::Answered(touched) => touched as u32,
+    }
+}
+
+pub fn first_touching_number(answer: FirstTouchingAnswer) -> u32
+    ensures { λ r. ⌜ r ≡ firstNumber answer ⌝ }
+{
+    match answer {
+        FirstTouchingAnswer::Refused(number) => number,
+        FirstTouchingAnswer::Nowhere => 0,
+        FirstTouchingAnswer::At(_) => 0,
+    }
+}
+
+// The state; 255 where there is none.
+pub fn first_touching_state(answer: FirstTouchingAnswer) -> u32
+    ensures { λ r. ⌜ r ≡ firstState answer ⌝ }
+{
+    match answer {
+        FirstTouchingAnswer::Refused(_) => 0,
+        FirstTouchingAnswer::Nowhere => MachineTable::NONE,
+        FirstTouchingAnswer::At(state) => state,
     }
 }

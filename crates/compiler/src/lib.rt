@@ -1,4 +1,4 @@
-// The eight operations, on buffers that the caller lends. Each contract says the whole of what an operation does, on all inputs: its
+// The ten operations, on buffers that the caller lends. Each contract says the whole of what an operation does, on all inputs: its
 // answer, and what every buffer holds at the end. A refused operation leaves its buffers as they were.
 pub mod fields; // fields.rt: the numbers and values of an answer
 
@@ -25,12 +25,16 @@ ghost use Rattle.cfg.specs.Run.{graphRefusal, graphWordsRefusal, graphAnswer, g
 ghost use Rattle.fsmd.specs.Machine.{machineRunner};
 ghost use Rattle.fsmd.specs.Table.{machineOf};
 ghost use Rattle.fsmd.specs.Run.{machineRefusal, machineWordsRefusal, machineAnswer, machineRegisters, machineWordsAnswer, machineWordsRegisters};
+ghost use Rattle.touching.specs.Touching.{touchesAnswer, firstTouchingAnswer};
+ghost use Rattle.touching.specs.Values.{TouchesValues, FirstTouchingValues};
 ghost use Rattle.compiler.specs.Answers.{ReadValues, WriteValues, SynthesisValues, CaptureValues};
 use capture::CaptureAnswer;
 use cfg_text::ReadAnswer;
 use cfg_write::WriteAnswer;
 use runs::RunAnswer;
 use synthesis::SynthesisAnswer;
+use touching::FirstTouchingAnswer;
+use touching::TouchesAnswer;
 
 // "Read text into graph table". Where it succeeds, writing the table gives back the text: demand 2.
 pub fn read_text(text: &[u8], table: &mut [u32]) -> ReadAnswer
@@ -119,4 +123,20 @@ pub fn compare_captures(registers: u32, first: &[u8], second: &[u8]) -> CaptureA
     ensures { λ r. ⌜ Means registers (now (first .entry)) (now (second .entry)) r ⌝ }
 {
     capture::compare_captures(registers, first, second)
+}
+
+// "Which states touch this register?", asked of one state.
+pub fn touches(machine: &[u32], state: u32, register: u32) -> TouchesAnswer
+    ensures { λ r. ⌜ r ≡ touchesAnswer (now (machine .entry)) state register ⌝ }
+    ensures { λ r. ⌜ TouchesValues (now (machine .entry)) state register r ⌝ }
+{
+    touching::touches(machine, state, register)
+}
+
+// The lowest-numbered state that touches a register.
+pub fn first_touching(machine: &[u32], register: u32) -> FirstTouchingAnswer
+    ensures { λ r. ⌜ r ≡ firstTouchingAnswer (now (machine .entry)) register ⌝ }
+    ensures { λ r. ⌜ FirstTouchingValues (now (machine .entry)) register r ⌝ }
+{
+    touching::first_touching(machine, register)
 }

@@ -8,7 +8,7 @@ use mathlib.Core.Path.{_≡_, refl, sym, ap, ap₂, _∙_}
 use lib.Dec.{eqb, ltb}
 use lib.ListN.{length, getD, length-map, List·getD-eq-default}
 use borrow.Author.Tests.{ltb-true, ltb-false, lt-ltb, eq-eqb, ne-eqb}
-use Rattle.word.specs.Word.{choose}
+use Rattle.word.specs.Word.{truth}
 use Rattle.runs.specs.Lists.{upFrom}
 use Rattle.runs.proofs.ListLaws.{length-upFrom, upFrom-cons, upFrom-done, getD-map-upFrom}
 use Rattle.fsmd.specs.Layout.{maxRegisters}
@@ -16,7 +16,7 @@ use Rattle.fsmd.specs.Touch.{touches, bitsOf, bit, touchWord}
 
 -- ---- words of bits
 
-bit-low : (b : Bool) → choose b 1 0 ≤ 1
+pub bit-low : (b : Bool) → truth b ≤ 1
 bit-low true = omega arith
 bit-low false = omega arith
 
@@ -26,13 +26,13 @@ bits-low [] = omega arith
 bits-low (b ∷ bs) = omega (arith, bits-low bs, bit-low b, two-pow-succ (length bs))
 
 -- the lowest bit, and those above it
-lowest : (b : Bool) (w : ℕ) → bit (choose b 1 0 + 2 * w) 0 ≡ b
+lowest : (b : Bool) (w : ℕ) → bit (truth b + 2 * w) 0 ≡ b
 lowest true w = eq-eqb ((1 + 2 * w) / 2 ^ 0 % 2) 1 (omega arith)
 lowest false w = ne-eqb ((0 + 2 * w) / 2 ^ 0 % 2) 1 (λ e. absurd (omega arith))
 
-above : (b : Bool) (w i : ℕ) → bit (choose b 1 0 + 2 * w) (suc i) ≡ bit w i
+above : (b : Bool) (w i : ℕ) → bit (truth b + 2 * w) (suc i) ≡ bit w i
 above b w i =
-    let v = choose b 1 0 + 2 * w in
+    let v = truth b + 2 * w in
     let half : v / 2 ≡ w = omega (arith, bit-low b) in
     ap (λ (d : ℕ). eqb (v / d % 2) 1) (pow-succ' 2 i)
     ∙ ap (λ (x : ℕ). eqb (x % 2) 1) (sym (div-div-eq-div-mul v 2 (2 ^ i)) ∙ ap (λ (x : ℕ). x / 2 ^ i) half)
@@ -61,11 +61,11 @@ module _ (next : List ℕ) where
   unfolding bitsOf
   bits-none i h = ap (λ (l : List ℕ). bitsOf (map (touches next) l)) (upFrom-done i (length next) h)
 
-  pub bits-more : (i : ℕ) → i < length next → bitsFrom next i ≡ choose (not (eqb (getD next i 0) i)) 1 0 + 2 * bitsFrom next (i + 1)
+  pub bits-more : (i : ℕ) → i < length next → bitsFrom next i ≡ truth (not (eqb (getD next i 0) i)) + 2 * bitsFrom next (i + 1)
   unfolding bitsOf
   bits-more i h =
       ap (λ (l : List ℕ). bitsOf (map (touches next) l)) (upFrom-cons i (length next) h)
-      ∙ ap (λ (b : Bool). choose (b && not (eqb (getD next i 0) i)) 1 0 + 2 * bitsFrom next (i + 1)) (lt-ltb i (length next) h)
+      ∙ ap (λ (b : Bool). truth (b && not (eqb (getD next i 0) i)) + 2 * bitsFrom next (i + 1)) (lt-ltb i (length next) h)
 
   pub bits-few : (i : ℕ) → length next ≤ maxRegisters → bitsFrom next i < 2 ^ maxRegisters
   bits-few i h =

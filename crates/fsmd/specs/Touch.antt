@@ -4,7 +4,7 @@ use mathlib.Core.Bool.{Bool, not, _&&_}
 use mathlib.Core.List.{List, [], _∷_, map}
 use lib.Dec.{eqb, ltb}
 use lib.ListN.{length, getD}
-use Rattle.word.specs.Word.{choose}
+use Rattle.word.specs.Word.{truth}
 use Rattle.runs.specs.Lists.{upFrom}
 
 -- next references, one for each register below R, touch register i: "i is below R and the next reference of register i is anything but i itself"
@@ -14,7 +14,7 @@ touches next i = ltb i (length next) && not (eqb (getD next i 0) i)
 -- the word whose bits, from the lowest, are set where the list has true
 unfoldable pub bitsOf : List Bool → ℕ
 bitsOf [] = 0
-bitsOf (b ∷ bs) = choose b 1 0 + 2 * bitsOf bs
+bitsOf (b ∷ bs) = truth b + 2 * bitsOf bs
 
 -- bit i of a word
 abbrev pub bit : ℕ → ℕ → Bool

@@ -1,4 +1,4 @@
-// The eight operations as C functions: include/gutkavu.h declares them. Each returns the refusal's number, 0 for success, and sets every
+// The ten operations as C functions: include/gutkavu.h declares them. Each returns the refusal's number, 0 for success, and sets every
 // other field on every call.
 use capture::CaptureAnswer;
 use compiler::fields;
@@ -10,6 +10,7 @@ ghost use Rattle.cfg_write.specs.Write.{writeAnswer, writeBytes, writeNumber, w
 ghost use Rattle.synthesis.specs.Synthesis.{synthesisAnswer, synthesisWords, synthesisNumber};
 ghost use Rattle.cfg.specs.Run.{graphAnswer, graphRegisters, graphWordsAnswer, graphWordsRegisters};
 ghost use Rattle.fsmd.specs.Run.{machineAnswer, machineRegisters, machineWordsAnswer, machineWordsRegisters};
+ghost use Rattle.touching.specs.Touching.{touchesAnswer, touchesNumber, touchedField, firstTouchingAnswer, firstNumber, firstState};
 ghost use Rattle.host.specs.Fields.{RunFields, CaptureFields};
 
 #[no_mangle]
@@ -169,4 +170,29 @@ pub extern "C" fn gutkavu_compare_captures(
 {
     let answer = compiler::compare_captures(registers, first, second);
     set_capture(answer, recording, line, shared, differs, cycle)
+}
+
+#[no_mangle]
+pub extern "C" fn gutkavu_touches(
+    machine: &[u32],
+    state: u32,
+    register: u32,
+    touched: &mut u32,
+) -> u32
+    ensures { λ r. ⌜ r ≡ touchesNumber (touchesAnswer (now (machine .entry)) state register) ⌝ }
+    ensures { λ _. ⌜ now (touched .exit) ≡ touchedField (touchesAnswer (now (machine .entry)) state register) ⌝ }
+{
+    let answer = compiler::touches(machine, state, register);
+    *touched = fields::touched(answer);
+    fields::touches_number(answer)
+}
+
+#[no_mangle]
+pub extern "C" fn gutkavu_first_touching(machine: &[u32], register: u32, state: &mut u32) -> u32
+    ensures { λ r. ⌜ r ≡ firstNumber (firstTouchingAnswer (now (machine .entry)) register) ⌝ }
+    ensures { λ _. ⌜ now (state .exit) ≡ firstState (firstTouchingAnswer (now (machine .entry)) register) ⌝ }
+{
+    let answer = compiler::first_touching(machine, register);
+    *state = fields::first_touching_state(answer);
+    fields::first_touching_number(answer)
 }

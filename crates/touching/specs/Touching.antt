@@ -5,7 +5,7 @@ use mathlib.Core.List.{List}
 use mathlib.Core.Option.{Option, none, some}
 use lib.ListN.{length}
 use lib.Dec.{ltb}
-use Rattle.word.specs.Word.{choose}
+use Rattle.word.specs.Word.{choose, truth}
 use Rattle.runs.specs.Lists.{upFrom, first}
 use Rattle.fsmd.specs.Layout.{machineWords, absent}
 use Rattle.fsmd.specs.Touch.{touches}
@@ -47,7 +47,7 @@ touchesNumber (touched.Answered b) = 0
 
 abbrev pub touchedField : TouchesAnswer → ℕ
 touchedField (touched.Refused n) = 0
-touchedField (touched.Answered b) = choose b 1 0
+touchedField (touched.Answered b) = truth b
 
 abbrev pub firstNumber : FirstTouchingAnswer → ℕ
 firstNumber (Refused n) = n

@@ -1,27 +1,16 @@
 -- `fsmd::touch::touch_word` meets its contract: after the registers from i on, the word has their bits. Assumes nothing.
 use Prim.Native.Nat.{ℕ, _+_, _-_, _^_, _<_, _≤_}
 use native.Mathlib.Omega.{arith}
-use mathlib.Core.Bool.{Bool, true, false, not}
+use mathlib.Core.Bool.{not}
 use mathlib.Core.Path.{_≡_, refl, sym, ap, _∙_}
 use lib.Dec.{eqb}
 use lib.ListN.{length, getD}
-use mir.Val.{boolByte}
 use denote.Ref.{now}
 use borrow.Author.Needs.{needs}
-use Rattle.word.specs.Word.{choose}
 use Rattle.fsmd.specs.Layout.{maxRegisters}
-use Rattle.fsmd.proofs.TouchLaws.{bitsFrom, bits-all, bits-none, bits-more, bits-few}
+use Rattle.fsmd.proofs.TouchLaws.{bit-low, bitsFrom, bits-all, bits-none, bits-more, bits-few}
 use Rattle.fsmd.proofs.touch.touch_word.Statement.{statement}
 use Rattle.fsmd.proofs.touch.touch_word.Tie as tie
-
--- a test as a number
-byte-is : (b : Bool) → boolByte b ≡ choose b 1 0
-byte-is true = refl
-byte-is false = refl
-
-byte-low : (b : Bool) → boolByte b ≤ 1
-byte-low true = omega arith
-byte-low false = omega arith
 
 abbrev Inv-loop : tie.InvT-loop
 Inv-loop next word₀ i₀ word i = (i ≤ length next) × (word ≡ bitsFrom next i)
@@ -44,7 +33,7 @@ mul-word c = omega (arith, few c)
 add-word : tie.Need-add-word Inv-loop μ-loop
 add-word c =
     let i = c .before .before .loop .i - 1 in
-    omega (arith, few (c .before), byte-low (not (eqb (getD (now (c .before .before .before .args .next)) i 0) i)))
+    omega (arith, few (c .before), bit-low (not (eqb (getD (now (c .before .before .before .args .next)) i 0) i)))
 
 loop-less : tie.Need-loop-less Inv-loop μ-loop
 loop-less c = omega arith
@@ -54,10 +43,9 @@ loop-again c =
     let b = c .before .before in
     let next = now (b .before .args .next) in
     let i = b .loop .i - 1 in
-    let back : i + 1 ≡ b .loop .i = omega (arith, c .before .loop-test .taken) in
-    let bit = not (eqb (getD next i 0) i) in (
+    let back : i + 1 ≡ b .loop .i = omega (arith, c .before .loop-test .taken) in (
       omega (arith, b .loop .inv .0),
-      omega (arith, byte-is bit, b .loop .inv .1, bits-more next i (omega (arith, b .loop .inv .0, c .before .loop-test .taken)), ap (bitsFrom next) back),
+      omega (arith, b .loop .inv .1, bits-more next i (omega (arith, b .loop .inv .0, c .before .loop-test .taken)), ap (bitsFrom next) back),
     )
 
 returns : tie.Need-returns Inv-loop μ-loop

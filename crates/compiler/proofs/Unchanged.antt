@@ -1,4 +1,4 @@
--- No operation touches registers from R up or words past a table's length. Assumes nothing.
+-- Every operation leaves registers from R up and words past a table's length as they are. Assumes nothing.
 use native.Mathlib.Omega.{arith}
 use Rattle.cfg.proofs.KeptRegisters.{graph-keeps, graph-words-keep}
 use Rattle.cfg.proofs.PastTable as graph
@@ -6,8 +6,9 @@ use Rattle.cfg_text.proofs.PastTable.{past-read-answer, past-read-words}
 use Rattle.cfg_write.proofs.PastTable.{past-write-answer, past-write-bytes}
 use Rattle.fsmd.proofs.KeptRegisters.{machine-keeps, machine-words-keep}
 use Rattle.fsmd.proofs.PastTable as machine
+use Rattle.touching.proofs.PastTable.{past-touches, past-first}
 use Rattle.synthesis.proofs.PastTables.{past-synthesis-answer, past-synthesis-words}
-use Rattle.compiler.specs.Untouched.{RegistersKept, PastLengths}
+use Rattle.compiler.specs.Unchanged.{RegistersKept, PastLengths}
 
 pub registers-kept : RegistersKept
 registers-kept = record {
@@ -35,4 +36,6 @@ past-lengths = record {
   machine-registers = λ m u rs v h k start budget. machine.past-run-registers m u (omega arith) rs v (omega arith) start budget;
   machine-with-words-answer = λ m u rs v h k start budget words. machine.past-words-answer m u (omega arith) rs v (omega arith) start budget words;
   machine-with-words-registers = λ m u rs v h k start budget words. machine.past-words-registers m u (omega arith) rs v (omega arith) start budget words;
+  touches-answer = λ m u h k i. past-touches m u (omega arith) i k;
+  first-touching-answer = λ m u h i. past-first m u (omega arith) i;
 }

@@ -1,4 +1,4 @@
--- What no operation touches, as paper 01 says it: registers from R up, and words past a table's length. Assumes nothing.
+-- What every operation leaves as it is, as paper 01 says it: registers from R up, and words past a table's length. Assumes nothing.
 use Prim.Native.Nat.{ℕ}
 use mathlib.Core.List.{List, _++_}
 use mathlib.Core.Path.{_≡_}
@@ -12,6 +12,7 @@ use Rattle.fsmd.specs.Layout.{machineWords, maxRegisters}
 use Rattle.fsmd.specs.Table.{machineRegisterCount}
 use Rattle.fsmd.specs.Run.{machineAnswer, machineRegisters, machineWordsAnswer, machineWordsRegisters}
 use Rattle.synthesis.specs.Synthesis.{synthesisAnswer, synthesisWords}
+use Rattle.touching.specs.Touching.{touchesAnswer, firstTouchingAnswer}
 
 -- "Registers from R up keep their words." R is the table's word 1; a table that is not admitted is refused, and so keeps them all.
 pub record RegistersKept : Type 0 where
@@ -50,3 +51,5 @@ pub record PastLengths : Type 0 where
       → machineWordsAnswer (m ++ u) (rs ++ v) start budget words ≡ machineWordsAnswer m rs start budget words
   pub machine-with-words-registers : (m u rs v : List ℕ) → length m ≡ machineWords → length rs ≡ maxRegisters → (start budget : ℕ) (words : List ℕ)
       → machineWordsRegisters (m ++ u) (rs ++ v) start budget words ≡ machineWordsRegisters m rs start budget words ++ v
+  pub touches-answer : (m u : List ℕ) → length m ≡ machineWords → (k i : ℕ) → touchesAnswer (m ++ u) k i ≡ touchesAnswer m k i
+  pub first-touching-answer : (m u : List ℕ) → length m ≡ machineWords → (i : ℕ) → firstTouchingAnswer (m ++ u) i ≡ firstTouchingAnswer m i

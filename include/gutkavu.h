@@ -60,6 +60,8 @@ enum {
  *
  * The touch word of a state tells which registers it may change: bit r is set where r is below R and the next reference
  * of register r is anything but r itself, and no other bit is. One that is wrong in a state below N is refused (10).
+ * Synthesis makes a state with an ite touch every register, by the wires that choose between its ways; any other state
+ * touches those that its blocks write.
  *
  * A table of the layout before has 13634 words and no touch words. It is refused as short (7), and in a longer buffer
  * it is no table of this layout; a host that converts it moves records and wires and writes the touch words. Where it

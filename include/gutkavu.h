@@ -1,4 +1,4 @@
-/* A compiler of control-flow graphs into state machines: eight operations on buffers that the caller lends.
+/* A compiler of control-flow graphs into state machines: ten operations on buffers that the caller lends.
  *
  * Every function returns the number of a refusal, or 0. On a refusal no buffer is changed, and every other field is
  * set to 0 unless its comment says otherwise. Words of a buffer past the length of its table are neither read nor
@@ -9,7 +9,7 @@
  *   1  text too long                        6  table not one that reading makes
  *   2  no line form, or no line feed        7  table or register buffer short
  *   3  a form not due here                  8  output short
- *   4  register not below R                 9  start is no block or no state
+ *   4  register not below R                 9  start is no block or no state, or a state asked about is none
  *   5  target not below B                  10  no machine table
  *  11  starter list without block 0 or the start block, or with a block not below B
  *  12  a table that holds code 20, in a run without words
@@ -40,7 +40,7 @@ extern "C" {
 enum {
     GUTKAVU_TEXT_BYTES = 16384,    /* of a text, at most */
     GUTKAVU_GRAPH_WORDS = 2562,    /* of a graph table */
-    GUTKAVU_MACHINE_WORDS = 13634, /* of a machine table */
+    GUTKAVU_MACHINE_WORDS = 13698, /* of a machine table */
     GUTKAVU_REGISTER_WORDS = 16,   /* of a register buffer, at least */
     GUTKAVU_NONE = 255             /* no block, or no state */
 };
@@ -56,14 +56,25 @@ enum {
  *
  * The wires of a state work out all its blocks, also those that the run does not pass. So word c of an add or sub wire
  * (codes 3 and 4) is the reference of its block's arrival, checked as a and b are (refusal 10), and the wire counts for
- * the flag where that value is nonzero. A table from before there was a flag has 0 there, the reference of register 0:
- * it is still admitted and runs as it did, but its flag means nothing. */
+ * the flag where that value is nonzero.
+ *
+ * The touch word of a state tells which registers it may change: bit r is set where r is below R and the next reference
+ * of register r is anything but r itself, and no other bit is. One that is wrong in a state below N is refused (10).
+ * Synthesis makes a state with an ite touch every register, by the wires that choose between its ways; any other state
+ * touches those that its blocks write.
+ *
+ * A table of the layout before has 13634 words and no touch words. It is refused as short (7), and in a longer buffer
+ * it is no table of this layout; a host that converts it moves records and wires and writes the touch words. Where it
+ * is also from before there was a flag its words c are 0, the reference of register 0: once converted it is admitted
+ * and runs as it did, but its flag means nothing. */
 enum {
     GUTKAVU_STARTERS = 2,      /* the starter of each state */
     GUTKAVU_BLOCK_STATES = 66, /* the state of each block, GUTKAVU_NONE for an absent one */
-    GUTKAVU_RECORDS = 130,     /* of each state: first wire, wire count, references of the next state and registers */
-    GUTKAVU_RECORD_WORDS = 19,
-    GUTKAVU_WIRES = 1346, /* the wires of all states: code, a, b, c */
+    GUTKAVU_RECORDS = 130,     /* of each state: first wire, wire count, references of the next state and registers,
+                                  touch word */
+    GUTKAVU_RECORD_WORDS = 20,
+    GUTKAVU_TOUCH = 19,   /* the touch word of a record */
+    GUTKAVU_WIRES = 1410, /* the wires of all states: code, a, b, c */
     GUTKAVU_WIRE_WORDS = 4
 };
 
@@ -108,6 +119,14 @@ uint32_t gutkavu_run_machine_with_words(const uint32_t *machine, size_t machine_
                                         size_t registers_len, uint32_t start, uint32_t budget, const uint32_t *words,
                                         size_t words_len, uint32_t *outcome, uint32_t *count, uint32_t *next,
                                         uint32_t *flag);
+
+/* Asks whether a state of a machine may change a register. Refusals 7, 10, 9. Sets touched to 1 where bit reg of the
+ * state's touch word is set, else to 0. Any reg may be asked about; one not below R is never touched. */
+uint32_t gutkavu_touches(const uint32_t *machine, size_t machine_len, uint32_t state, uint32_t reg, uint32_t *touched);
+
+/* Asks for the lowest-numbered state of a machine that may change a register. Refusals 7, 10. Sets state, to
+ * GUTKAVU_NONE where there is none. Any reg may be asked about; one not below R is never touched. */
+uint32_t gutkavu_first_touching(const uint32_t *machine, size_t machine_len, uint32_t reg, uint32_t *state);
 
 /* Compares two recordings of one run, the first an array's capture, say, and the second a model's run; either may
  * lack cycles, and both may have any length, 0 included. A line is `cycle,state,` and as many register words as

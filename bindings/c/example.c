@@ -1,6 +1,7 @@
-/* How a C program reads a graph, synthesises its machine, runs both, without words and with them, compares a recording
- * of the machine with one of the array, and learns that a sum went over: example SWING TURN ARRAY WRAP, the paths of
- * examples/swing.txt, examples/turn.txt, examples/turn-array.capture and examples/wrap.txt. */
+/* How a C program reads a graph, synthesises its machine, runs both, without words and with them, asks which states
+ * touch a register, compares a recording of the machine with one of the array, and learns that a sum went over: example
+ * SWING TURN ARRAY WRAP, the paths of examples/swing.txt, examples/turn.txt, examples/turn-array.capture and
+ * examples/wrap.txt. */
 #include "gutkavu.h"
 
 #include <inttypes.h>
@@ -146,6 +147,31 @@ static void print_turn(void)
     printf("dry after blocks %" PRIu32 ", cycles %" PRIu32 "\n", blocks, cycles);
 }
 
+/* The registers that each state touches, and the first state that touches each register; there is none for the register
+ * past the last. */
+static void print_touched(void)
+{
+    uint32_t touched, first;
+    for (uint32_t state = 0; state < machine[0]; state++) {
+        printf("  state %" PRIu32 ": registers", state);
+        for (uint32_t reg = 0; reg < machine[1]; reg++) {
+            made(gutkavu_touches(machine, GUTKAVU_MACHINE_WORDS, state, reg, &touched));
+            if (touched)
+                printf(" %" PRIu32, reg);
+        }
+        printf("\n");
+    }
+    printf("  first states:");
+    for (uint32_t reg = 0; reg <= machine[1]; reg++) {
+        made(gutkavu_first_touching(machine, GUTKAVU_MACHINE_WORDS, reg, &first));
+        if (first == GUTKAVU_NONE)
+            printf(" none");
+        else
+            printf(" %" PRIu32, first);
+    }
+    printf("\n");
+}
+
 /* The text with the first `old` in it made `new`. */
 static size_t replace(const char *text, const char *old, const char *new, char *out)
 {
@@ -221,6 +247,8 @@ int main(int count, char **arguments)
     compile(text, load(arguments[2], text));
     printf("rate of turn\n");
     print_turn();
+    printf("touched registers\n");
+    print_touched();
     load(arguments[3], text);
     printf("array against model\n");
     print_captures(text);

@@ -1,7 +1,7 @@
 //! How a Rust program reads a graph, synthesises its machine, runs both, without words and with
-//! them, compares a recording of the machine with one of the array, and learns that a sum went
-//! over: `example SWING TURN ARRAY WRAP`, the paths of examples/swing.txt, examples/turn.txt,
-//! examples/turn-array.capture and examples/wrap.txt.
+//! them, asks which states touch a register, compares a recording of the machine with one of the
+//! array, and learns that a sum went over: `example SWING TURN ARRAY WRAP`, the paths of
+//! examples/swing.txt, examples/turn.txt, examples/turn-array.capture and examples/wrap.txt.
 
 use gutkavu::captures::{self, Comparison, Line, Recording};
 use gutkavu::{Graph, Machine, Outcome};
@@ -93,6 +93,29 @@ fn print_turn(graph: &Graph, machine: &Machine) -> Result<(), Box<dyn Error>> {
     Ok(())
 }
 
+/// The registers that each state touches, and the first state that touches each register; there is
+/// none for the register past the last.
+fn print_touched(machine: &Machine) -> Result<(), Box<dyn Error>> {
+    for state in 0..machine.states() {
+        print!("  state {state}: registers");
+        for register in 0..machine.registers() {
+            if machine.touches(state, register)? {
+                print!(" {register}");
+            }
+        }
+        println!();
+    }
+    print!("  first states:");
+    for register in 0..=machine.registers() {
+        match machine.first_touching(register)? {
+            Some(state) => print!(" {state}"),
+            None => print!(" none"),
+        }
+    }
+    println!();
+    Ok(())
+}
+
 /// Runs the machine with words, a cycle a call, and writes down the state and registers that each
 /// cycle begins with.
 fn record(machine: &Machine) -> Result<String, Box<dyn Error>> {
@@ -165,6 +188,8 @@ fn main() -> Result<(), Box<dyn Error>> {
     let machine = graph.synthesise();
     println!("rate of turn");
     print_turn(&graph, &machine)?;
+    println!("touched registers");
+    print_touched(&machine)?;
     println!("array against model");
     print_captures(&machine, &std::fs::read_to_string(array)?)?;
     let graph: Graph = std::fs::read_to_string(wrap)?.parse()?;

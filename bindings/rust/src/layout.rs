@@ -37,12 +37,12 @@ pub mod machine {
     pub const BLOCK_STATES: usize = STARTERS + super::MOST_STATES;
     /// A record for each state.
     pub const RECORDS: usize = BLOCK_STATES + super::MOST_BLOCKS;
-    pub const RECORD_WORDS: usize = 19;
+    pub const RECORD_WORDS: usize = 20;
     /// The wires of all states.
     pub const WIRES: usize = RECORDS + super::MOST_STATES * RECORD_WORDS;
     /// A wire: code, a, b, c. In an add or sub wire (codes 3 and 4) c is the reference of its
     /// block's arrival, checked as a and b are; the wire counts for the flag of a run where that
-    /// value is nonzero. A table from before there was a flag has 0 there, which is register 0.
+    /// value is nonzero. Tables from before there was a flag have 0 there, which is register 0.
     pub const WIRE_WORDS: usize = 4;
 
     // Within a record.
@@ -54,11 +54,16 @@ pub mod machine {
     pub const NEXT_STATE: usize = 2;
     /// The references of the next registers.
     pub const NEXT_REGISTERS: usize = 3;
+    /// The touch word: bit r is set where r is below R and the next reference of register r is
+    /// anything but r itself, and no other bit is. One that is wrong in a state below N is refused
+    /// with 10.
+    pub const TOUCH: usize = 19;
 }
 
 // The parts fill their tables.
 const _: () = {
     assert!(graph::FIRST_BLOCK + MOST_BLOCKS * graph::BLOCK_WORDS == GRAPH_WORDS);
-    assert!(machine::NEXT_REGISTERS + REGISTER_WORDS == machine::RECORD_WORDS);
+    assert!(machine::NEXT_REGISTERS + REGISTER_WORDS == machine::TOUCH);
+    assert!(machine::TOUCH + 1 == machine::RECORD_WORDS);
     assert!(machine::WIRES + MOST_WIRES * machine::WIRE_WORDS == MACHINE_WORDS);
 };

@@ -53,6 +53,20 @@
 //! # Ok::<(), Box<dyn std::error::Error>>(())
 //! ```
 //!
+//! A machine is asked which registers a state may change, and for the first state that may change a
+//! register.
+//!
+//! ```
+//! use gutkavu::Graph;
+//!
+//! let graph: Graph = "graph,2,2\nblock,0\ngoto,1\nblock,1\nadd,0,0,1\ngoto,1\n".parse()?;
+//! let machine = graph.synthesise();
+//! assert_eq!(machine.starters(), [0, 1]);
+//! assert_eq!([machine.touches(0, 0)?, machine.touches(1, 0)?], [false, true]);
+//! assert_eq!([0, 1].map(|register| machine.first_touching(register)), [Ok(Some(1)), Ok(None)]);
+//! # Ok::<(), Box<dyn std::error::Error>>(())
+//! ```
+//!
 //! Two recordings of one run, an array's capture and a model's run, are compared cycle by cycle;
 //! either may lack cycles. [`captures`] has the form of their lines.
 //!
@@ -65,7 +79,7 @@
 //! # Ok::<(), Box<dyn std::error::Error>>(())
 //! ```
 //!
-//! [`operations`] has the eight operations on lent buffers, with every field that they answer, for
+//! [`operations`] has the ten operations on lent buffers, with every field that they answer, for
 //! programs that keep their own tables. [`layout`] says where things stand in a table.
 
 pub mod captures;
@@ -88,7 +102,7 @@ pub const TEXT_BYTES: usize = 16_384;
 /// Words of a graph table.
 pub const GRAPH_WORDS: usize = 2_562;
 /// Words of a machine table.
-pub const MACHINE_WORDS: usize = 13_634;
+pub const MACHINE_WORDS: usize = 13_698;
 /// Words of a register buffer, at least.
 pub const REGISTER_WORDS: usize = 16;
 /// No block, or no state.

@@ -1,20 +1,21 @@
 //! A machine, held as its table.
 
 use crate::layout::{machine::*, MOST_BLOCKS, MOST_STATES};
-use crate::{operations, Refusal, Run, RunWithWords, MACHINE_WORDS};
+use crate::{operations, Refusal, Run, RunWithWords, MACHINE_WORDS, NONE};
 use std::fmt;
 
 /// A state machine. One made by synthesis runs from each of its states; one made of other words may
-/// be refused when it is run. The flag of a run means nothing where the table is from before there
-/// was a flag ([`WIRE_WORDS`]); the rest of the answer is as it was.
+/// be refused when it is run or asked. Where words c of sums are 0, as in a table from before there
+/// was a flag ([`WIRE_WORDS`]), the flag of a run means nothing; the rest of the answer is as it
+/// was.
 #[derive(Clone, PartialEq, Eq, Hash)]
 pub struct Machine {
     words: Box<[u32; MACHINE_WORDS]>,
 }
 
 impl Machine {
-    /// A machine of any words, which a run may refuse; words past the table are not taken.
-    /// Refusal 7.
+    /// A machine of any words, which a run or a question may refuse; words past the table are not
+    /// taken. Refusal 7, also for the 13,634 words of the layout before touch words.
     pub fn from_words(words: &[u32]) -> Result<Machine, Refusal> {
         let taken = words.get(..MACHINE_WORDS).ok_or(Refusal::TableShort)?;
         let mut table = Box::new([0; MACHINE_WORDS]);
@@ -39,6 +40,22 @@ impl Machine {
         let table = &self.words[..];
         let fields = operations::run_machine_with_words(table, registers, start, budget, words);
         RunWithWords::answer(fields)
+    }
+
+    /// Whether a state may change a register: whether the register's next reference in that state
+    /// is anything but the register itself. Refusals 10, 9. A register not below R is never
+    /// touched.
+    pub fn touches(&self, state: u32, register: u32) -> Result<bool, Refusal> {
+        let fields = operations::touches(&self.words[..], state, register);
+        Refusal::answer(fields.number)?;
+        Ok(fields.touched == 1)
+    }
+
+    /// The lowest-numbered state that may change a register, where there is one. Refusal 10.
+    pub fn first_touching(&self, register: u32) -> Result<Option<u32>, Refusal> {
+        let fields = operations::first_touching(&self.words[..], register);
+        Refusal::answer(fields.number)?;
+        Ok(Some(fields.state).filter(|&state| state != NONE))
     }
 
     /// The number of states, N.

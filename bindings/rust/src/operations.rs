@@ -1,4 +1,4 @@
-//! The eight operations on lent buffers. On a refusal every buffer is left as it was.
+//! The ten operations on lent buffers. On a refusal every buffer is left as it was.
 
 use crate::raw;
 
@@ -33,6 +33,20 @@ pub struct RunWithWordsFields {
     pub count: u32,
     pub next: u32,
     pub flag: u32,
+}
+
+/// `touched` is 1 where the state may change the register, else 0.
+#[derive(Clone, Copy, Debug, PartialEq, Eq)]
+pub struct TouchesFields {
+    pub number: u32,
+    pub touched: u32,
+}
+
+/// The state is the lowest-numbered one that may change the register, 255 for none.
+#[derive(Clone, Copy, Debug, PartialEq, Eq)]
+pub struct FirstTouchingFields {
+    pub number: u32,
+    pub state: u32,
 }
 
 /// The fields of a comparison of two recordings. The recording, 1 or 2, and the line, counted from
@@ -168,6 +182,25 @@ pub fn run_machine_with_words(
         )
     };
     RunWithWordsFields { number, outcome, count, next, flag }
+}
+
+/// Asks whether a state of a machine may change a register, which may be any number.
+pub fn touches(machine: &[u32], state: u32, register: u32) -> TouchesFields {
+    let mut touched = UNSET;
+    let (table, length) = (machine.as_ptr(), machine.len());
+    // SAFETY: as in `read`.
+    let number = unsafe { raw::gutkavu_touches(table, length, state, register, &mut touched) };
+    TouchesFields { number, touched }
+}
+
+/// Asks for the lowest-numbered state of a machine that may change a register, which may be any
+/// number.
+pub fn first_touching(machine: &[u32], register: u32) -> FirstTouchingFields {
+    let mut state = UNSET;
+    let (table, length) = (machine.as_ptr(), machine.len());
+    // SAFETY: as in `read`.
+    let number = unsafe { raw::gutkavu_first_touching(table, length, register, &mut state) };
+    FirstTouchingFields { number, state }
 }
 
 /// Compares two recordings of one run, of `registers` registers each.

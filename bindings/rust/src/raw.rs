@@ -89,6 +89,19 @@ extern "C" {
         next: *mut u32,
         flag: *mut u32,
     ) -> u32;
+    pub fn gutkavu_touches(
+        machine: *const u32,
+        machine_len: usize,
+        state: u32,
+        reg: u32,
+        touched: *mut u32,
+    ) -> u32;
+    pub fn gutkavu_first_touching(
+        machine: *const u32,
+        machine_len: usize,
+        reg: u32,
+        state: *mut u32,
+    ) -> u32;
     pub fn gutkavu_compare_captures(
         registers: u32,
         first: *const u8,

@@ -22,7 +22,7 @@ pub enum Refusal {
     TableShort = 7,
     /// 8: the output is short.
     OutputShort = 8,
-    /// 9: the start is no block or no state.
+    /// 9: the start is no block or no state, or a state asked about is none.
     NoStart = 9,
     /// 10: the table is not a machine's.
     NoMachine = 10,
@@ -75,7 +75,7 @@ impl Refusal {
             Refusal::NoGraph => "table not one that reading makes",
             Refusal::TableShort => "table or register buffer short",
             Refusal::OutputShort => "output short",
-            Refusal::NoStart => "start is no block or no state",
+            Refusal::NoStart => "start is no block or no state, or a state asked about is none",
             Refusal::NoMachine => "no machine table",
             Refusal::NoStarters => {
                 "starter list without block 0 or the start block, or with a block not below B"

@@ -1,0 +1,208 @@
+/* Times this library against an earlier one, both in one process: compare-libraries TEXT.. tools/compare-libraries
+ * builds and runs it. Each library has tables of its own, since the machine table's layout may differ. The functions
+ * called here must have the same form in both: earlier.h is the earlier header with `earlier_` before its names. */
+#include "earlier.h"
+#include "gutkavu.h"
+
+#include <alloca.h>
+#include <stdio.h>
+#include <stdlib.h>
+#include <string.h>
+#include <time.h>
+
+#define SAME_FORM(function)                                                                                            \
+    _Static_assert(__builtin_types_compatible_p(__typeof__(function), __typeof__(earlier_##function)),                 \
+                   #function " has another form in the earlier library")
+SAME_FORM(gutkavu_read);
+SAME_FORM(gutkavu_write);
+SAME_FORM(gutkavu_synthesise);
+SAME_FORM(gutkavu_run_graph);
+SAME_FORM(gutkavu_run_machine);
+SAME_FORM(gutkavu_run_graph_with_words);
+SAME_FORM(gutkavu_run_machine_with_words);
+
+#define SAME_NUMBER(name) _Static_assert((int)name == (int)EARLIER_##name, #name " is another in the earlier library")
+SAME_NUMBER(GUTKAVU_TEXT_BYTES);
+SAME_NUMBER(GUTKAVU_GRAPH_WORDS);
+SAME_NUMBER(GUTKAVU_REGISTER_WORDS);
+SAME_NUMBER(GUTKAVU_STARTERS);
+
+enum {
+    MOST_WORDS = (int)GUTKAVU_MACHINE_WORDS > (int)EARLIER_GUTKAVU_MACHINE_WORDS ? (int)GUTKAVU_MACHINE_WORDS
+                                                                                 : (int)EARLIER_GUTKAVU_MACHINE_WORDS,
+    PAGE = 4096,
+    PLACES = 32,
+    ROUNDS = 9,
+    WORDS = 20000,
+    SAMPLE = 400000 /* ns */
+};
+
+struct library {
+    __typeof__(gutkavu_read) *read;
+    __typeof__(gutkavu_write) *write;
+    __typeof__(gutkavu_synthesise) *synthesise;
+    __typeof__(gutkavu_run_graph) *run_graph;
+    __typeof__(gutkavu_run_machine) *run_machine;
+    __typeof__(gutkavu_run_graph_with_words) *run_graph_with_words;
+    __typeof__(gutkavu_run_machine_with_words) *run_machine_with_words;
+    size_t machine_words;
+    /* Within their pages the tables of both libraries stand at the same places. */
+    _Alignas(PAGE) uint32_t graph[GUTKAVU_GRAPH_WORDS];
+    uint32_t machine[MOST_WORDS];
+    uint32_t made[MOST_WORDS]; /* what read, write and synthesise make */
+};
+
+#define LIBRARY(before, BEFORE)                                                                                        \
+    {.read = before##gutkavu_read,                                                                                     \
+     .write = before##gutkavu_write,                                                                                   \
+     .synthesise = before##gutkavu_synthesise,                                                                         \
+     .run_graph = before##gutkavu_run_graph,                                                                           \
+     .run_machine = before##gutkavu_run_machine,                                                                       \
+     .run_graph_with_words = before##gutkavu_run_graph_with_words,                                                     \
+     .run_machine_with_words = before##gutkavu_run_machine_with_words,                                                 \
+     .machine_words = BEFORE##GUTKAVU_MACHINE_WORDS}
+static struct library now = LIBRARY(, ), earlier = LIBRARY(earlier_, EARLIER_);
+
+enum operation { READ, WRITE, SYNTHESISE, GRAPH, MACHINE, GRAPH_WITH_WORDS, MACHINE_WITH_WORDS };
+
+struct row {
+    const char *name;
+    enum operation operation;
+    uint32_t budget;
+};
+
+static const struct row rows[] = {
+    {"read", READ, 0},
+    {"write", WRITE, 0},
+    {"synthesise", SYNTHESISE, 0},
+    {"run graph, 10000", GRAPH, 10000},
+    {"run graph, 1", GRAPH, 1},
+    {"run graph with words, 10000", GRAPH_WITH_WORDS, 10000},
+    {"run graph with words, 1", GRAPH_WITH_WORDS, 1},
+    {"run machine, 1000", MACHINE, 1000},
+    {"run machine, 1", MACHINE, 1},
+    {"run machine with words, 1000", MACHINE_WITH_WORDS, 1000},
+    {"run machine with words, 1", MACHINE_WITH_WORDS, 1},
+};
+
+static uint8_t text[GUTKAVU_TEXT_BYTES + 1];
+static size_t text_length;
+static uint32_t file[GUTKAVU_REGISTER_WORDS], words[WORDS];
+static volatile uint32_t kept; /* what calls leave, so that the compiler drops none */
+
+static uint32_t call(struct library *of, const struct row *row)
+{
+    uint32_t r[GUTKAVU_REGISTER_WORDS], outcome = 0, count = 0, next = 0, flag = 0, number = 0;
+    const size_t g = GUTKAVU_GRAPH_WORDS, m = of->machine_words, f = GUTKAVU_REGISTER_WORDS;
+    const uint32_t budget = row->budget, *starters = of->machine + GUTKAVU_STARTERS;
+    memcpy(r, file, sizeof r);
+    switch (row->operation) {
+    case READ:
+        number = of->read(text, text_length, of->made, g, &count);
+        break;
+    case WRITE:
+        number = of->write(of->graph, g, (uint8_t *)of->made, GUTKAVU_TEXT_BYTES, &count);
+        break;
+    case SYNTHESISE:
+        number = of->synthesise(of->graph, g, of->made, m);
+        break;
+    case GRAPH:
+        number = of->run_graph(of->graph, g, r, f, 0, budget, &outcome, &count, &next, &flag);
+        break;
+    case MACHINE:
+        number = of->run_machine(of->machine, m, r, f, 0, budget, &outcome, &count, &next, &flag);
+        break;
+    case GRAPH_WITH_WORDS:
+        number = of->run_graph_with_words(of->graph, g, r, f, 0, budget, words, WORDS, starters, of->machine[0],
+                                          &outcome, &count, &next, &flag);
+        break;
+    case MACHINE_WITH_WORDS:
+        number = of->run_machine_with_words(of->machine, m, r, f, 0, budget, words, WORDS, &outcome, &count, &next,
+                                            &flag);
+        break;
+    }
+    kept += r[0] + outcome + count + next + flag;
+    return number;
+}
+
+/* The mean time of a call, in ns. */
+static double sample(struct library *of, const struct row *row, int calls)
+{
+    struct timespec from, to;
+    clock_gettime(CLOCK_MONOTONIC, &from);
+    for (int i = 0; i < calls; i++)
+        call(of, row);
+    clock_gettime(CLOCK_MONOTONIC, &to);
+    return ((double)(to.tv_sec - from.tv_sec) * 1e9 + (double)(to.tv_nsec - from.tv_nsec)) / calls;
+}
+
+/* Both in turns, with the stack moved by 128 bytes a place; adds the lowest of the rounds of each. */
+static void __attribute__((noinline)) at_place(int place, const struct row *row, int calls, double *x, double *y)
+{
+    volatile char *room = alloca(128 * (size_t)place + 16);
+    double least_earlier = 1e18, least_now = 1e18;
+    room[0] = 1;
+    for (int i = 0; i < ROUNDS; i++) {
+        double t = sample(&earlier, row, calls);
+        least_earlier = t < least_earlier ? t : least_earlier;
+        t = sample(&now, row, calls);
+        least_now = t < least_now ? t : least_now;
+    }
+    *x += least_earlier;
+    *y += least_now;
+}
+
+static void print_row(const struct row *row)
+{
+    double of_earlier = 0, of_now = 0;
+    uint32_t number = call(&now, row), number_earlier = call(&earlier, row);
+    if (number || number_earlier) {
+        printf("  %s: refused %u, earlier %u\n", row->name, number, number_earlier);
+        return;
+    }
+    double once = sample(&now, row, 3);
+    for (int place = 0; place < PLACES; place++)
+        at_place(place, row, once < SAMPLE ? (int)(SAMPLE / once) : 1, &of_earlier, &of_now);
+    printf("  %s: %.2f (%.0f ns)\n", row->name, of_now / of_earlier, of_now / PLACES);
+    fflush(stdout);
+}
+
+/* The tables of the text, each made by the library that it is for. */
+static uint32_t prepare(struct library *of)
+{
+    uint32_t line, number = of->read(text, text_length, of->graph, GUTKAVU_GRAPH_WORDS, &line);
+    return number ? number : of->synthesise(of->graph, GUTKAVU_GRAPH_WORDS, of->machine, of->machine_words);
+}
+
+static int print_text(const char *name)
+{
+    FILE *in = fopen(name, "rb");
+    if (in == NULL) {
+        fprintf(stderr, "%s: the file is not there\n", name);
+        return 1;
+    }
+    text_length = fread(text, 1, sizeof text, in);
+    fclose(in);
+    if (prepare(&now) || prepare(&earlier)) {
+        fprintf(stderr, "%s: not the text of a graph\n", name);
+        return 1;
+    }
+    const char *slash = strrchr(name, '/');
+    printf("%s\n", slash ? slash + 1 : name);
+    for (size_t i = 0; i < sizeof rows / sizeof rows[0]; i++)
+        print_row(&rows[i]);
+    return 0;
+}
+
+int main(int count, char **names)
+{
+    srand(7);
+    for (int i = 0; i < GUTKAVU_REGISTER_WORDS; i++)
+        file[i] = ((uint32_t)rand() << 16) ^ (uint32_t)rand();
+    for (int i = 0; i < WORDS; i++)
+        words[i] = ((uint32_t)rand() << 16) ^ (uint32_t)rand();
+    for (int i = 1; i < count; i++)
+        if (print_text(names[i]))
+            return 1;
+    return 0;
+}

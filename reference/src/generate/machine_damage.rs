@@ -336,7 +336,7 @@ fn empty_inside(random: &mut Random, table: &Table) -> Vec<Patch> {
     let (first, count) = (table.first(other), table.count(other));
     let inside = first + random.below(count);
     let ends = [first, first + 1, first + count - 1, first + count, ALL_WIRES];
-    let at = if random.percent(40) { inside } else { random.pick(&ends) };
+    let at = if random.percent(55) { inside } else { random.pick(&ends) };
     let mut patches = Vec::new();
     if state == other && table.states() < 64 {
         state = table.states();
@@ -402,12 +402,12 @@ fn past_the_table(random: &mut Random, _: &Table) -> Vec<Patch> {
 }
 
 /// Kinds that are never refused, once their touch words are right.
-pub const KEPT: [Damage; 27] = [
+pub const KEPT: [Damage; 29] = [
     another_arrival, no_arrivals, input_wire, input_wire, input_wire, starters_and_blocks,
     records_from_n, next_from_r, wires_of_no_state, unused_operands, another_literal,
     another_literal, another_next, another_operand, another_n, more_registers, moved_to_the_end,
-    moved_to_the_end, empty_inside, empty_inside, empty_inside, added_state, added_state,
-    rewritten_state, rewritten_state, rewritten_state, past_the_table,
+    moved_to_the_end, empty_inside, empty_inside, empty_inside, empty_inside, empty_inside,
+    added_state, added_state, rewritten_state, rewritten_state, rewritten_state, past_the_table,
 ];
 
 /// Patches for a table that synthesis made. Where they change next references, the touch words are

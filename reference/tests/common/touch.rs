@@ -111,17 +111,16 @@ fn wire(table: &[u32], state: usize, reference: u32) -> Option<&[u32]> {
 
 /// What a reference is where equal choices are left out; wires choose between earlier ones.
 fn chosen(table: &[u32], state: usize, reference: u32) -> u32 {
-    match wire(table, state, reference) {
-        Some(&[19, _, b, c]) if b.max(c) < reference => {
-            let (b, c) = (chosen(table, state, b), chosen(table, state, c));
-            if b == c {
-                b
-            } else {
-                reference
-            }
+    let count = reference.saturating_sub(15).min(3_072);
+    let mut all: Vec<u32> = (0..16 + count).collect();
+    for at in 16..16 + count {
+        if let Some(&[19, _, b, c]) = wire(table, state, at) {
+            let earlier = |one: u32| (one < at).then(|| all[one as usize]);
+            let equal = earlier(b).filter(|_| earlier(b) == earlier(c));
+            all[at as usize] = equal.unwrap_or(at);
         }
-        _ => reference,
     }
+    all.get(reference as usize).copied().unwrap_or(reference)
 }
 
 fn says(reading: Reading, table: &[u32], state: usize, register: usize) -> bool {
@@ -186,12 +185,32 @@ fn passes(reading: Reading, table: &[u32], state: usize) -> bool {
     }
 }
 
-/// Whether a whole table is refused 10.
-fn is_refused(reading: Reading, table: &[u32]) -> bool {
+/// Whether a table is whole and admitted once its touch words are right.
+pub fn right_otherwise(table: &[u32]) -> bool {
     let mut otherwise = table.to_vec();
-    mend(&mut otherwise);
-    let states = if reading == UnusedChecked { 64 } else { table[0] as usize };
-    decode(&otherwise).is_none() || !(0..states).all(|state| passes(reading, table, state))
+    if table.len() >= MACHINE_WORDS {
+        mend(&mut otherwise);
+    }
+    decode(&otherwise).is_some()
+}
+
+/// A table with what is wrong besides its touch words.
+pub struct Tried<'a> {
+    pub table: &'a [u32],
+    pub right_otherwise: bool,
+}
+
+impl Tried<'_> {
+    fn of(table: &[u32]) -> Tried<'_> {
+        Tried { table, right_otherwise: right_otherwise(table) }
+    }
+
+    /// Whether a whole table is refused 10.
+    fn is_refused(&self, reading: Reading) -> bool {
+        let states = if reading == UnusedChecked { 64 } else { self.table[0] as usize };
+        let passes = |state| passes(reading, self.table, state);
+        !self.right_otherwise || !(0..states).all(passes)
+    }
 }
 
 /// Number and touched, number and state.
@@ -218,8 +237,8 @@ fn touched(reading: Reading, table: &[u32], state: usize, register: Option<usize
     })
 }
 
-fn of_state(reading: Reading, table: &[u32], asked: Asked) -> (u32, u32) {
-    let Asked { state, register } = asked;
+fn of_state(reading: Reading, tried: &Tried, asked: Asked) -> (u32, u32) {
+    let (table, Asked { state, register }) = (tried.table, asked);
     let past = match reading {
         NoNine => false,
         StateBelow64 => state >= 64,
@@ -227,7 +246,7 @@ fn of_state(reading: Reading, table: &[u32], asked: Asked) -> (u32, u32) {
         _ => state >= table[0],
     };
     let register = looked_at(reading, table, register);
-    match is_refused(reading, table) {
+    match tried.is_refused(reading) {
         _ if past && reading == NineBeforeTen => (9, 0),
         true if reading != NoTen => (10, 0),
         _ if past => (9, 0),
@@ -236,8 +255,9 @@ fn of_state(reading: Reading, table: &[u32], asked: Asked) -> (u32, u32) {
     }
 }
 
-fn of_search(reading: Reading, table: &[u32], register: u32) -> (u32, u32) {
-    if reading != NoTen && is_refused(reading, table) {
+fn of_search(reading: Reading, tried: &Tried, register: u32) -> (u32, u32) {
+    let table = tried.table;
+    if reading != NoTen && tried.is_refused(reading) {
         return (10, 0);
     }
     let states = table[0].min(64) as usize;
@@ -268,12 +288,13 @@ fn rotated(table: &[u32]) -> Vec<u32> {
     table
 }
 
-pub fn answers(reading: Reading, table: &[u32], asked: Asked) -> Answers {
+pub fn answers(reading: Reading, tried: &Tried, asked: Asked) -> Answers {
+    let table = tried.table;
     if table.len() < MACHINE_WORDS {
         return [(7, 0), (7, 0)];
     }
     if reading == FirstWord {
-        return answers(Right, &rotated(table), asked);
+        return answers(Right, &Tried::of(&rotated(table)), asked);
     }
     if !counted(table) && reading != NineBeforeTen {
         return [(10, 0), (10, 0)];
@@ -281,7 +302,7 @@ pub fn answers(reading: Reading, table: &[u32], asked: Asked) -> Answers {
     if !counted(table) {
         return [(if asked.state >= table[0] { 9 } else { 10 }, 0), (10, 0)];
     }
-    [of_state(reading, table, asked), of_search(reading, table, asked.register)]
+    [of_state(reading, tried, asked), of_search(reading, tried, asked.register)]
 }
 
 /// Whether a reading's synthesis makes another table than this one, which is right.

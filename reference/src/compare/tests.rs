@@ -224,10 +224,13 @@ fn every_changed_place_is_a_difference() {
     }
 }
 
+fn printed(operation: Operation, change: Change) -> String {
+    place(operation, change).expect("a difference").to_string()
+}
+
 /// Buffers are named, and a guard's place is told from a buffer's.
 #[test]
 fn places_are_printed() {
-    let printed = |operation, change| place(operation, change).expect("a difference").to_string();
     assert_eq!(
         printed(Operation::Read, Change::Place(0, 1)),
         "text of length 135, index 1: 114 expected, 10 found"
@@ -258,6 +261,10 @@ fn places_are_printed() {
         printed(Operation::CompareCaptures, Change::End(1)),
         "second recording of length 17, index 17 in the guard after it: 10 expected, 13 found"
     );
+}
+
+#[test]
+fn places_of_questions_are_printed() {
     assert_eq!(
         printed(Operation::Touches, Change::Place(0, 0)),
         "machine table of length 13698, index 0: 2 expected, 3235774464 found"

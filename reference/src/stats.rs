@@ -56,7 +56,7 @@ impl Counted {
             Counted::MachineOutcome => "machine outcome with words",
             Counted::CaptureOutcome => "outcome of captures",
             Counted::Touched => "touched",
-            Counted::StateFound => "a state that touches found",
+            Counted::StateFound => "touching state found",
             Counted::WriteOfPatched => "write of a patched graph",
             Counted::RunOfPatched => "run of a patched machine",
             Counted::WordsRunOfPatched => "run with words of a patched machine",

@@ -21,7 +21,7 @@ fn all_registers(table: &Table) -> u32 {
     (1 << table.registers()) - 1
 }
 
-/// Below R, up to the last register's, or any.
+/// Mostly below R, else R's own or one past it.
 fn some_bit(random: &mut Random, table: &Table) -> usize {
     let (r, own) = (table.registers(), random.below(table.registers()));
     let (unused, high) = (random.between(r, 31), random.between(16, 31));
@@ -58,7 +58,7 @@ fn another_word(random: &mut Random, table: &Table) -> Vec<Patch> {
     }
 }
 
-/// A register that is kept, or another reference than the register itself.
+/// A reference of the state, mostly another than the register itself.
 fn other_reference(random: &mut Random, table: &Table, state: usize, register: usize) -> usize {
     let (r, count) = (table.registers(), table.count(state));
     let (wire, any) = (16 + random.below(count), random.below(r));
@@ -95,7 +95,7 @@ fn another_reference(random: &mut Random, table: &Table) -> Vec<Patch> {
     mended(table.words, patches)
 }
 
-/// One register that only the last state touches, or one other, or none, or all of them. With many
+/// A register that only the last state touches, or only another one, or none, or all. With many
 /// states there is no room for it.
 fn few_touch(random: &mut Random, table: &Table) -> Vec<Patch> {
     let (n, register) = (table.states(), random.below(table.registers()));

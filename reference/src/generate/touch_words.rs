@@ -18,16 +18,18 @@ pub fn touch_at(state: usize) -> usize {
 }
 
 /// For each state below N whose touch word is wrong, the patch that makes it right.
-pub fn mends(table: &[u32]) -> Vec<Patch> {
+fn mends(table: &[u32]) -> Vec<Patch> {
+    assert!(table.len() >= MACHINE_WORDS);
     let (states, registers) = (table[0] as usize, table[1] as usize);
-    if table.len() < MACHINE_WORDS || states > 64 || registers > 16 {
+    if states > 64 || registers > 16 {
         return Vec::new();
     }
     let right = |state| patch(touch_at(state), touch_word(table, state, registers) as usize);
     (0..states).map(right).filter(|&(at, word)| table[at as usize] != word).collect()
 }
 
-/// The patches, and behind them those that make the touch words right, where there is room.
+/// The patches of a whole table, and behind them those that make its touch words right, where there
+/// is room.
 pub fn mended(words: &[u32], mut patches: Vec<Patch>) -> Vec<Patch> {
     let mut table = words.to_vec();
     answer::patch(&mut table, &patches);

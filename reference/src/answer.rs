@@ -1,10 +1,11 @@
-//! The answer to a case: eleven steps, and one line of numbers.
+//! The answer to a case: thirteen steps, and one line of numbers.
 
-use crate::case::{Captures, Case, Patch};
+use crate::case::{Asked, Captures, Case, Patch};
 use crate::listing::listing;
 use crate::operations::{
-    compare_captures, read, run_graph, run_graph_with_words, run_machine, run_machine_with_words,
-    synthesise, write, CaptureAnswer, ReadAnswer, RunAnswer, WordsRunAnswer, WriteAnswer,
+    compare_captures, first_touching, read, run_graph, run_graph_with_words, run_machine,
+    run_machine_with_words, synthesise, touches, write, CaptureAnswer, FirstTouchingAnswer,
+    ReadAnswer, RunAnswer, TouchesAnswer, WordsRunAnswer, WriteAnswer,
 };
 
 /// What a run answered, and the digest of its registers after.
@@ -29,6 +30,8 @@ pub struct Answer {
     pub listing_length: usize,
     pub listing_digest: u64,
     pub captures: CaptureAnswer,
+    pub touches: TouchesAnswer,
+    pub first_touching: FirstTouchingAnswer,
 }
 
 /// A number that depends on every number of a sequence and on its length.
@@ -93,6 +96,7 @@ pub fn answer(case: &Case) -> Answer {
     let (state, cycles) = (case.start_state, case.cycle_budget);
     let (words, starters) = (&case.words, &case.starters);
     let listing = listing(&case.text);
+    let Asked { state: asked_state, register } = case.asked;
     Answer {
         read,
         graph_digest,
@@ -111,6 +115,8 @@ pub fn answer(case: &Case) -> Answer {
         listing_length: listing.len(),
         listing_digest: digest(listing.as_bytes()),
         captures: captures(case),
+        touches: touches(&machine, asked_state, register),
+        first_touching: first_touching(&machine, register),
     }
 }
 
@@ -148,6 +154,8 @@ impl Answer {
         fields.extend(words_run_fields(&self.run_machine_with_words));
         fields.extend([self.listing_length as u64, self.listing_digest]);
         fields.extend(capture_fields(self.captures));
+        fields.extend([u64::from(self.touches.number), self.touches.touched.into()]);
+        fields.extend([u64::from(self.first_touching.number), self.first_touching.state.into()]);
         let printed: Vec<String> = fields.iter().map(u64::to_string).collect();
         printed.join(",")
     }

@@ -3,7 +3,7 @@
 pub const MAX_CASE_TEXT: usize = 20_000;
 pub const MAX_GRAPH_BUFFER: usize = 2_600;
 pub const MAX_OUTPUT_BUFFER: usize = 17_000;
-pub const MAX_MACHINE_BUFFER: usize = 13_700;
+pub const MAX_MACHINE_BUFFER: usize = 13_764;
 pub const MAX_REGISTER_BUFFER: usize = 20;
 pub const MAX_PATCHES: usize = 64;
 pub const MAX_WORDS: usize = 64;
@@ -19,6 +19,13 @@ pub struct Captures {
     pub registers: u32,
     pub first: Vec<u8>,
     pub second: Vec<u8>,
+}
+
+/// The state and the register that a machine is asked about.
+#[derive(Clone, Copy, Debug, PartialEq, Eq)]
+pub struct Asked {
+    pub state: u32,
+    pub register: u32,
 }
 
 #[derive(Clone, Debug, PartialEq, Eq)]
@@ -37,18 +44,19 @@ pub struct Case {
     pub words: Vec<u32>,
     pub starters: Vec<u32>,
     pub captures: Captures,
+    pub asked: Asked,
 }
 
 impl Case {
-    /// A case with exact buffers, no damage, small budgets, a word for each cycle and recordings
-    /// of nothing.
+    /// A case with exact buffers, no damage, small budgets, a word for each cycle, recordings of
+    /// nothing and a question about state 0 and register 0.
     pub fn plain(text: &[u8]) -> Case {
         Case {
             text: text.to_vec(),
             graph_length: 2_562,
             graph_patches: Vec::new(),
             output_length: 16_384,
-            machine_length: 13_634,
+            machine_length: 13_698,
             machine_patches: Vec::new(),
             registers: vec![0; 16],
             start_block: 0,
@@ -58,6 +66,7 @@ impl Case {
             words: (1..=20).collect(),
             starters: vec![0],
             captures: Captures { registers: 1, first: Vec::new(), second: Vec::new() },
+            asked: Asked { state: 0, register: 0 },
         }
     }
 
@@ -78,6 +87,8 @@ impl Case {
         put(stream, self.captures.registers);
         put_bytes(stream, &self.captures.first);
         put_bytes(stream, &self.captures.second);
+        put(stream, self.asked.state);
+        put(stream, self.asked.register);
     }
 }
 
@@ -164,6 +175,7 @@ impl<'a> Stream<'a> {
             words: self.list(MAX_WORDS)?,
             starters: self.list(MAX_STARTERS)?,
             captures: self.captures()?,
+            asked: Asked { state: self.word()?, register: self.word()? },
         })
     }
 }

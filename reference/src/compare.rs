@@ -20,8 +20,8 @@ use reference::operation::Operation;
 const CASES_FOR_ALL: usize = 2_000;
 
 /// What a case hits: a number that an operation answers, 0 included; an outcome: how a run with
-/// words ends, or what a comparison of captures finds; a run's flag, with how the run ends; two
-/// refusals that apply to one call.
+/// words ends, what a comparison of captures finds, whether a register is touched, or whether any
+/// state touches it; a run's flag, with how the run ends; two refusals that apply to one call.
 #[derive(Clone, Copy, Debug, PartialEq, Eq, PartialOrd, Ord)]
 enum Hit {
     Number(Operation, u64),

@@ -125,6 +125,22 @@ impl Facts<'_> {
         ])
     }
 
+    fn touches(&self) -> Vec<Fault> {
+        let state = self.case.asked.state;
+        applying(&[
+            (Refusal::ShortMachine, self.machine.short),
+            (Refusal::MachineTable, self.machine.refused),
+            (Refusal::State, self.machine.states.is_some_and(|states| state >= states)),
+        ])
+    }
+
+    fn first_touching(&self) -> Vec<Fault> {
+        applying(&[
+            (Refusal::ShortMachine, self.machine.short),
+            (Refusal::MachineTable, self.machine.refused),
+        ])
+    }
+
     fn of(&self, operation: Operation) -> Vec<Fault> {
         match operation {
             Operation::Read => self.read(),
@@ -135,12 +151,14 @@ impl Facts<'_> {
             Operation::RunGraphWithWords => self.run_graph(true),
             Operation::RunMachineWithWords => self.run_machine(true),
             Operation::CompareCaptures => recordings::faults(&self.case.captures),
+            Operation::Touches => self.touches(),
+            Operation::FirstTouching => self.first_touching(),
         }
     }
 }
 
 /// The faults of each call of a case, given the buffers as its runs find them.
-pub fn faults(case: &Case, graph: &[u32], machine: &[u32]) -> [Faults; 8] {
+pub fn faults(case: &Case, graph: &[u32], machine: &[u32]) -> [Faults; 10] {
     let facts = Facts {
         case,
         graph: GraphFacts::of(graph),

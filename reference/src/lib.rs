@@ -1,4 +1,5 @@
-//! The second program: graph text, synthesis, two interpreters, a listing, captures compared.
+//! The second program: graph text, synthesis, two interpreters, a listing, captures compared, and
+//! which states touch a register.
 
 pub mod answer;
 pub mod block_set;

@@ -43,7 +43,21 @@ pub struct Machine {
     pub states: Vec<State>,
 }
 
+impl State {
+    /// Whether a cycle may change a register: its next reference is anything but itself. A register
+    /// that the machine does not have is never touched.
+    pub fn touches(&self, register: usize) -> bool {
+        let next = self.next_registers.get(register);
+        next.is_some_and(|&next| next != Source::Register(register))
+    }
+}
+
 impl Machine {
+    /// The lowest-numbered state that touches a register.
+    pub fn first_touching(&self, register: usize) -> Option<usize> {
+        self.states.iter().position(|state| state.touches(register))
+    }
+
     pub fn wire_count(&self) -> usize {
         self.states.iter().map(|state| state.wires.len()).sum()
     }

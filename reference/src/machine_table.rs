@@ -1,15 +1,18 @@
-//! A machine as its table of 13,634 words, and any such table checked.
+//! A machine as its table of 13,698 words, and any such table checked.
 
 use crate::graph::{Binary, Comparison, COPY, IN, MAX_BLOCKS, MAX_REGISTERS, SET, SIGN_EXTEND};
 use crate::grouping::Grouping;
 use crate::machine::{Machine, Source, State, Wire, MAX_STATES, MAX_WIRES};
 use std::collections::BTreeSet;
 
-pub const MACHINE_WORDS: usize = 13_634;
+pub const MACHINE_WORDS: usize = 13_698;
 pub const STARTERS_AT: usize = 2;
 pub const BLOCK_STATES_AT: usize = STARTERS_AT + MAX_STATES;
 pub const RECORDS_AT: usize = BLOCK_STATES_AT + MAX_BLOCKS;
-pub const RECORD_WORDS: usize = 3 + MAX_REGISTERS;
+pub const NEXT_REGISTERS_AT: usize = 3;
+/// Where the touch word stands in a record: it is the last one.
+pub const TOUCH_AT: usize = NEXT_REGISTERS_AT + MAX_REGISTERS;
+pub const RECORD_WORDS: usize = TOUCH_AT + 1;
 pub const WIRES_AT: usize = RECORDS_AT + MAX_STATES * RECORD_WORDS;
 pub const WIRE_WORDS: usize = 4;
 
@@ -40,10 +43,18 @@ fn wire_words(wire: Wire) -> [u32; WIRE_WORDS] {
     }
 }
 
+/// One bit a register that the state touches.
+fn touch_word(state: &State) -> u32 {
+    let touched = (0..state.next_registers.len()).filter(|&register| state.touches(register));
+    touched.map(|register| 1 << register).sum()
+}
+
 fn record_words(state: &State) -> Vec<u32> {
     let mut words = vec![state.first as u32, state.wires.len() as u32];
     words.push(reference(state.next_state));
     words.extend(state.next_registers.iter().map(|&source| reference(source)));
+    words.resize(TOUCH_AT, 0);
+    words.push(touch_word(state));
     words
 }
 
@@ -109,6 +120,11 @@ impl Scope {
     }
 }
 
+/// Whether each of its 32 bits says what the state's references do.
+fn is_touch_word(word: u32, state: &State) -> bool {
+    (0..32).all(|bit| ((word >> bit) & 1 == 1) == state.touches(bit))
+}
+
 fn decode_state(table: &[u32], state: usize, registers: usize) -> Option<State> {
     let record = &table[RECORDS_AT + state * RECORD_WORDS..][..RECORD_WORDS];
     // In 64 bits the sum of two words does not wrap.
@@ -121,14 +137,15 @@ fn decode_state(table: &[u32], state: usize, registers: usize) -> Option<State> 
         .map(|(earlier, wire)| Scope { registers, wires: earlier }.wire(wire))
         .collect();
     let all = Scope { registers, wires: count };
-    let next_registers: Option<Vec<Source>> =
-        record[3..3 + registers].iter().map(|&word| all.source(word)).collect();
-    Some(State {
+    let next = &record[NEXT_REGISTERS_AT..][..registers];
+    let next_registers: Option<Vec<Source>> = next.iter().map(|&word| all.source(word)).collect();
+    let state = State {
         first,
         wires: wires?,
         next_state: all.source(record[2])?,
         next_registers: next_registers?,
-    })
+    };
+    is_touch_word(record[TOUCH_AT], &state).then_some(state)
 }
 
 /// Whether every wire belongs to one state at most.
@@ -138,7 +155,7 @@ fn wires_are_apart(states: &[State]) -> bool {
     ranges.flatten().all(|wire| owned.insert(wire))
 }
 
-/// The machine a table holds, where a run of it is not refused 10.
+/// The machine a table holds, where it is not refused 10.
 pub fn decode(table: &[u32]) -> Option<Machine> {
     let table = table.get(..MACHINE_WORDS)?;
     let states = usize::try_from(table[0]).ok()?;

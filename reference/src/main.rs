@@ -1,4 +1,4 @@
-//! The commands: cases, answers, list, stats, text, pieces, compare, fit, bench, draw.
+//! The commands: cases, answers, list, stats, text, pieces, compare, fit, bench, texts, draw.
 
 mod bench;
 mod compare;
@@ -25,7 +25,8 @@ const USAGE: &str = "usage: reference cases SEED COUNT > cases
        reference compare SEED COUNT
        reference fit SEED COUNT
        reference bench
-       reference draw < text
+       reference texts FOLDER
+       reference draw [--touching R] < text
 ";
 
 fn input() -> Result<Vec<u8>, String> {
@@ -82,6 +83,11 @@ fn pieces(length: &str) -> Result<Vec<u8>, String> {
     Ok(Vec::new())
 }
 
+fn draw_touching(register: &str) -> Result<Vec<u8>, String> {
+    let register = register.parse().map_err(|_| format!("R is no number\n{USAGE}"))?;
+    draw::draw(&input()?, Some(register))
+}
+
 fn command(arguments: &[&str]) -> Result<Vec<u8>, String> {
     match *arguments {
         ["cases", seed, count] => seeded(seed, count, cases),
@@ -93,7 +99,9 @@ fn command(arguments: &[&str]) -> Result<Vec<u8>, String> {
         ["compare", seed, count] => seeded(seed, count, compare::command),
         ["fit", seed, count] => seeded(seed, count, fit_check::command),
         ["bench"] => bench::bench(),
-        ["draw"] => draw::draw(&input()?),
+        ["texts", folder] => bench::texts::texts(folder),
+        ["draw"] => draw::draw(&input()?, None),
+        ["draw", "--touching", register] => draw_touching(register),
         _ => Err(String::from(USAGE)),
     }
 }

@@ -75,8 +75,9 @@ pub fn meetings(faults: &Faults) -> BTreeSet<Meeting> {
 /// Each refusal with those that go behind it; any two of one operation can apply to one call.
 ///
 /// A run with words has no 12, a machine's run gets no list and so has no 11, and a short output is
-/// 8 and not 7. 9 never comes without 11: a list that has such a start has a block not below B.
-const OF_CALLS: [(Operation, Refusal, &[Refusal]); 21] = {
+/// 8 and not 7. 9 never comes without 11: a list that has such a start has a block not below B. The
+/// search for a state that touches a register is given no state and so has no 9.
+const OF_CALLS: [(Operation, Refusal, &[Refusal]); 24] = {
     use Operation::*;
     use Refusal::*;
     [
@@ -101,6 +102,9 @@ const OF_CALLS: [(Operation, Refusal, &[Refusal]); 21] = {
         (RunMachineWithWords, ShortMachine, &[ShortRegisters, MachineTable, Start]),
         (RunMachineWithWords, ShortRegisters, &[MachineTable, Start]),
         (RunMachineWithWords, MachineTable, &[Start]),
+        (Touches, ShortMachine, &[MachineTable, State]),
+        (Touches, MachineTable, &[State]),
+        (FirstTouching, ShortMachine, &[MachineTable]),
     ]
 };
 

@@ -1,4 +1,4 @@
-//! The eight operations by name: the fields they answer, their numbers, the order of their refusals.
+//! The ten operations by name: the fields they answer, their numbers, the order of their refusals.
 
 /// Why a call is refused. Where two buffers of one call may be short, each is one by itself.
 #[derive(Clone, Copy, Debug, PartialEq, Eq, PartialOrd, Ord)]
@@ -14,6 +14,7 @@ pub enum Refusal {
     ShortRegisters,
     ShortOutput,
     Start,
+    State,
     MachineTable,
     Starters,
     ReadsWords,
@@ -33,7 +34,7 @@ impl Refusal {
             Refusal::GraphTable => 6,
             Refusal::ShortGraph | Refusal::ShortMachine | Refusal::ShortRegisters => 7,
             Refusal::ShortOutput => 8,
-            Refusal::Start => 9,
+            Refusal::Start | Refusal::State => 9,
             Refusal::MachineTable => 10,
             Refusal::Starters => 11,
             Refusal::ReadsWords => 12,
@@ -65,10 +66,12 @@ pub enum Operation {
     RunGraphWithWords,
     RunMachineWithWords,
     CompareCaptures,
+    Touches,
+    FirstTouching,
 }
 
 impl Operation {
-    pub const ALL: [Operation; 8] = [
+    pub const ALL: [Operation; 10] = [
         Operation::Read,
         Operation::Write,
         Operation::Synthesise,
@@ -77,6 +80,8 @@ impl Operation {
         Operation::RunGraphWithWords,
         Operation::RunMachineWithWords,
         Operation::CompareCaptures,
+        Operation::Touches,
+        Operation::FirstTouching,
     ];
 
     pub fn name(self) -> &'static str {
@@ -89,6 +94,8 @@ impl Operation {
             Operation::RunGraphWithWords => "run graph with words",
             Operation::RunMachineWithWords => "run machine with words",
             Operation::CompareCaptures => "compare captures",
+            Operation::Touches => "touches",
+            Operation::FirstTouching => "first touching",
         }
     }
 
@@ -107,6 +114,8 @@ impl Operation {
             Operation::CompareCaptures => {
                 &["number", "recording", "line", "shared", "differs", "cycle"]
             }
+            Operation::Touches => &["number", "touched"],
+            Operation::FirstTouching => &["number", "state"],
         }
     }
 
@@ -121,6 +130,8 @@ impl Operation {
             Operation::RunGraphWithWords => &[0, 6, 7, 9, 11],
             Operation::RunMachineWithWords => &[0, 7, 9, 10],
             Operation::CompareCaptures => &[0, 17, 18],
+            Operation::Touches => &[0, 7, 9, 10],
+            Operation::FirstTouching => &[0, 7, 10],
         }
     }
 
@@ -141,16 +152,19 @@ impl Operation {
             }
             Operation::RunMachineWithWords => &[ShortMachine, ShortRegisters, MachineTable, Start],
             Operation::CompareCaptures => &[RecordedCount, RecordedForm, RecordedOrder],
+            Operation::Touches => &[ShortMachine, MachineTable, State],
+            Operation::FirstTouching => &[ShortMachine, MachineTable],
         }
     }
 
     /// The outcomes that it tells apart: spent, halted, dry; or nothing shared, no shared cycle
-    /// differing, one differing.
+    /// differing, one differing; or not touched, touched; or no state, some state.
     pub fn outcomes(self) -> &'static [u64] {
         match self {
             Operation::RunGraphWithWords
             | Operation::RunMachineWithWords
             | Operation::CompareCaptures => &[0, 1, 2],
+            Operation::Touches | Operation::FirstTouching => &[0, 1],
             _ => &[],
         }
     }
@@ -178,6 +192,8 @@ impl Operation {
             _ if number != 0 => None,
             Operation::RunGraphWithWords | Operation::RunMachineWithWords => Some(outcome),
             Operation::CompareCaptures => Some(shared.min(1) + differs),
+            Operation::Touches => Some(outcome),
+            Operation::FirstTouching => Some(u64::from(outcome != 255)),
             _ => None,
         }
     }

@@ -1,4 +1,4 @@
-//! The eight operations on lent buffers, with their refusal numbers.
+//! The ten operations on lent buffers, with their refusal numbers.
 
 use crate::block_set::BlockSet;
 use crate::capture::{self, Fault, Findings};
@@ -91,6 +91,19 @@ impl CaptureAnswer {
     }
 }
 
+#[derive(Clone, Copy, Debug, PartialEq, Eq)]
+pub struct TouchesAnswer {
+    pub number: u32,
+    pub touched: bool,
+}
+
+/// The state is 255 where none touches the register.
+#[derive(Clone, Copy, Debug, PartialEq, Eq)]
+pub struct FirstTouchingAnswer {
+    pub number: u32,
+    pub state: u32,
+}
+
 pub fn read(text: &[u8], table: &mut [u32]) -> ReadAnswer {
     if text.len() > MAX_TEXT {
         return ReadAnswer { number: 1, line: 0 };
@@ -150,15 +163,23 @@ fn run_of_graph(table: &[u32], registers: &[u32]) -> Result<Graph, u32> {
     graph_table::decode(table).ok_or(6)
 }
 
-/// The machine of a run, or 7 or 10.
-fn run_of_machine(table: &[u32], registers: &[u32]) -> Result<Machine, u32> {
-    if table.len() < MACHINE_WORDS || registers.len() < MAX_REGISTERS {
+/// The machine of a table, or 7 or 10.
+fn machine_of(table: &[u32]) -> Result<Machine, u32> {
+    if table.len() < MACHINE_WORDS {
         return Err(7);
     }
     machine_table::decode(table).ok_or(10)
 }
 
-fn start_below(start: u32, limit: usize) -> Result<usize, u32> {
+/// The machine of a run, or 7 or 10.
+fn run_of_machine(table: &[u32], registers: &[u32]) -> Result<Machine, u32> {
+    if registers.len() < MAX_REGISTERS {
+        return Err(7);
+    }
+    machine_of(table)
+}
+
+fn below_or_9(start: u32, limit: usize) -> Result<usize, u32> {
     below(start, limit).ok_or(9)
 }
 
@@ -173,7 +194,7 @@ fn graph_alone(table: &[u32], registers: &mut [u32], start: u32, budget: u32) ->
     if graph.reads_words() {
         return Err(12);
     }
-    let start = start_below(start, graph.blocks.len())?;
+    let start = below_or_9(start, graph.blocks.len())?;
     let used = &mut registers[..graph.registers];
     // Nothing reads a word, so it does not matter which blocks are starters.
     let starters = BlockSet::default();
@@ -189,7 +210,7 @@ fn graph_with_words(
     starters: &[u32],
 ) -> Result<Run, u32> {
     let graph = run_of_graph(table, registers)?;
-    let start = start_below(start, graph.blocks.len())?;
+    let start = below_or_9(start, graph.blocks.len())?;
     let starters = starter_set(starters, graph.blocks.len(), start)?;
     let used = &mut registers[..graph.registers];
     Ok(run::run_graph(&graph, used, start, budget, words.iter().copied(), starters))
@@ -205,7 +226,7 @@ fn machine_alone(
     if machine.reads_words() {
         return Err(12);
     }
-    let start = start_below(start, machine.states.len())?;
+    let start = below_or_9(start, machine.states.len())?;
     let used = &mut registers[..machine.registers];
     Ok(run::run_machine(&machine, used, start, budget, run::unread_words()))
 }
@@ -218,7 +239,7 @@ fn machine_with_words(
     words: &[u32],
 ) -> Result<Run, u32> {
     let machine = run_of_machine(table, registers)?;
-    let start = start_below(start, machine.states.len())?;
+    let start = below_or_9(start, machine.states.len())?;
     let used = &mut registers[..machine.registers];
     Ok(run::run_machine(&machine, used, start, budget, words.iter().copied()))
 }
@@ -256,5 +277,34 @@ pub fn compare_captures(registers: u32, first: &[u8], second: &[u8]) -> CaptureA
     match capture::compare(registers, first, second) {
         Ok(findings) => CaptureAnswer::compared(findings),
         Err(fault) => CaptureAnswer::refused(fault),
+    }
+}
+
+/// Whether a state touches a register, by a look at its references.
+fn asked(table: &[u32], state: u32, register: u32) -> Result<bool, u32> {
+    let machine = machine_of(table)?;
+    let state = &machine.states[below_or_9(state, machine.states.len())?];
+    Ok(below(register, machine.registers).is_some_and(|register| state.touches(register)))
+}
+
+/// The first state that touches a register, by a look at the references of all.
+fn searched(table: &[u32], register: u32) -> Result<u32, u32> {
+    let machine = machine_of(table)?;
+    let register = below(register, machine.registers);
+    let first = register.and_then(|register| machine.first_touching(register));
+    Ok(first.map_or(run::NONE, |state| state as u32))
+}
+
+pub fn touches(table: &[u32], state: u32, register: u32) -> TouchesAnswer {
+    match asked(table, state, register) {
+        Ok(touched) => TouchesAnswer { number: 0, touched },
+        Err(number) => TouchesAnswer { number, touched: false },
+    }
+}
+
+pub fn first_touching(table: &[u32], register: u32) -> FirstTouchingAnswer {
+    match searched(table, register) {
+        Ok(state) => FirstTouchingAnswer { number: 0, state },
+        Err(number) => FirstTouchingAnswer { number, state: 0 },
     }
 }

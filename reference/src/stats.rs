@@ -1,5 +1,6 @@
-//! How many cases hit each refusal number of each operation, each outcome of a run and of a
-//! comparison of captures, each flag at each end of a run, and each pair of refusals that meet.
+//! How many cases hit each refusal number of each operation, each outcome of a run, of a comparison
+//! of captures and of a question about registers, each flag at each end of a run, and each pair of
+//! refusals that meet.
 
 use crate::answer::{answer, buffers_of, Answer};
 use crate::case::Case;
@@ -7,6 +8,7 @@ use crate::faults::faults;
 use crate::meeting::{self, meetings, Meeting};
 use crate::operation::Operation;
 use crate::operations::CaptureAnswer;
+use crate::run::NONE;
 use std::collections::BTreeMap;
 
 /// What is counted, in the order of printing.
@@ -20,14 +22,19 @@ pub enum Counted {
     RunGraphWithWords,
     RunMachineWithWords,
     CompareCaptures,
+    Touches,
+    FirstTouching,
     GraphHalted,
     MachineHalted,
     GraphOutcome,
     MachineOutcome,
     CaptureOutcome,
+    Touched,
+    StateFound,
     WriteOfPatched,
     RunOfPatched,
     WordsRunOfPatched,
+    TouchesOfPatched,
 }
 
 impl Counted {
@@ -41,14 +48,19 @@ impl Counted {
             Counted::RunGraphWithWords => "run graph with words",
             Counted::RunMachineWithWords => "run machine with words",
             Counted::CompareCaptures => "compare captures",
+            Counted::Touches => "touches",
+            Counted::FirstTouching => "first touching",
             Counted::GraphHalted => "graph halted",
             Counted::MachineHalted => "machine halted",
             Counted::GraphOutcome => "graph outcome with words",
             Counted::MachineOutcome => "machine outcome with words",
             Counted::CaptureOutcome => "outcome of captures",
+            Counted::Touched => "touched",
+            Counted::StateFound => "touching state found",
             Counted::WriteOfPatched => "write of a patched graph",
             Counted::RunOfPatched => "run of a patched machine",
             Counted::WordsRunOfPatched => "run with words of a patched machine",
+            Counted::TouchesOfPatched => "touches of a patched machine",
         }
     }
 }
@@ -75,7 +87,7 @@ impl Stats {
         let (graph, machine) = (answer.run_graph.answer, answer.run_machine.answer);
         let graph_words = answer.run_graph_with_words.answer;
         let machine_words = answer.run_machine_with_words.answer;
-        let captures = answer.captures;
+        let (captures, touches, first) = (answer.captures, answer.touches, answer.first_touching);
         self.count(Counted::Read, answer.read.number);
         self.count(Counted::Write, answer.write.number);
         self.count(Counted::Synthesise, answer.synthesise);
@@ -84,12 +96,16 @@ impl Stats {
         self.count(Counted::RunGraphWithWords, graph_words.number);
         self.count(Counted::RunMachineWithWords, machine_words.number);
         self.count(Counted::CompareCaptures, captures.number);
+        self.count(Counted::Touches, touches.number);
+        self.count(Counted::FirstTouching, first.number);
         let outcomes = [
             (Counted::GraphHalted, graph.number, u32::from(graph.halted)),
             (Counted::MachineHalted, machine.number, u32::from(machine.halted)),
             (Counted::GraphOutcome, graph_words.number, graph_words.outcome),
             (Counted::MachineOutcome, machine_words.number, machine_words.outcome),
             (Counted::CaptureOutcome, captures.number, capture_outcome(captures)),
+            (Counted::Touched, touches.number, u32::from(touches.touched)),
+            (Counted::StateFound, first.number, u32::from(first.state != NONE)),
         ];
         for (counted, _, outcome) in outcomes.into_iter().filter(|&(_, number, _)| number == 0) {
             self.count(counted, outcome);
@@ -100,6 +116,7 @@ impl Stats {
         if !case.machine_patches.is_empty() {
             self.count(Counted::RunOfPatched, machine.number);
             self.count(Counted::WordsRunOfPatched, machine_words.number);
+            self.count(Counted::TouchesOfPatched, touches.number);
         }
     }
 

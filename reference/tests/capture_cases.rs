@@ -49,7 +49,7 @@ impl Pair {
 
 fn stored() -> &'static [Pair] {
     static STORED: OnceLock<Vec<Pair>> = OnceLock::new();
-    STORED.get_or_init(|| cases(1, 4_500).into_iter().map(Pair::of).collect())
+    STORED.get_or_init(|| cases(1, 4_800).into_iter().map(Pair::of).collect())
 }
 
 /// At least so many of the stored pairs are of a kind.

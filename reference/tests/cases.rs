@@ -1,9 +1,10 @@
 //! The case stream: its form, its size, and what its cases hit.
 
 use reference::answer::{answer, digest, Answer};
-use reference::case::{read_cases, Captures, Case};
+use reference::case::{read_cases, Asked, Captures, Case};
 use reference::generate::cases;
 use reference::generate::sum_cases::one;
+use reference::generate::touch_cases::FOUR;
 use reference::grouping::group;
 use reference::machine_table::WIRES_AT;
 use reference::operation::Operation;
@@ -20,7 +21,7 @@ fn stored() -> &'static [(Case, Answer)] {
         let answer = answer(&case);
         (case, answer)
     };
-    STORED.get_or_init(|| cases(1, 4_500).into_iter().map(with_answer).collect())
+    STORED.get_or_init(|| cases(1, 4_800).into_iter().map(with_answer).collect())
 }
 
 #[test]
@@ -41,8 +42,8 @@ fn the_same_seed_makes_the_same_cases() {
 
 #[test]
 fn every_refusal_is_hit() {
-    let stats = Stats::of(&cases(1, 4_500));
-    let expected: [(Counted, &[u32]); 8] = [
+    let stats = Stats::of(&cases(1, 4_800));
+    let expected: [(Counted, &[u32]); 10] = [
         (Counted::Read, &[0, 1, 2, 3, 4, 5, 7]),
         (Counted::Write, &[0, 6, 7, 8]),
         (Counted::Synthesise, &[0, 6, 7]),
@@ -51,6 +52,8 @@ fn every_refusal_is_hit() {
         (Counted::RunGraphWithWords, &[0, 6, 7, 9, 11]),
         (Counted::RunMachineWithWords, &[0, 7, 9, 10]),
         (Counted::CompareCaptures, &[0, 17, 18]),
+        (Counted::Touches, &[0, 7, 9, 10]),
+        (Counted::FirstTouching, &[0, 7, 10]),
     ];
     for (counted, numbers) in expected {
         for number in 0..20 {
@@ -62,7 +65,7 @@ fn every_refusal_is_hit() {
 
 #[test]
 fn what_matters_most_is_hit_often() {
-    let stats = Stats::of(&cases(1, 4_500));
+    let stats = Stats::of(&cases(1, 4_800));
     let many = [
         (Counted::RunGraph, 0, 1_000),
         (Counted::RunMachine, 0, 1_000),
@@ -70,6 +73,13 @@ fn what_matters_most_is_hit_often() {
         (Counted::RunOfPatched, 10, 100),
         (Counted::RunOfPatched, 12, 50),
         (Counted::WordsRunOfPatched, 0, 100),
+        (Counted::TouchesOfPatched, 0, 400),
+        (Counted::TouchesOfPatched, 9, 100),
+        (Counted::TouchesOfPatched, 10, 400),
+        (Counted::Touched, 0, 600),
+        (Counted::Touched, 1, 600),
+        (Counted::StateFound, 0, 600),
+        (Counted::StateFound, 1, 600),
         (Counted::WriteOfPatched, 0, 30),
         (Counted::WriteOfPatched, 6, 100),
         (Counted::CompareCaptures, 0, 2_500),
@@ -89,7 +99,7 @@ fn what_matters_most_is_hit_often() {
 /// Each run ends in each way with the flag clear and raised.
 #[test]
 fn every_flag_is_hit() {
-    let stats = Stats::of(&cases(1, 4_500));
+    let stats = Stats::of(&cases(1, 4_800));
     for run in Operation::ALL {
         for (end, flag) in run.flags() {
             let hits = stats.flags(run, end as u32, flag == 1);
@@ -143,7 +153,7 @@ fn many_cases_go_dry_together() {
 fn stored_cases_stay_small() {
     let mut stream = Vec::new();
     stored().iter().for_each(|(case, _)| case.append_to(&mut stream));
-    assert!(stream.len() < 4_300_000, "{}", stream.len());
+    assert!(stream.len() < 4_500_000, "{}", stream.len());
 }
 
 #[test]
@@ -154,20 +164,20 @@ fn digests() {
 }
 
 #[test]
-fn answer_lines_have_forty_fields() {
+fn answer_lines_have_forty_four_fields() {
     for case in cases(8, 40) {
-        assert_eq!(answer(&case).line().split(',').count(), 40);
+        assert_eq!(answer(&case).line().split(',').count(), 44);
     }
 }
 
-/// The last six fields are those of the captures, behind the listing's two.
+/// Behind the listing's two fields come the six of the captures.
 #[test]
-fn captures_end_the_line() {
+fn captures_in_the_line() {
     let mut case = Case::plain(b"");
     let end = |case: &Case| {
         let line = answer(case).line();
         let fields: Vec<&str> = line.split(',').collect();
-        fields[32..].join(",")
+        fields[32..40].join(",")
     };
     let listed = format!("12,{}", digest(b"refused,3,1\n"));
     assert_eq!(end(&case), format!("{listed},0,0,0,0,0,0"));
@@ -199,9 +209,51 @@ fn flags_in_the_line() {
     }
 }
 
-/// Behind the lists stand R and both recordings, of at most 4,000 bytes each.
+/// The last four fields are those of the two questions: number and touched, number and state.
 #[test]
-fn recordings_end_the_case() {
+fn questions_end_the_line() {
+    let mut case = Case::plain(FOUR.as_bytes());
+    let mut end = |state, register, patches: &[(u32, u32)]| {
+        case.asked = Asked { state, register };
+        case.machine_patches = patches.to_vec();
+        let line = answer(&case).line();
+        let fields: Vec<&str> = line.split(',').collect();
+        fields[40..].join(",")
+    };
+    assert_eq!(end(0, 1, &[]), "0,0,0,2");
+    assert_eq!(end(3, 1, &[]), "0,1,0,2");
+    assert_eq!(end(3, 3, &[]), "0,0,0,255");
+    assert_eq!(end(4, 0, &[]), "9,0,0,1");
+    assert_eq!(end(4, 0, &[(1, 17)]), "10,0,10,0");
+    assert_eq!(end(0, 0, &[(0, 3)]), "0,0,0,1");
+}
+
+/// Behind the recordings stand the state and the register asked about: any two words.
+#[test]
+fn a_question_ends_the_case() {
+    let mut case = Case::plain(b"");
+    case.asked = Asked { state: u32::MAX, register: 258 };
+    let mut stream = Vec::new();
+    case.append_to(&mut stream);
+    assert!(stream.ends_with(&[0, 0, 0, 0, 255, 255, 255, 255, 2, 1, 0, 0]));
+    assert_eq!(read_cases(&stream), Ok(vec![case]));
+}
+
+/// A machine buffer of a case has at most 13,764 words.
+#[test]
+fn longest_machine_buffer() {
+    for (length, read) in [(13_764, true), (13_765, false)] {
+        let mut case = Case::plain(b"");
+        case.machine_length = length;
+        let mut stream = Vec::new();
+        case.append_to(&mut stream);
+        assert_eq!(read_cases(&stream).is_ok(), read);
+    }
+}
+
+/// Behind the lists stand R and both recordings, of at most 4,000 bytes each, before the question.
+#[test]
+fn recordings_in_the_case() {
     let mut case = Case::plain(b"");
     let (first, second) = (vec![7; 4_000], vec![8; 4_000]);
     case.captures = Captures { registers: u32::MAX, first, second };
@@ -213,6 +265,7 @@ fn recordings_end_the_case() {
         .chain([7; 4_000])
         .chain([160, 15, 0, 0])
         .chain([8; 4_000])
+        .chain([0; 8])
         .collect();
     assert!(stream.ends_with(&end));
     assert_eq!(read_cases(&stream), Ok(vec![case.clone()]));

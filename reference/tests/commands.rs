@@ -1,6 +1,7 @@
 //! The binary: its commands over standard input and output.
 
 use reference::generate::examples::P7;
+use reference::parse::parse;
 use std::io::Write;
 use std::process::{Command, Output, Stdio};
 
@@ -78,7 +79,54 @@ fn compare() {
     assert!(text.contains("flag of run machine with words,2,1,"), "{text}");
     assert!(text.contains("compare captures,18,"), "{text}");
     assert!(text.contains("outcome of compare captures,2,"), "{text}");
+    assert!(text.contains("\ntouches,9,"), "{text}");
+    assert!(text.contains("\noutcome of touches,1,"), "{text}");
+    assert!(text.contains("\noutcome of first touching,0,"), "{text}");
     assert!(text.contains("\nmet in synthesise: 7 graph and 6 ("), "{text}");
+    assert!(text.contains("\nmet in first touching: 7 machine and 10 ("), "{text}");
+}
+
+/// The graphs that `bench` times, as texts that are read and give the machines they should.
+#[test]
+fn texts() {
+    let folder = std::env::temp_dir().join(format!("reference-texts-{}", std::process::id()));
+    let inside = folder.join("made");
+    let names = passes(&["texts", inside.to_str().expect("a name")]);
+    let names: Vec<&str> = names.lines().collect();
+    assert_eq!(names.len(), 12);
+    for (registers, blocks) in [1, 16].into_iter().flat_map(|one| [1, 8, 64].map(|b| (one, b))) {
+        for (end, reads) in [("", false), ("-in", true)] {
+            let name = format!("blocks-{blocks}-registers-{registers}{end}.txt");
+            assert!(names.contains(&&name[..]), "{name}");
+            let text = std::fs::read(inside.join(&name)).expect("a file");
+            let graph = parse(&text).expect("a graph");
+            assert_eq!((graph.blocks.len(), graph.registers), (blocks, registers), "{name}");
+            assert_eq!(graph.reads_words(), reads, "{name}");
+        }
+    }
+    assert_eq!(std::fs::read_dir(&inside).expect("the folder").count(), 12);
+    let file = inside.join(names[0]);
+    assert!(!run(&["texts", file.to_str().expect("a name")], b"").status.success());
+    std::fs::remove_dir_all(folder).expect("the folder goes");
+}
+
+/// A register of any 32 bits; anything else is a wrong use of the command.
+#[test]
+fn draw_touching() {
+    let filled = |register| {
+        let output = run(&["draw", "--touching", register], P7.as_bytes());
+        assert!(output.status.success());
+        String::from_utf8_lossy(&output.stdout).matches("touches r").count()
+    };
+    assert_eq!(["0", "1", "2", "32", "4294967295"].map(filled), [1, 1, 0, 0, 0]);
+    for wrong in ["", "x", "-1", "r0", "4294967296", "0.5"] {
+        let output = run(&["draw", "--touching", wrong], b"");
+        assert!(!output.status.success() && output.stdout.is_empty(), "{wrong}");
+        assert!(String::from_utf8_lossy(&output.stderr).contains("usage: "), "{wrong}");
+    }
+    assert!(!run(&["draw", "--touching"], b"").status.success());
+    assert!(!run(&["draw", "0"], b"").status.success());
+    assert!(!run(&["draw", "--touching", "0"], b"x\n").status.success());
 }
 
 /// The proved library's starters are the least fit set, and every count is above 0.

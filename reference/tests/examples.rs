@@ -100,7 +100,8 @@ fn p7_starters_and_listing() {
     assert_eq!(listing(P7.as_bytes()), "states,2,20\n0,0,1,2\n1,1,5,18\n");
 }
 
-/// The wires of P7, worked out by hand from paper 01 and, in the two subs, from R-2.
+/// The wires of P7, worked out by hand from paper 01 and, in the two subs, from R-2; and the touch
+/// words of R-4: state 0 keeps both registers, state 1 may change both.
 #[test]
 fn p7_wires() {
     let wires: [[u32; 4]; 20] = [
@@ -130,8 +131,10 @@ fn p7_wires() {
     table.extend([0, 1, 1, 1, 1, 1]);
     table.resize(RECORDS_AT, 255);
     table.extend([0, 2, 17, 0, 1]);
-    table.resize(RECORDS_AT + 19, 0);
+    table.resize(RECORDS_AT + 20, 0);
     table.extend([2, 18, 31, 32, 33]);
+    table.resize(RECORDS_AT + 20 + 19, 0);
+    table.push(3);
     table.resize(WIRES_AT, 0);
     table.extend(wires.iter().flatten());
     table.resize(MACHINE_WORDS, 0);
@@ -253,6 +256,7 @@ fn registers_swap_in_one_cycle() {
     let mut table = vec![0; MACHINE_WORDS];
     (table[0], table[1]) = (1, 2);
     table[RECORDS_AT..RECORDS_AT + 5].copy_from_slice(&[0, 1, 16, 1, 0]);
+    table[RECORDS_AT + 19] = 3;
     table[WIRES_AT..WIRES_AT + 4].copy_from_slice(&[1, 0, 0, 0]);
     let mut registers = registers(&[3, 8]);
     assert_eq!(run_machine(&table, &mut registers, 0, 3), spent(3, 0));

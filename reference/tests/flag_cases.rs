@@ -57,7 +57,7 @@ impl Stored {
 
 fn stored() -> &'static [Stored] {
     static STORED: OnceLock<Vec<Stored>> = OnceLock::new();
-    STORED.get_or_init(|| cases(1, 4_500).into_iter().map(Stored::of).collect())
+    STORED.get_or_init(|| cases(1, 4_800).into_iter().map(Stored::of).collect())
 }
 
 /// In so many stored cases, at least, something of a kind is found.

@@ -9,7 +9,7 @@ use reference::generate::sum_cases::{
 };
 use reference::generate::word_cases::SUM;
 use reference::graph::{Binary, Comparison};
-use reference::machine_table::{MACHINE_WORDS, RECORDS_AT, WIRES_AT};
+use reference::machine_table::{MACHINE_WORDS, RECORDS_AT, RECORD_WORDS, WIRES_AT};
 use reference::operations::{
     run_graph, run_graph_with_words, run_machine, run_machine_with_words, RunAnswer, WordsRunAnswer,
 };
@@ -144,7 +144,7 @@ fn arrivals_in_the_table() {
     let chain = "graph,2,2\nblock,0\ngoto,1\nblock,1\nsub,0,1,0\nhalt\n";
     assert_eq!(wire(chain, 1), [4, 1, 0, 16]);
     // Each state counts its own wires: the second starter's arrival is its wire 0.
-    assert_eq!(machine_table_of(EARLY)[RECORDS_AT + 19], 3);
+    assert_eq!(machine_table_of(EARLY)[RECORDS_AT + RECORD_WORDS], 3);
     assert_eq!(wire(EARLY, 4), [4, 2, 3, 16]);
 }
 

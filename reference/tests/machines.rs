@@ -2,20 +2,26 @@
 
 mod common;
 
+use common::touch::mend;
 use common::*;
+use reference::answer::patch;
+use reference::case::MAX_PATCHES;
 use reference::generate::examples::P7;
 use reference::generate::machine_damage::{Damage, Table, KEPT, REFUSED};
+use reference::generate::touch_damage::{RIGHT, WRONG};
+use reference::generate::touch_words::mended;
 use reference::machine_table::{self, MACHINE_WORDS, RECORDS_AT, RECORD_WORDS, WIRES_AT};
 use reference::operations::{run_machine, run_machine_with_words};
 use reference::random::Random;
 use reference::synthesis::synthesise;
 
-/// P7 on 12 and 18 with these words changed.
+/// P7 on 12 and 18 with these words changed, and touch words that are right again.
 fn run_changed(patches: &[(usize, u32)]) -> (u32, Vec<u32>) {
     let mut table = machine_table_of(P7);
     for &(at, word) in patches {
         table[at] = word;
     }
+    mend(&mut table);
     let mut words = registers(&[12, 18]);
     let answer = run_machine(&table, &mut words, 0, 100);
     if answer.number != 0 {
@@ -194,6 +200,7 @@ fn a_halting_cycle_takes_its_registers() {
     let mut table = vec![u32::MAX; MACHINE_WORDS];
     (table[0], table[1]) = (1, 2);
     table[RECORDS_AT..RECORDS_AT + 5].copy_from_slice(&[3_070, 2, 17, 17, 16]);
+    table[RECORDS_AT + 19] = 3;
     table[wire(3_070)..wire(3_070) + 3].copy_from_slice(&[18, 0, 1]);
     table[wire(3_071)..].copy_from_slice(&[19, 16, 1, 0]);
     let mut words = registers(&[0xF0F0, 0xFF00, 5]);
@@ -220,16 +227,18 @@ fn generated_damage() {
         let (grouping, machine) = synthesise(&graph);
         let words = machine_table::encode(&grouping, &machine);
         let table = Table { words: &words };
-        let mut accepted = |damage: &Damage| {
+        let mut accepted = |damage: &Damage, mend: bool| {
+            let patches = damage(&mut random, &table);
+            let patches = if mend { mended(&words, patches) } else { patches };
             let mut changed = words.clone();
-            for (at, word) in damage(&mut random, &table) {
-                if let Some(place) = changed.get_mut(at as usize) {
-                    *place = word;
-                }
-            }
-            machine_table::decode(&changed).is_some()
+            patch(&mut changed, &patches);
+            patches.len() <= MAX_PATCHES && machine_table::decode(&changed).is_some()
         };
-        assert!(REFUSED.iter().all(|damage| !accepted(damage)));
-        assert!(KEPT.iter().all(|damage| accepted(damage)));
+        assert!(REFUSED.iter().all(|damage| !accepted(damage, true)));
+        assert!(KEPT.iter().all(|damage| accepted(damage, true)));
+        assert!(WRONG.iter().all(|damage| !accepted(damage, false)));
+        // Nothing else is wrong with these.
+        assert!(WRONG.iter().all(|damage| accepted(damage, true)));
+        assert!(RIGHT.iter().all(|damage| accepted(damage, false)));
     }
 }

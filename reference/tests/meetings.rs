@@ -9,7 +9,7 @@ use reference::listing::listing;
 use reference::machine_table::{decode, MACHINE_WORDS, RECORDS_AT, RECORD_WORDS};
 use reference::meeting::{meetings, possible, Meeting};
 use reference::operation::{Operation, Refusal};
-use reference::operations::{run_graph, run_machine, synthesise};
+use reference::operations::{first_touching, run_graph, run_machine, synthesise, touches};
 use reference::parse::parse;
 use std::collections::BTreeMap;
 use std::sync::OnceLock;
@@ -18,7 +18,7 @@ struct Stored {
     case: Case,
     answer: Answer,
     machine: Vec<u32>,
-    faults: [Faults; 8],
+    faults: [Faults; 10],
 }
 
 impl Stored {
@@ -31,7 +31,7 @@ impl Stored {
 
 fn stored() -> &'static [Stored] {
     static STORED: OnceLock<Vec<Stored>> = OnceLock::new();
-    STORED.get_or_init(|| cases(1, 4_500).into_iter().map(Stored::of).collect())
+    STORED.get_or_init(|| cases(1, 4_800).into_iter().map(Stored::of).collect())
 }
 
 /// What tells one refusal from another in an answer: number, recording, line; 0 for a success.
@@ -54,6 +54,8 @@ fn answered(operation: Operation, answer: &Answer) -> Refused {
         Operation::RunMachine => answer.run_machine.answer.number,
         Operation::RunGraphWithWords => answer.run_graph_with_words.answer.number,
         Operation::RunMachineWithWords => answer.run_machine_with_words.answer.number,
+        Operation::Touches => answer.touches.number,
+        Operation::FirstTouching => answer.first_touching.number,
     };
     (number, 0, 0)
 }
@@ -89,7 +91,7 @@ fn only_possible_pairs_meet_and_each_often() {
     for faults in stored().iter().flat_map(|one| &one.faults) {
         meetings(faults).into_iter().for_each(|one| *counts.entry(one).or_insert(0) += 1);
     }
-    assert_eq!(possible().len(), 88);
+    assert_eq!(possible().len(), 92);
     for meeting in counts.keys() {
         assert!(possible().contains(meeting), "{meeting:?}");
     }
@@ -261,7 +263,10 @@ fn faults_behind_short_buffers_are_real() {
         let made = synthesise(&graph, &mut lengthened(&[], MACHINE_WORDS));
         let ran = run_graph(&graph, &mut registers.clone(), one.case.start_block, 0).number;
         let cycled = run_machine(&machine, &mut registers.clone(), one.case.start_state, 0).number;
-        let numbers = [(2, made), (3, ran), (4, cycled)];
+        let (state, register) = (one.case.asked.state, one.case.asked.register);
+        let asked = touches(&machine, state, register).number;
+        let searched = first_touching(&machine, register).number;
+        let numbers = [(2, made), (3, ran), (4, cycled), (8, asked), (9, searched)];
         for (faults, number) in numbers.map(|(index, number)| (&one.faults[index], number)) {
             let mut mended = faults.clone();
             mended.all.retain(|fault| fault.refusal.number() != 7);

@@ -2,9 +2,11 @@
 //! captures against the library.
 
 use gutkavu::captures::Line;
-use gutkavu::operations::{compare_captures, RunFields, RunWithWordsFields};
+use gutkavu::operations::{
+    compare_captures, FirstTouchingFields, RunFields, RunWithWordsFields, TouchesFields,
+};
 use reference::answer::buffers_of;
-use reference::case::Case;
+use reference::case::{Asked, Case};
 use reference::generate;
 use reference::operations::{self, RunAnswer, WordsRunAnswer};
 use reference::random::Random;
@@ -90,16 +92,33 @@ fn machine_runs_with_words_agree(case: &Case, machine: &[u32], seen: &mut Seen) 
     seen.insert(("the flag of a machine with words", plain.flag));
 }
 
+fn questions_agree(case: &Case, machine: &[u32], seen: &mut Seen) {
+    let Asked { state, register } = case.asked;
+    let second = operations::touches(machine, state, register);
+    let expected = TouchesFields { number: second.number, touched: second.touched.into() };
+    let plain = plain::touches(machine, state, register);
+    assert_eq!(expected, plain);
+    seen.insert(("touches", plain.number));
+    seen.insert(("whether it is touched", plain.touched));
+    let second = operations::first_touching(machine, register);
+    let expected = FirstTouchingFields { number: second.number, state: second.state };
+    let plain = plain::first_touching(machine, register);
+    assert_eq!(expected, plain);
+    seen.insert(("first touching", plain.number));
+    seen.insert(("the first state", plain.state));
+}
+
 #[test]
 fn the_plain_program_gives_what_the_second_gives() {
     let mut seen = Seen::new();
-    for case in generate::cases(31, 4_000) {
+    for case in generate::cases(31, 4_200) {
         let (graph, machine) = buffers_of(&case);
         texts_agree(&case, &graph, &mut seen);
         machines_agree(&case, &graph, &mut seen);
         runs_agree(&case, &graph, &machine, &mut seen);
         graph_runs_with_words_agree(&case, &graph, &mut seen);
         machine_runs_with_words_agree(&case, &machine, &mut seen);
+        questions_agree(&case, &machine, &mut seen);
     }
     let every = [
         ("read", &[0, 1, 2, 3, 4, 5, 7][..]),
@@ -115,6 +134,10 @@ fn the_plain_program_gives_what_the_second_gives() {
         ("the flag of a machine", &[0, 1]),
         ("the flag of a graph with words", &[0, 1]),
         ("the flag of a machine with words", &[0, 1]),
+        ("touches", &[0, 7, 9, 10]),
+        ("whether it is touched", &[0, 1]),
+        ("first touching", &[0, 7, 10]),
+        ("the first state", &[0, 1, 2, 3, 63, 255]),
     ];
     all_seen(&seen, &every);
 }

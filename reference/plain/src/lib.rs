@@ -1,4 +1,4 @@
-//! The plain program: the eight operations as plain Rust on flat arrays, with the same checks and the
+//! The plain program: the ten operations as plain Rust on flat arrays, with the same checks and the
 //! same algorithms as the proved library. Nothing is allocated.
 
 pub mod capture;
@@ -12,6 +12,7 @@ pub mod run_graph;
 pub mod run_machine;
 pub mod state;
 pub mod synthesise;
+pub mod touch;
 pub mod value;
 pub mod words;
 pub mod write;
@@ -21,6 +22,7 @@ pub use read::read;
 pub use run_graph::{run_graph, run_graph_with_words};
 pub use run_machine::{run_machine, run_machine_with_words};
 pub use synthesise::synthesise;
+pub use touch::{first_touching, touches};
 pub use write::write;
 
 use gutkavu::operations::{RunFields, RunWithWordsFields};
@@ -39,9 +41,12 @@ pub const ENDING: usize = 33;
 pub const STARTERS: usize = 2;
 pub const BLOCK_STATES: usize = 66;
 pub const RECORDS: usize = 130;
-pub const RECORD_WORDS: usize = 19;
-pub const WIRE_WORDS: usize = 1_346;
+pub const RECORD_WORDS: usize = 20;
+pub const WIRE_WORDS: usize = 1_410;
 pub const WIRES: usize = 3_072;
+/// Where in a record its next registers begin, and its touch word.
+pub const NEXT: usize = 3;
+pub const TOUCH: usize = 19;
 
 /// The words of block `n`.
 #[inline]

@@ -1,6 +1,7 @@
 //! Which machine tables are admitted: the conditions of refusal 10.
 
-use crate::{BLOCKS, RECORDS, RECORD_WORDS, REGISTERS, WIRES, WIRE_WORDS};
+use crate::touch::touch_word;
+use crate::{BLOCKS, NEXT, RECORDS, RECORD_WORDS, REGISTERS, TOUCH, WIRES, WIRE_WORDS};
 
 /// The record of state `k`.
 #[inline]
@@ -36,9 +37,10 @@ fn wire_fits(wire: &[u32], registers: u32, n: u32, reads: &mut bool) -> bool {
 fn state_fits(table: &[u32], k: usize, registers: u32, reads: &mut bool) -> bool {
     let record = record(table, k);
     let wires = wires(table, record).chunks_exact(4);
-    let next = &record[2..3 + registers as usize];
+    let next = &record[2..NEXT + registers as usize];
     wires.zip(0..).all(|(wire, n)| wire_fits(wire, registers, n, reads))
         && next.iter().all(|&x| is_reference(x, registers, record[1]))
+        && touch_word(&next[1..]) == record[TOUCH]
 }
 
 /// The first wire of state `k`, and the one past its last.

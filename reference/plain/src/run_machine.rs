@@ -3,7 +3,7 @@
 use crate::machine_admission::{self, record, wires};
 use crate::value::value;
 use crate::words::{Unread, Words};
-use crate::{dry, halted, refused, spent, without_words, REGISTERS, WIRES};
+use crate::{dry, halted, refused, spent, without_words, NEXT, REGISTERS, WIRES};
 use gutkavu::operations::{RunFields, RunWithWordsFields};
 use gutkavu::MACHINE_WORDS;
 
@@ -25,7 +25,7 @@ fn cycle(
         *flag |= over && words[wire[3] as usize] != 0;
     }
     let mut next = [0; REGISTERS];
-    for (word, &reference) in next[..registers].iter_mut().zip(&record[3..]) {
+    for (word, &reference) in next[..registers].iter_mut().zip(&record[NEXT..]) {
         *word = words[reference as usize];
     }
     let state = words[record[2] as usize];

@@ -3,7 +3,10 @@
 use crate::grouping::{edges_of, group};
 use crate::placement::place;
 use crate::state::{Edges, State};
-use crate::{graph_admission, BLOCK_STATES, RECORDS, RECORD_WORDS, STARTERS, WIRE_WORDS};
+use crate::touch::touch_word;
+use crate::{
+    graph_admission, BLOCK_STATES, NEXT, RECORDS, RECORD_WORDS, STARTERS, TOUCH, WIRE_WORDS,
+};
 use gutkavu::{GRAPH_WORDS, MACHINE_WORDS};
 
 fn copy(words: &mut [u32], bytes: &[u8]) {
@@ -33,7 +36,8 @@ fn fill(graph: &[u32], table: &mut [u32]) {
         let (count, values) = (state.count, state.values);
         let record = &mut records[RECORDS + RECORD_WORDS * k..][..RECORD_WORDS];
         (record[0], record[1], record[2]) = (first as u32, count as u32, next);
-        record[3..3 + registers].copy_from_slice(&values[..registers]);
+        record[NEXT..NEXT + registers].copy_from_slice(&values[..registers]);
+        record[TOUCH] = touch_word(&values[..registers]);
         first += count;
     }
 }

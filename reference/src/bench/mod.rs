@@ -1,10 +1,12 @@
-//! The command bench: the proved library beside the plain program, and how grouping grows.
+//! The command bench: the proved library beside the plain program, and how grouping grows; and the
+//! command texts: the graphs that it times.
 
 mod captures;
 mod graphs;
 mod growth;
 mod runs;
 mod table;
+pub mod texts;
 mod timing;
 mod work;
 
@@ -20,18 +22,22 @@ fn load() -> String {
     format!("{cores} cores, load average of the last minute {minute}")
 }
 
-/// Every operation on graphs of 1, 8 and 64 blocks with 1 and 16 registers.
+/// Graphs of 1, 8 and 64 blocks with 1 and 16 registers.
+fn works() -> Result<Vec<Work>, String> {
+    let sizes = [1, 16].into_iter().flat_map(|registers| [1, 8, 64].map(|one| (one, registers)));
+    let work = |(blocks, registers)| Work::of(&mut Random::new(2_026), blocks, registers);
+    sizes.map(work).collect()
+}
+
+/// Every operation on each of the graphs.
 fn operations(out: &mut String) -> Result<(), String> {
     out.push_str(&table::heading());
     let mut highest = 0.0;
-    for registers in [1, 16] {
-        for blocks in [1, 8, 64] {
-            let work = Work::of(&mut Random::new(2_026), blocks, registers)?;
-            work.check()?;
-            let (rows, ratio) = table::rows(&work);
-            out.push_str(&rows);
-            highest = ratio.max(highest);
-        }
+    for work in works()? {
+        work.check()?;
+        let (rows, ratio) = table::rows(&work);
+        out.push_str(&rows);
+        highest = ratio.max(highest);
     }
     let _ = writeln!(out, "\nWith words / without, proved: the highest ratio is {highest:.2}.");
     Ok(())

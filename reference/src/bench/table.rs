@@ -2,7 +2,7 @@
 
 use super::runs::{Kind, Program, PLAIN, PROVED};
 use super::timing::{compare, duration, rate, Timing, ROUNDS, SAMPLE};
-use super::work::{Work, BLOCK_BUDGET, CYCLE_BUDGET};
+use super::work::{Question, Work, BLOCK_BUDGET, CYCLE_BUDGET};
 use gutkavu::operations;
 use std::fmt::Write;
 use std::hint::black_box;
@@ -13,6 +13,7 @@ pub fn heading() -> String {
         "Time a call: the median of {ROUNDS} rounds in turns, each program at least {sample} ms a round.\n\
          Ratio: proved / plain, the median of the rounds and its quartiles.\n\
          Runs: so many blocks or cycles a call; the last two columns are blocks or cycles a second.\n\
+         Touches, first touching: the last state, and the register whose first such state comes latest.\n\
          Runs with words: in these rows the first instruction of each block is `in`.\n\
          With / without: the proved runs with words and without, on the graph of the other rows.\n\
          On every graph both programs gave the same answers and the same buffers.\n"
@@ -66,6 +67,20 @@ fn synthesis(work: &Work, out: &mut String) {
     row(out, "synthesise", &made, None);
 }
 
+fn questions(work: &Work, out: &mut String) {
+    let (table, Question { state, register }) = (&work.tables.machine, work.question());
+    let asked = compare(
+        || operations::touches(black_box(table), black_box(state), black_box(register)),
+        || plain::touches(black_box(table), black_box(state), black_box(register)),
+    );
+    row(out, "touches", &asked, None);
+    let searched = compare(
+        || operations::first_touching(black_box(table), black_box(register)),
+        || plain::first_touching(black_box(table), black_box(register)),
+    );
+    row(out, "first touching", &searched, None);
+}
+
 /// A run without words, the one with them, and the large budget.
 const RUNS: [(&str, Kind, Kind, u32); 2] = [
     ("run graph", Program::graph, Program::graph_with_words, BLOCK_BUDGET),
@@ -115,6 +130,7 @@ pub fn rows(work: &Work) -> (String, f64) {
     heads(&mut out, "", ["proved", "plain"]);
     texts(work, &mut out);
     synthesis(work, &mut out);
+    questions(work, &mut out);
     runs(work, &mut out);
     heads(&mut out, "with words / without, proved", ["with", "without"]);
     let highest = words(work, &mut out);

@@ -3,7 +3,7 @@
 use super::graphs;
 use super::runs::{Kind, Program, PLAIN, PROVED};
 use gutkavu::layout::{graph, machine};
-use gutkavu::{operations, GRAPH_WORDS, MACHINE_WORDS, REGISTER_WORDS, TEXT_BYTES};
+use gutkavu::{operations, GRAPH_WORDS, MACHINE_WORDS, NONE, REGISTER_WORDS, TEXT_BYTES};
 use reference::random::Random;
 
 /// A graph table and the machine table made of it.
@@ -23,6 +23,13 @@ pub struct Work {
     pub file: [u32; REGISTER_WORDS],
     /// Enough for a long run, also where each block is an arrival.
     pub words: Vec<u32>,
+}
+
+/// A state and a register that are asked about.
+#[derive(Clone, Copy)]
+pub struct Question {
+    pub state: u32,
+    pub register: u32,
 }
 
 /// Blocks and cycles of a long run.
@@ -88,6 +95,16 @@ impl Work {
         self.tables.machine[machine::STATES]
     }
 
+    /// The search goes as far as it can to find one: to the last state, where only that touches it.
+    pub fn question(&self) -> Question {
+        let first = |&register: &u32| {
+            let found = operations::first_touching(&self.tables.machine, register);
+            Some(found.state).filter(|&state| state != NONE)
+        };
+        let latest = (0..self.registers as u32).max_by_key(first);
+        Question { state: self.states() - 1, register: latest.unwrap_or(0) }
+    }
+
     pub fn wires(&self) -> u32 {
         let count = machine::RECORDS + machine::WIRE_COUNT;
         let states = self.states() as usize;
@@ -108,6 +125,21 @@ impl Work {
             same("synthesise", plain::synthesise(&tables.graph, &mut made), 0)?;
             same("the machine table", &made, &tables.machine)?;
             self.check_runs(tables)?;
+            self.check_questions(tables)?;
+        }
+        Ok(())
+    }
+
+    /// Every state and one past them, every register and some past them.
+    fn check_questions(&self, tables: &Tables) -> Result<(), String> {
+        let table = &tables.machine;
+        for register in (0..=REGISTER_WORDS as u32).chain([31, 32, u32::MAX]) {
+            for state in 0..=self.states() {
+                let proved = operations::touches(table, state, register);
+                same("touches", proved, plain::touches(table, state, register))?;
+            }
+            let proved = operations::first_touching(table, register);
+            same("first touching", proved, plain::first_touching(table, register))?;
         }
         Ok(())
     }

@@ -3,9 +3,11 @@
 use super::lent::{Differing, Lent};
 use super::library::{padded, Library};
 use reference::answer::{fresh_bytes, fresh_words, patch};
-use reference::case::{Captures, Case};
+use reference::case::{Asked, Captures, Case};
 use reference::operation::{Fields, Operation};
-use reference::operations::{self, CaptureAnswer, RunAnswer, WordsRunAnswer};
+use reference::operations::{
+    self, CaptureAnswer, FirstTouchingAnswer, RunAnswer, TouchesAnswer, WordsRunAnswer,
+};
 
 /// What an operation answered, and the first place of its buffers that differs. The buffers have
 /// the same words before it in both programs, so one difference does not bring about others.
@@ -157,14 +159,45 @@ fn compare_captures(library: &impl Library, captures: &Captures) -> Compared {
     }
 }
 
+pub fn touches_fields(answer: TouchesAnswer) -> Fields {
+    padded(&[answer.number, answer.touched.into()])
+}
+
+fn touches(library: &impl Library, machine: &[u32], asked: Asked) -> Compared {
+    let Asked { state, register } = asked;
+    let mut lent_machine = Lent::new(machine);
+    let found = library.touches(&mut lent_machine, state, register);
+    Compared {
+        operation: Operation::Touches,
+        expected: touches_fields(operations::touches(machine, state, register)),
+        found,
+        differing: lent_machine.differing("machine table", machine),
+    }
+}
+
+pub fn first_touching_fields(answer: FirstTouchingAnswer) -> Fields {
+    padded(&[answer.number, answer.state])
+}
+
+fn first_touching(library: &impl Library, machine: &[u32], register: u32) -> Compared {
+    let mut lent_machine = Lent::new(machine);
+    let found = library.first_touching(&mut lent_machine, register);
+    Compared {
+        operation: Operation::FirstTouching,
+        expected: first_touching_fields(operations::first_touching(machine, register)),
+        found,
+        differing: lent_machine.differing("machine table", machine),
+    }
+}
+
 /// What each operation came to, and the two buffers as the runs found them.
 pub struct Checked {
-    pub compared: [Compared; 8],
+    pub compared: [Compared; 10],
     pub graph: Vec<u32>,
     pub machine: Vec<u32>,
 }
 
-/// The eight operations on a case, each on the buffers that this program made so far.
+/// The ten operations on a case, each on the buffers that this program made so far.
 pub fn check(case: &Case, library: &impl Library) -> Checked {
     let mut graph = fresh_words(case.graph_length);
     let read = read(library, &case.text, &mut graph);
@@ -182,6 +215,8 @@ pub fn check(case: &Case, library: &impl Library) -> Checked {
         run_graph_with_words(library, &graph, case),
         run_machine_with_words(library, &machine, case),
         compare_captures(library, &case.captures),
+        touches(library, &machine, case.asked),
+        first_touching(library, &machine, case.asked.register),
     ];
     Checked { compared, graph, machine }
 }

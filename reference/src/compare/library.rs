@@ -1,7 +1,9 @@
 //! The operations of a library that is compared with this program.
 
 use super::lent::Lent;
-use gutkavu::operations::{self, CaptureFields, RunFields, RunWithWordsFields};
+use gutkavu::operations::{
+    self, CaptureFields, FirstTouchingFields, RunFields, RunWithWordsFields, TouchesFields,
+};
 use reference::operation::Fields;
 
 /// Up to six fields of 32 bits.
@@ -51,6 +53,8 @@ pub trait Library: Sync {
         first: &mut Lent<u8>,
         second: &mut Lent<u8>,
     ) -> Fields;
+    fn touches(&self, machine: &mut Lent<u32>, state: u32, register: u32) -> Fields;
+    fn first_touching(&self, machine: &mut Lent<u32>, register: u32) -> Fields;
 }
 
 /// The proved library.
@@ -129,6 +133,7 @@ impl Library for Proved {
         let (table, copy) = (machine.body(), registers.body_mut());
         words_fields(operations::run_machine_with_words(table, copy, start, budget, words.body()))
     }
+
     fn compare_captures(
         &self,
         registers: u32,
@@ -136,5 +141,17 @@ impl Library for Proved {
         second: &mut Lent<u8>,
     ) -> Fields {
         capture_fields(operations::compare_captures(registers, first.body(), second.body()))
+    }
+
+    fn touches(&self, machine: &mut Lent<u32>, state: u32, register: u32) -> Fields {
+        let TouchesFields { number, touched } =
+            operations::touches(machine.body(), state, register);
+        padded(&[number, touched])
+    }
+
+    fn first_touching(&self, machine: &mut Lent<u32>, register: u32) -> Fields {
+        let FirstTouchingFields { number, state } =
+            operations::first_touching(machine.body(), register);
+        padded(&[number, state])
     }
 }

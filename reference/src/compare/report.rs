@@ -46,7 +46,7 @@ fn in_full(case: &Case) -> String {
          output buffer: {} bytes\n  machine buffer: {} words; patches: [{}]\n  \
          register buffer: {} words: {:?}\n  \
          start block {}, block budget {}, start state {}, cycle budget {}\n  \
-         {} words: {:?}\n  {} starters: {:?}\n{}",
+         {} words: {:?}\n  {} starters: {:?}\n{}  asked about state {}, register {}\n",
         case.text.len(),
         case.text.escape_ascii(),
         case.graph_length,
@@ -65,6 +65,8 @@ fn in_full(case: &Case) -> String {
         case.starters.len(),
         case.starters,
         captures(&case.captures),
+        case.asked.state,
+        case.asked.register,
     )
 }
 

@@ -1,6 +1,8 @@
 //! The comparison finds every kind of difference: it is tried on libraries that are made to differ.
 
-use super::check::{capture_fields, check, run_fields, words_fields};
+use super::check::{
+    capture_fields, check, first_touching_fields, run_fields, touches_fields, words_fields,
+};
 use super::lent::{Differing, Element, Lent};
 use super::library::{padded, Library, Proved};
 use super::{compare, named, outcome, tally_all};
@@ -44,6 +46,7 @@ fn buffers(operation: Operation) -> usize {
     match operation {
         Operation::RunGraphWithWords => 4,
         Operation::RunMachineWithWords => 3,
+        Operation::Touches | Operation::FirstTouching => 1,
         _ => 2,
     }
 }
@@ -149,6 +152,16 @@ impl Library for Changed {
         let answer = operations::compare_captures(registers, first.body(), second.body());
         self.apply(Operation::CompareCaptures, capture_fields(answer), &mut [first, second])
     }
+
+    fn touches(&self, machine: &mut Lent<u32>, state: u32, register: u32) -> Fields {
+        let answer = operations::touches(machine.body(), state, register);
+        self.apply(Operation::Touches, touches_fields(answer), &mut [machine])
+    }
+
+    fn first_touching(&self, machine: &mut Lent<u32>, register: u32) -> Fields {
+        let answer = operations::first_touching(machine.body(), register);
+        self.apply(Operation::FirstTouching, first_touching_fields(answer), &mut [machine])
+    }
 }
 
 /// P7 with lists and recordings that have a place 15.
@@ -211,17 +224,20 @@ fn every_changed_place_is_a_difference() {
     }
 }
 
+fn printed(operation: Operation, change: Change) -> String {
+    place(operation, change).expect("a difference").to_string()
+}
+
 /// Buffers are named, and a guard's place is told from a buffer's.
 #[test]
 fn places_are_printed() {
-    let printed = |operation, change| place(operation, change).expect("a difference").to_string();
     assert_eq!(
         printed(Operation::Read, Change::Place(0, 1)),
         "text of length 135, index 1: 114 expected, 10 found"
     );
     assert_eq!(
         printed(Operation::RunMachine, Change::Place(0, -1)),
-        "machine table of length 13634, index -1 in the guard before it: \
+        "machine table of length 13698, index -1 in the guard before it: \
          3235774527 expected, 3235774464 found"
     );
     assert_eq!(
@@ -244,6 +260,19 @@ fn places_are_printed() {
     assert_eq!(
         printed(Operation::CompareCaptures, Change::End(1)),
         "second recording of length 17, index 17 in the guard after it: 10 expected, 13 found"
+    );
+}
+
+#[test]
+fn places_of_questions_are_printed() {
+    assert_eq!(
+        printed(Operation::Touches, Change::Place(0, 0)),
+        "machine table of length 13698, index 0: 2 expected, 3235774464 found"
+    );
+    assert_eq!(
+        printed(Operation::FirstTouching, Change::End(0)),
+        "machine table of length 13698, index 13698 in the guard after it: \
+         3235774464 expected, 3235774465 found"
     );
 }
 
@@ -275,6 +304,7 @@ fn differences_are_reported() {
         format!("  recordings of {} registers\n", captures.registers),
         format!("  first recording of {} bytes: \"{}\"\n", first.len(), first.escape_ascii()),
         format!("  second recording of {} bytes: \"{}\"\n", second.len(), second.escape_ascii()),
+        format!("  asked about state {}, register {}\n", case.asked.state, case.asked.register),
     ];
     for part in parts {
         assert!(text.contains(&part), "{part}");
@@ -309,6 +339,36 @@ fn differences_of_flags_are_reported() {
         assert!(text.ends_with("seed 11: 40 cases, 40 differ\n"), "{text}");
         assert!(text.contains(&format!("  {} differs\n", run.name())), "{text}");
         assert!(text.contains(", flag "), "{text}");
+    }
+}
+
+/// A library that differs in the questions alone is found: in the number, in whether a register is
+/// touched, in the state, and in bits that neither has.
+#[test]
+fn differences_of_questions_are_reported() {
+    for (operation, name) in [(Operation::Touches, "touched"), (Operation::FirstTouching, "state")]
+    {
+        for (field, bit) in [(0, 0), (0, 1), (1, 0), (1, 5), (1, 31)] {
+            let library = Changed(operation, Change::Field(field, bit));
+            let text = compare(11, 40, &library).expect_err("a difference");
+            assert!(text.ends_with("seed 11: 40 cases, 40 differ\n"), "{text}");
+            assert!(text.contains(&format!("  {} differs\n", operation.name())), "{text}");
+            assert!(text.contains(&format!(", {name} ")), "{text}");
+        }
+    }
+}
+
+/// Touched or not, and a state or none, where it is no refusal.
+#[test]
+fn outcomes_of_questions() {
+    let outcome =
+        |operation: Operation, number, answer| operation.outcome([number, answer, 0, 0, 0, 0]);
+    assert_eq!([0, 1].map(|touched| outcome(Operation::Touches, 0, touched)), [Some(0), Some(1)]);
+    let found = |state| outcome(Operation::FirstTouching, 0, state);
+    assert_eq!([0, 63, 254, 255].map(found), [Some(1), Some(1), Some(1), Some(0)]);
+    for operation in [Operation::Touches, Operation::FirstTouching] {
+        assert_eq!(outcome(operation, 10, 0), None);
+        assert_eq!(operation.flag([0, 1, 0, 0, 0, 0]), None);
     }
 }
 
@@ -358,7 +418,7 @@ fn numbers_that_are_not_hit_are_reported() {
     let same = Changed(Operation::Read, Change::Nothing);
     let mut tally = tally_all(&Cases::of(1), 2_000, &same);
     assert!(outcome(1, 2_000, &tally).is_ok());
-    assert_eq!(named().count(), 45 + 20 + 88);
+    assert_eq!(named().count(), 56 + 20 + 92);
     for hit in named() {
         let cases = tally.counts.remove(&hit).expect("a hit");
         let text = outcome(1, 2_000, &tally).expect_err("one is missing");

@@ -2,10 +2,13 @@
 
 use super::forms;
 use super::tables::{Branch, Edge, Tables};
+use super::touching::Touching;
 use std::fmt::Write;
 
 const GREY: &str = "#909090";
 const BLACK: &str = "#404040";
+/// What states that touch a register are filled with.
+const AMBER: &str = "#ffc94d";
 
 /// Hue, saturation and brightness; the hues of neighbouring states lie far apart.
 fn colour(state: usize, saturation: f64, brightness: f64) -> String {
@@ -82,13 +85,17 @@ fn node(tables: &Tables, n: usize) -> String {
     format!("b{n} [label={label}, fillcolor=\"{fill}\", color=\"{dark}\"{borders}];\n")
 }
 
-fn cluster(out: &mut String, tables: &Tables, state: usize) {
-    let (pale, dark, wires) = (pale(state), dark(state), tables.wires(state));
+fn cluster(out: &mut String, tables: &Tables, touching: Option<&Touching>, state: usize) {
+    let (dark, wires) = (dark(state), tables.wires(state));
+    let (fill, line) = match touching.filter(|one| one.states[state]) {
+        Some(one) => (AMBER.to_string(), format!("touches r{}\\l", one.register)),
+        None => (pale(state), String::new()),
+    };
     let _ = writeln!(out, "    subgraph cluster_{state} {{");
-    // Two short lines at the left, so that edges into the state seldom cross them.
-    let _ = writeln!(out, "        label=\"state {state}\\l{wires} wires\\l\";");
+    // Short lines at the left, so that edges into the state seldom cross them.
+    let _ = writeln!(out, "        label=\"state {state}\\l{wires} wires\\l{line}\";");
     let _ = writeln!(out, "        style=\"rounded,filled\"; margin=12;");
-    let _ = writeln!(out, "        fillcolor=\"{pale}\"; color=\"{dark}\"; fontcolor=\"{dark}\";");
+    let _ = writeln!(out, "        fillcolor=\"{fill}\"; color=\"{dark}\"; fontcolor=\"{dark}\";");
     for n in (0..tables.blocks()).filter(|&n| tables.state(n) == Some(state)) {
         let _ = write!(out, "        {}", node(tables, n));
     }
@@ -113,7 +120,7 @@ fn edge(tables: &Tables, edge: &Edge) -> String {
     format!("    b{source} -> b{target} [label=\"{label}\", {look}];\n")
 }
 
-pub fn dot(tables: &Tables) -> String {
+pub fn dot(tables: &Tables, touching: Option<&Touching>) -> String {
     let (blocks, states) = (tables.blocks(), tables.states());
     let wires: u32 = (0..states).map(|state| tables.wires(state)).sum();
     let mut out = format!(
@@ -125,7 +132,7 @@ pub fn dot(tables: &Tables) -> String {
     out += "    node [shape=box, style=\"rounded,filled\", fontname=\"monospace\", fontsize=11, margin=\"0.08,0.04\", width=1.4];\n";
     out += "    edge [fontname=\"sans-serif\", fontsize=10, arrowsize=0.8];\n";
     for state in 0..states {
-        cluster(&mut out, tables, state);
+        cluster(&mut out, tables, touching, state);
     }
     for n in (0..blocks).filter(|&n| tables.state(n).is_none()) {
         let _ = write!(out, "    {}", node(tables, n));

@@ -3,9 +3,11 @@
 mod dot;
 mod forms;
 mod tables;
+mod touching;
 
 use gutkavu::{operations, GRAPH_WORDS, MACHINE_WORDS};
 use tables::Tables;
+use touching::Touching;
 
 fn meaning(number: u32) -> &'static str {
     match number {
@@ -32,8 +34,12 @@ fn tables(text: &[u8]) -> Result<Tables, String> {
     }
 }
 
-pub fn draw(text: &[u8]) -> Result<Vec<u8>, String> {
-    Ok(dot::dot(&tables(text)?).into_bytes())
+/// The picture of a text, with the states that touch a register in a colour of their own.
+pub fn draw(text: &[u8], register: Option<u32>) -> Result<Vec<u8>, String> {
+    let tables = tables(text)?;
+    let touching = register.map(|register| Touching::of(&tables, register)).transpose();
+    let touching = touching.map_err(|refusal| refusal.to_string())?;
+    Ok(dot::dot(&tables, touching.as_ref()).into_bytes())
 }
 
 #[cfg(test)]

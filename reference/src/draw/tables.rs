@@ -70,6 +70,6 @@ impl Tables {
     }
 
     pub fn wires(&self, state: usize) -> u32 {
-        self.machine[130 + 19 * state + 1]
+        self.machine[130 + 20 * state + 1]
     }
 }

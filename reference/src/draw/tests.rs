@@ -3,8 +3,10 @@
 use super::tables::Tables;
 use super::{draw, forms, tables};
 use reference::generate::graphs;
+use reference::parse::parse;
 use reference::print::print;
 use reference::random::Random;
+use reference::synthesis::synthesise;
 use std::io::Write;
 use std::process::{Command, Stdio};
 
@@ -30,7 +32,7 @@ fn count(picture: &str, part: &str) -> usize {
 
 fn parts_are_right(text: &[u8]) {
     let made: Tables = tables(text).expect("a graph");
-    let picture = String::from_utf8(draw(text).expect("a picture")).expect("text");
+    let picture = String::from_utf8(draw(text, None).expect("a picture")).expect("text");
     let blocks = 0..made.blocks();
     let edges: Vec<_> = blocks.clone().flat_map(|n| made.edges(n)).collect();
     let absent = blocks.clone().filter(|&n| made.state(n).is_none()).count();
@@ -64,7 +66,7 @@ fn a_picture_has_every_block_state_and_edge() {
 #[test]
 fn the_picture_of_gcd() {
     let text = examples().into_iter().find(|(name, _)| name.ends_with("gcd.txt")).expect("gcd").1;
-    let picture = String::from_utf8(draw(&text).expect("a picture")).expect("text");
+    let picture = String::from_utf8(draw(&text, None).expect("a picture")).expect("text");
     for part in [
         "state 0\\l2 wires",
         "state 1\\l18 wires",
@@ -78,6 +80,50 @@ fn the_picture_of_gcd() {
     }
 }
 
+/// The states of a picture that are filled as those that touch a register.
+fn filled(text: &[u8], register: Option<u32>) -> Vec<usize> {
+    let picture = String::from_utf8(draw(text, register).expect("a picture")).expect("text");
+    let clusters = picture.split("subgraph cluster_").skip(1);
+    let is_filled = |cluster: &&str| cluster.contains("fillcolor=\"#ffc94d\"; color=");
+    let number = |cluster: &str| cluster.split(' ').next().and_then(|state| state.parse().ok());
+    clusters.filter(is_filled).map(|cluster| number(cluster).expect("a state")).collect()
+}
+
+#[test]
+fn states_that_touch_a_register_are_filled() {
+    let example = |name: &str| {
+        examples().into_iter().find(|(path, _)| path.ends_with(name)).expect("an example").1
+    };
+    let gcd = example("gcd.txt");
+    assert_eq!(filled(&gcd, None), [0; 0]);
+    assert_eq!(filled(&gcd, Some(0)), [1]);
+    assert_eq!(filled(&gcd, Some(2)), [0; 0]);
+    let figure5 = example("figure5.txt");
+    assert_eq!(filled(&figure5, Some(0)), [1, 2, 3]);
+    assert_eq!(filled(&figure5, Some(2)), [0, 1, 2, 3]);
+    assert_eq!(filled(&figure5, Some(3)), [0, 1, 2]);
+    for register in [4, 16, 32, 34, u32::MAX] {
+        assert_eq!(filled(&figure5, Some(register)), [0; 0]);
+    }
+    let picture = String::from_utf8(draw(&gcd, Some(1)).expect("a picture")).expect("text");
+    assert_eq!(count(&picture, "touches r1"), 1);
+    assert!(picture.contains("state 1\\l18 wires\\ltouches r1\\l"), "{picture}");
+}
+
+/// They are those of the second program, on graphs of any size.
+#[test]
+fn filled_states_are_those_of_the_references() {
+    for text in random_texts().iter().step_by(4) {
+        let (_, machine) = synthesise(&parse(text).expect("a graph"));
+        for register in (0..18).step_by(3) {
+            let states = machine.states.iter().enumerate();
+            let touching = states.filter(|(_, state)| state.touches(register));
+            let expected: Vec<usize> = touching.map(|(state, _)| state).collect();
+            assert_eq!(filled(text, Some(register as u32)), expected);
+        }
+    }
+}
+
 #[test]
 fn an_input_is_drawn() {
     assert_eq!(forms::instruction(&[20, 3, 0, 0]), "r3 := in");
@@ -85,7 +131,7 @@ fn an_input_is_drawn() {
 
 #[test]
 fn a_refused_text_gives_number_and_line() {
-    let message = draw(b"graph,1,1\nblock,1\n").expect_err("a refusal");
+    let message = draw(b"graph,1,1\nblock,1\n", None).expect_err("a refusal");
     assert!(message.contains("number 3 at line 2"), "{message}");
 }
 
@@ -109,10 +155,11 @@ fn graphviz_takes_the_pictures() {
         return;
     }
     for (name, text) in examples() {
-        let picture = draw(&text).expect("a picture");
+        let picture = draw(&text, None).expect("a picture");
         assert!(renders("-Tsvg", &picture) && renders("-Tpng", &picture), "{name}");
+        assert!(renders("-Tsvg", &draw(&text, Some(0)).expect("a picture")), "{name}");
     }
     for text in random_texts().iter().step_by(10) {
-        assert!(renders("-Tsvg", &draw(text).expect("a picture")));
+        assert!(renders("-Tsvg", &draw(text, None).expect("a picture")));
     }
 }

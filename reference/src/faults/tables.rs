@@ -53,7 +53,7 @@ fn block_reads(buffer: &[u32], block: usize) -> bool {
 
 pub struct MachineFacts {
     pub short: bool,
-    /// One that a run refuses 10; of a short one only N and R are looked at.
+    /// One that is refused 10; of a short one only N and R are looked at.
     pub refused: bool,
     pub reads_words: bool,
     /// N, whatever it is.

@@ -210,7 +210,7 @@ fn orders() -> Vec<Captures> {
 }
 
 /// Several faults, of which one goes first; recordings of one register.
-const SEVERAL: [(&str, &str); 20] = [
+const SEVERAL: [(&str, &str); 24] = [
     ("1,0,5\n2,0,5\n2,0,5\n", "x\n"),
     ("1,0,5\n2,0,5\nx\n", "1,0,5\n1,0,5\n"),
     ("1,0,5\nx\n", "1,0,5\nx\n"),
@@ -231,6 +231,10 @@ const SEVERAL: [(&str, &str); 20] = [
     ("1,0,5\n2,0,x\n", "1,0,6\n2,0,5\n"),
     ("1,0,5\n2,0,5\n", "1,1,6\n2,0,5\n2,0,5\n"),
     ("4294967296,0,5\n1,0,5\n", "1,0,5\n"),
+    ("1,0,5\n", "1,0,5\n1,0,5\n1,0,5\n"),
+    ("1,0,5\n", "3,0,5\n2,0,5\n1,0,5\n"),
+    ("", "2,0,5\n2,0,6\n5,0,5\n4,0,5\n"),
+    ("1,0,5\n2,0,5\n", "1,0,5\n0,0,5\n9,0,5\n9,0,5\n"),
 ];
 
 fn several() -> Vec<Captures> {

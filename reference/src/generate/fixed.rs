@@ -1,8 +1,10 @@
 //! Cases that do not depend on the seed: examples, each named fault, sweeps.
 
 use super::examples::{self, P12, P7};
-use super::{capture_cases, sum_cases, word_cases};
-use crate::case::Case;
+use super::touch_words::mended;
+use super::{capture_cases, sum_cases, touch_cases, word_cases};
+use crate::answer::buffers_of;
+use crate::case::{Asked, Case};
 use crate::graph::{Block, Comparison, Ending, Graph, Instruction, MAX_BLOCKS, MAX_REGISTERS};
 use crate::grouping::group;
 use crate::machine_table::{RECORDS_AT, RECORD_WORDS, WIRES_AT};
@@ -107,25 +109,57 @@ fn graph_sweep() -> Vec<Case> {
     (0..2 + 3 * 40).chain([122, 155, 2_560, 2_561, 2_562]).map(change).collect()
 }
 
-/// Every word of P7's machine that may be read, and some that may not.
+/// Every word of P7's machine that may be read, and some that may not. Where a touch word is wrong
+/// by that, another case has the right one.
 fn machine_sweep() -> Vec<Case> {
     let records = RECORDS_AT..RECORDS_AT + 2 * RECORD_WORDS + 3;
     let wires = WIRES_AT..WIRES_AT + 21 * 4;
+    let mut case = Case::plain(P7.as_bytes());
+    let (_, made) = buffers_of(&case);
+    case.registers[..2].copy_from_slice(&[12, 18]);
+    (case.block_budget, case.cycle_budget) = (9, 20);
+    let with = |patches| Case { machine_patches: patches, ..case.clone() };
     let change = |index: usize| {
-        let mut case = Case::plain(P7.as_bytes());
-        let word = [1, 2, 16, 17, 20, 33, 34][index % 7];
-        case.machine_patches = vec![(index as u32, word)];
-        case.registers[..2].copy_from_slice(&[12, 18]);
-        (case.block_budget, case.cycle_budget) = (9, 20);
-        case
+        let patches = vec![(index as u32, [1, 2, 16, 17, 20, 33, 34][index % 7])];
+        let mended = mended(&made, patches.clone());
+        let right = (mended != patches).then(|| with(mended));
+        [Some(with(patches)), right].into_iter().flatten()
     };
-    [0, 1, 2, 66].into_iter().chain(records).chain(wires).map(change).collect()
+    [0, 1, 2, 66].into_iter().chain(records).chain(wires).flat_map(change).collect()
 }
 
 /// The starters of the machine that a text makes, or block 0 alone.
 pub fn own_starters(text: &[u8]) -> Vec<u32> {
     let starters = parse(text).map_or(vec![0], |graph| group(&graph).starters);
     starters.iter().map(|&block| block as u32).collect()
+}
+
+/// States and registers, such that there are and such that there are not.
+const QUESTIONS: [(u32, u32); 18] = [
+    (0, 0),
+    (0, 1),
+    (1, 0),
+    (1, 1),
+    (2, 0),
+    (0, 2),
+    (3, 1),
+    (63, 0),
+    (1, 15),
+    (0, 16),
+    (64, 0),
+    (255, 1),
+    (1, 32),
+    (0, 31),
+    (1, 33),
+    (u32::MAX, 0),
+    (0, u32::MAX),
+    (0, 2_147_483_648),
+];
+
+fn with_questions(cases: &mut [Case]) {
+    for (case, &(state, register)) in cases.iter_mut().zip(QUESTIONS.iter().cycle()) {
+        case.asked = Asked { state, register };
+    }
 }
 
 /// A pair of recordings for each case, and further cases for those that are left.
@@ -153,5 +187,7 @@ pub fn cases() -> Vec<Case> {
     }
     cases.extend(word_cases::cases());
     cases.extend(sum_cases::cases());
+    with_questions(&mut cases);
+    cases.extend(touch_cases::cases());
     with_captures(cases)
 }

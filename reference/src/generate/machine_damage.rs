@@ -1,6 +1,8 @@
 //! Patches on machine tables: refused ones, and ones that must be run.
 
 use super::arrival_damage::{another_arrival, bad_arrival, no_arrivals};
+use super::touch_damage::one_bit;
+use super::touch_words::{mended, touch_at};
 use super::words;
 use crate::case::{Patch, MAX_PATCHES};
 use crate::machine_table::{
@@ -57,7 +59,7 @@ impl Table<'_> {
     }
 }
 
-fn record(state: usize) -> usize {
+pub fn record(state: usize) -> usize {
     RECORDS_AT + state * RECORD_WORDS
 }
 
@@ -195,19 +197,21 @@ fn another_code(random: &mut Random, table: &Table) -> Vec<Patch> {
     vec![patch(at, random.between(1, 20))]
 }
 
-/// Kinds that a run always refuses.
+/// Kinds that are always refused, once their touch words are right.
 pub const REFUSED: [Damage; 7] = [
     state_count, register_count, wire_range, empty_past_the_end, sharing, unknown_code, bad_arrival,
 ];
 
 /// One of those that are refused, for any table whose N and R are right.
 pub fn refused(random: &mut Random, table: &Table) -> Vec<Patch> {
-    let kinds: [Damage; 6] =
-        [state_count, register_count, register_count, wire_range, empty_past_the_end, bad_next];
+    let kinds: [Damage; 8] = [
+        state_count, state_count, register_count, register_count, wire_range, empty_past_the_end,
+        bad_next, one_bit,
+    ];
     random.pick(&kinds)(random, table)
 }
 
-/// Kinds that a run refuses mostly, as the words happen to fall.
+/// Kinds that are mostly refused, as the words happen to fall.
 const MOSTLY_REFUSED: [Damage; 6] =
     [bad_operand, bad_operand, bad_next, sliding, fewer_registers, another_code];
 
@@ -293,7 +297,7 @@ fn another_operand(random: &mut Random, table: &Table) -> Vec<Patch> {
     vec![patch(slot, random.pick(&[register, earlier, 15 + wire]))]
 }
 
-/// More or fewer states; a record of zeros has no wires and is fine.
+/// More or fewer states; a record of zeros has no wires, and all its registers become register 0.
 fn another_n(random: &mut Random, table: &Table) -> Vec<Patch> {
     let n = table.states();
     let more = (n + 1).min(64);
@@ -301,7 +305,11 @@ fn another_n(random: &mut Random, table: &Table) -> Vec<Patch> {
     vec![patch(0, random.pick(&[more, more, 64, (n - 1).max(1), 1, any]))]
 }
 
+/// The added ones become register 0, which every touch word says; with 64 states there is no room.
 fn more_registers(random: &mut Random, table: &Table) -> Vec<Patch> {
+    if table.states() == 64 {
+        return another_literal(random, table);
+    }
     let any = random.between(table.registers(), 16);
     vec![patch(1, random.pick(&[16, any]))]
 }
@@ -328,7 +336,7 @@ fn empty_inside(random: &mut Random, table: &Table) -> Vec<Patch> {
     let (first, count) = (table.first(other), table.count(other));
     let inside = first + random.below(count);
     let ends = [first, first + 1, first + count - 1, first + count, ALL_WIRES];
-    let at = if random.percent(40) { inside } else { random.pick(&ends) };
+    let at = if random.percent(55) { inside } else { random.pick(&ends) };
     let mut patches = Vec::new();
     if state == other && table.states() < 64 {
         state = table.states();
@@ -390,19 +398,20 @@ fn rewritten_state(random: &mut Random, table: &Table) -> Vec<Patch> {
 }
 
 fn past_the_table(random: &mut Random, _: &Table) -> Vec<Patch> {
-    (0..3).map(|_| patch(random.between(MACHINE_WORDS, 13_720), random.word() as usize)).collect()
+    (0..3).map(|_| patch(random.between(MACHINE_WORDS, 13_784), random.word() as usize)).collect()
 }
 
-/// Kinds that a run never refuses.
-pub const KEPT: [Damage; 27] = [
+/// Kinds that are never refused, once their touch words are right.
+pub const KEPT: [Damage; 29] = [
     another_arrival, no_arrivals, input_wire, input_wire, input_wire, starters_and_blocks,
     records_from_n, next_from_r, wires_of_no_state, unused_operands, another_literal,
     another_literal, another_next, another_operand, another_n, more_registers, moved_to_the_end,
-    moved_to_the_end, empty_inside, empty_inside, empty_inside, added_state, added_state,
-    rewritten_state, rewritten_state, rewritten_state, past_the_table,
+    moved_to_the_end, empty_inside, empty_inside, empty_inside, empty_inside, empty_inside,
+    added_state, added_state, rewritten_state, rewritten_state, rewritten_state, past_the_table,
 ];
 
-/// Patches for a table that synthesis made.
+/// Patches for a table that synthesis made. Where they change next references, the touch words are
+/// mostly made right again, so that the table is judged and run by the rest of it.
 pub fn patches(random: &mut Random, words: &[u32]) -> Vec<Patch> {
     let table = Table { words };
     let kinds: &[Damage] = match random.below(100) {
@@ -413,6 +422,9 @@ pub fn patches(random: &mut Random, words: &[u32]) -> Vec<Patch> {
     let mut patches = random.pick(kinds)(random, &table);
     if patches.is_empty() || random.percent(12) {
         patches.extend(random.pick(&KEPT)(random, &table));
+    }
+    if random.percent(94) {
+        patches = mended(words, patches);
     }
     patches.truncate(MAX_PATCHES);
     patches
@@ -428,11 +440,16 @@ pub fn bare_machine(random: &mut Random) -> Vec<Patch> {
         let count = random.between(0, 3);
         patches.push(patch(record(state), first));
         patches.push(patch(record(state) + 1, count));
+        let mut touched = 0;
         for slot in 2..3 + r {
             let reference = random.below(r + count);
             let reference = if reference < r { reference } else { reference - r + 16 };
             patches.push(patch(record(state) + slot, reference));
+            if slot > 2 && reference != slot - 3 {
+                touched |= 1 << (slot - 3);
+            }
         }
+        patches.push(patch(touch_at(state), touched));
         patches.extend(free_wires(random, wire_at(first), count, r));
         first += count + random.below(3);
     }

@@ -1,4 +1,4 @@
-//! Cases from a seed: which texts, which damage, which buffers, which recordings.
+//! Cases from a seed: which texts, which damage, which buffers, which recordings, which questions.
 
 pub mod arrival_damage;
 mod capture_cases;
@@ -12,12 +12,16 @@ pub mod graph_damage;
 pub mod graphs;
 mod lists;
 pub mod machine_damage;
+mod questions;
 mod row;
 mod runs;
 mod several;
 pub mod shapes;
 pub mod sum_cases;
 pub mod texts;
+pub mod touch_cases;
+pub mod touch_damage;
+pub mod touch_words;
 pub mod word_cases;
 pub mod words;
 
@@ -40,20 +44,22 @@ enum Aim {
     Buffers,
     Starts,
     Sums,
+    Touches,
     Several,
 }
 
 fn aim(random: &mut Random) -> Aim {
     match random.below(1_000) {
-        0..=129 => Aim::Valid,
-        130..=299 => Aim::Text,
-        300..=310 => Aim::LongText,
-        311..=419 => Aim::GraphTable,
-        420..=549 => Aim::MachineTable,
-        550..=577 => Aim::BareMachine,
-        578..=597 => Aim::Buffers,
-        598..=649 => Aim::Starts,
-        650..=873 => Aim::Sums,
+        0..=114 => Aim::Valid,
+        115..=264 => Aim::Text,
+        265..=275 => Aim::LongText,
+        276..=374 => Aim::GraphTable,
+        375..=504 => Aim::MachineTable,
+        505..=532 => Aim::BareMachine,
+        533..=552 => Aim::Buffers,
+        553..=599 => Aim::Starts,
+        600..=813 => Aim::Sums,
+        814..=873 => Aim::Touches,
         _ => Aim::Several,
     }
 }
@@ -83,7 +89,7 @@ fn buffers(random: &mut Random, aim: Aim, case: &mut Case) {
     };
     if random.percent(20) {
         case.graph_length = random.pick(&[2_563, 2_570, 2_600]);
-        case.machine_length = random.pick(&[13_635, 13_634, 13_700]);
+        case.machine_length = random.pick(&[13_699, 13_698, 13_764]);
     }
     let length = random.pick(&[16, 16, 16, 16, 17, 20]);
     case.registers = match aim {
@@ -98,19 +104,22 @@ fn buffers(random: &mut Random, aim: Aim, case: &mut Case) {
     }
 }
 
+/// Lengths of short machine buffers; 13,634 words were a table before records had touch words.
+pub const SHORT_MACHINES: [u32; 8] = [13_697, 13_697, 13_634, 10_000, 1_410, 2, 1, 0];
+
 fn short_buffers(random: &mut Random, case: &mut Case) {
     match random.below(6) {
         0 => case.graph_length = random.pick(&[2_561, 0, 1, 2, 2_560, 100]),
-        1 => case.machine_length = random.pick(&[13_633, 0, 1, 2, 1_346, 10_000]),
+        1 => case.machine_length = random.pick(&SHORT_MACHINES),
         2 | 3 => case.registers.truncate(random.pick(&[15, 0, 1, 8, 15])),
         4 => {
             case.graph_length = 2_561;
-            case.machine_length = 13_633;
+            case.machine_length = 13_697;
         }
         _ => {
             case.registers.truncate(15);
             case.graph_length = random.pick(&[2_561, 2_562]);
-            case.machine_length = random.pick(&[13_633, 13_634]);
+            case.machine_length = random.pick(&[13_697, 13_698]);
         }
     }
 }
@@ -125,6 +134,9 @@ fn damage(random: &mut Random, aim: Aim, case: &mut Case) {
     let made = machine.len() >= MACHINE_WORDS && machine_table::decode(&machine).is_some();
     if aim == Aim::MachineTable && made {
         case.machine_patches = machine_damage::patches(random, &machine);
+    }
+    if aim == Aim::Touches && made {
+        case.machine_patches = touch_damage::patches(random, &machine);
     }
     if aim == Aim::Sums && made && random.percent(55) {
         case.machine_patches = arrival_damage::patches(random, &machine);
@@ -154,6 +166,7 @@ pub fn case(seed: u64, index: u64) -> Case {
         _ => aimed(random, aim),
     };
     case.captures = captures::captures(random, &case);
+    case.asked = questions::question(random, &case);
     case
 }
 

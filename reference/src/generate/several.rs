@@ -1,7 +1,7 @@
 //! Cases with several faults at once, so that every two refusals of a call meet.
 
 use super::machine_damage::{self, Table};
-use super::{faulty_lines, graph_damage, graphs, lists, words};
+use super::{faulty_lines, graph_damage, graphs, lists, words, SHORT_MACHINES};
 use crate::answer::{buffers_of, patch};
 use crate::case::{Case, Patch, MAX_PATCHES, MAX_STARTERS};
 use crate::graph::Graph;
@@ -111,7 +111,7 @@ fn small_machine(random: &mut Random, reads_words: bool) -> Vec<Patch> {
 
 fn spoil_machine(random: &mut Random, wishes: Wishes, case: &mut Case) {
     if wishes.short {
-        case.machine_length = random.pick(&[13_633, 13_633, 13_633, 10_000, 1_346, 2, 1, 0]);
+        case.machine_length = random.pick(&SHORT_MACHINES);
     }
     let (_, table) = buffers_of(case);
     let made = machine_table::decode(&table);

@@ -145,7 +145,8 @@ fn cycles() -> Vec<Case> {
         cases.push(case(EARLY, &[LEAST, MINUS_1, turns, 1, 0], 99));
         cases.push(case(EARLY, &[MOST - 1, 1, turns, 1, 0], 99));
     }
-    for registers in [[MOST, 3, 0, 1], [LEAST, 3, 0, 1], [5, 3, 0, 1], [LEAST, 3, LEAST, LEAST]] {
+    let halting = [[MOST, 3, 0, 1], [MOST, 2, 0, 1], [LEAST, 3, 0, 1], [5, 3, 0, 1]];
+    for registers in halting.into_iter().chain([[LEAST, 3, LEAST, LEAST]]) {
         cases.extend([2, 3, 4, 9].map(|budget| case(AT_HALT, &registers, budget)));
     }
     for length in 0..=5 {

@@ -4,6 +4,7 @@
 
 pub mod flags;
 pub mod recordings;
+pub mod touch;
 pub mod traces;
 
 use reference::generate::graphs;

@@ -49,8 +49,15 @@ pub struct TakenCaptures {
     pub next: Cursor,
 }
 
+// The state and the register that are asked about.
+pub struct Asked {
+    pub state: u32,
+    pub register: u32,
+    pub next: Cursor,
+}
+
 // The text's bytes, sizes of buffers, pairs of index and word, register words, the words and starters of runs with words, two recordings,
-// and the place behind the case.
+// the state and the register asked about, and the place behind the case.
 pub struct Case {
     pub text: Region,
     pub graph: u32,
@@ -66,6 +73,8 @@ pub struct Case {
     pub words: Region,
     pub starters: Region,
     pub captures: Captures,
+    pub state: u32,
+    pub register: u32,
     pub next: Cursor,
 }
 
@@ -77,7 +86,7 @@ impl Case {
 
     pub const OUTPUT: u32 = 17000;
 
-    pub const MACHINE: u32 = 13700;
+    pub const MACHINE: u32 = 13764;
 
     pub const REGISTERS: u32 = 20;
 
@@ -89,7 +98,7 @@ impl Case {
 
     pub const CAPTURE: u32 = 4000;
     // The bytes of a case, at most.
-    pub const BYTES: usize = 29704;
+    pub const BYTES: usize = 29712;
 }
 
 // The first four bytes as a word.
@@ -214,6 +223,17 @@ fn captures_at(s: &[u8], c: Cursor) -> TakenCaptures {
     }
 }
 
+fn asked_at(s: &[u8], c: Cursor) -> Asked {
+    let state = word(s, c);
+    let register = word(s, state.next);
+    let next = register.next;
+    Asked {
+        state: state.value,
+        register: register.value,
+        next,
+    }
+}
+
 // The case at a place; `next` says whether it is whole.
 pub fn case_at(s: &[u8], at: usize) -> Case
     ensures { λ r. ⌜ Within r ⌝ }
@@ -229,6 +249,7 @@ pub fn case_at(s: &[u8], at: usize) -> Case
     let words = take(s, starts.next, Case::WORDS, 4);
     let starters = take(s, words.next, Case::STARTERS, 4);
     let recordings = captures_at(s, starters.next);
+    let asked = asked_at(s, recordings.next);
     let text_region = text.region;
     let graph_region = graph_patches.region;
     let machine_region = machine_patches.region;
@@ -236,7 +257,7 @@ pub fn case_at(s: &[u8], at: usize) -> Case
     let word_region = words.region;
     let starter_region = starters.region;
     let captures = recordings.captures;
-    let next = recordings.next;
+    let next = asked.next;
     Case {
         text: text_region,
         graph: graph.value,
@@ -252,6 +273,8 @@ pub fn case_at(s: &[u8], at: usize) -> Case
         words: word_region,
         starters: starter_region,
         captures,
+        state: asked.state,
+        register: asked.register,
         next,
     }
 }

@@ -214,6 +214,16 @@ fn compare_captures(s: &[u8], captures: Captures, line: &mut [u32]) {
     put_comparison(answer, line);
 }
 
+// Both questions about the case's register.
+fn ask(machine: &[u32], c: Case, line: &mut [u32]) {
+    let one = compiler::touches(machine, c.state, c.register);
+    store(line, 40, fields::touches_number(one));
+    store(line, 41, fields::touched(one));
+    let lowest = compiler::first_touching(machine, c.register);
+    store(line, 42, fields::first_touching_number(lowest));
+    store(line, 43, fields::first_touching_state(lowest));
+}
+
 fn patch(w: &mut [u32], s: &[u8], patches: Region) {
     contents::patch(w, s, patches.at, patches.count);
 }
@@ -238,13 +248,14 @@ fn answer_on(s: &[u8], c: Case, graph: &mut [u32], machine: &mut [u32], line: &m
     run_both_with_words(s, c, graph, machine, line);
     list(text_of(s, c), line);
     compare_captures(s, c.captures, line);
+    ask(machine, c, line);
 }
 
 pub fn answer(s: &[u8], c: Case, line: &mut [u32])
     requires { ⌜ Within c ⌝ }
 {
     let mut graph = [0u32; 2600];
-    let mut machine = [0u32; 13700];
+    let mut machine = [0u32; 13764];
     let g = c.graph as usize;
     let m = c.machine as usize;
     answer_on(s, c, &mut graph[..g], &mut machine[..m], line);

@@ -6,7 +6,7 @@ use lib.ListN.{replicate, set}
 use Rattle.word.specs.Word.{evalOf}
 use Rattle.runs.specs.Lists.{same, padded}
 use Rattle.runs.specs.Operations.{answered, registersLeft}
-use Rattle.fsmd.specs.Layout.{maxRegisters, allRecordWords, allWireWords}
+use Rattle.fsmd.specs.Layout.{maxRegisters, touchOffset, allRecordWords, allWireWords}
 use Rattle.fsmd.specs.Machine.{clock}
 use Rattle.fsmd.specs.Table.{machineOf, admittedMachine}
 use Rattle.fsmd.specs.Run.{machineRefusal, machineAnswer, machineRegisters, machineWordsRefusal, machineWordsAnswer}
@@ -16,9 +16,13 @@ use Rattle.worked_examples.specs.Rows.{Row, row, fields, refusedWith, re
 abbrev pub byHand : ℕ → ℕ → List ℕ → List ℕ → List ℕ
 byHand n r records wires = n ∷ r ∷ (replicate 128 0 ++ (padded allRecordWords 0 records ++ padded allWireWords 0 wires))
 
--- first wire, wire count, next state and next registers
+-- first wire, wire count, next state and next registers; the touch word is 0
 abbrev pub state : ℕ → ℕ → ℕ → List ℕ → List ℕ
-state start count next registers = start ∷ count ∷ next ∷ padded maxRegisters 0 registers
+state start count next registers = start ∷ count ∷ next ∷ (padded maxRegisters 0 registers ++ (0 ∷ []))
+
+-- a record with another touch word
+abbrev pub touching : ℕ → List ℕ → List ℕ
+touching w words = set words touchOffset w
 
 -- without wires: r0 is the next state and the next r0
 abbrev bare : ℕ → List ℕ
@@ -43,8 +47,8 @@ admission =
     ∷ row "N = 64" (runs (byHand 64 1 [] []))
     ∷ row "N = 65: 10" (ten (byHand 65 1 [] []))
     ∷ row "R = 0: 10" (ten (byHand 1 0 [] []))
-    ∷ row "R = 16" (runs (byHand 1 16 [] []))
-    ∷ row "R = 17: 10" (ten (byHand 1 17 [] []))
+    ∷ row "R = 16, all next registers r0" (runs (byHand 1 16 (touching 65534 (state 0 0 0 [])) []))
+    ∷ row "R = 17: 10" (ten (byHand 1 17 (touching 65534 (state 0 0 0 [])) []))
     -- the space of 3,072 wires
     ∷ row "no wires from 3,072 on" (runs (byHand 1 1 (bare 3072) []))
     ∷ row "no wires from 3,073 on: 10" (ten (byHand 1 1 (bare 3073) []))
@@ -73,7 +77,7 @@ admission =
     ∷ row "the last wire as the next state" (runs (with 2 17 (1 ∷ 5 ∷ 0 ∷ 0 ∷ 1 ∷ 0 ∷ [])))
     ∷ row "one past it: 10" (ten (with 1 17 (1 ∷ 0 ∷ [])))
     ∷ row "a register at R as the next state: 10" (ten (with 1 1 (1 ∷ 0 ∷ [])))
-    ∷ row "as a next register: 10" (ten (byHand 1 1 (state 0 0 0 (1 ∷ [])) []))
+    ∷ row "as a next register: 10" (ten (byHand 1 1 (touching 1 (state 0 0 0 (1 ∷ []))) []))
     -- what is not read
     ∷ row "starters and block states" (runs (set (set (byHand 1 1 [] []) 2 99) 66 99))
     ∷ row "records from N up" (runs (byHand 1 1 (bare 0 ++ state 4000 9 99 (99 ∷ [])) []))
@@ -82,5 +86,5 @@ admission =
     ∷ row "words that a code does not use" (runs (with 2 0 (1 ∷ 5 ∷ 99 ∷ 99 ∷ 2 ∷ 0 ∷ 99 ∷ 99 ∷ [])))
     -- a next state not below N halts, and the registers are taken all the same
     ∷ row "a next state at N" (same (fields (machineAnswer (with 1 16 (1 ∷ 1 ∷ [])) (regs 0 7) 0 9)) (0 ∷ 1 ∷ 1 ∷ 255 ∷ 0 ∷ []))
-    ∷ row "its registers" (same (machineRegisters (byHand 1 1 (state 0 1 16 (16 ∷ [])) (1 ∷ 5 ∷ [])) (regs 0 7) 0 9) (regs 5 7))
+    ∷ row "its registers" (same (machineRegisters (byHand 1 1 (touching 1 (state 0 1 16 (16 ∷ []))) (1 ∷ 5 ∷ [])) (regs 0 7) 0 9) (regs 5 7))
     ∷ []

@@ -7,4 +7,5 @@ pub mod Admission
 pub mod Kept
 pub mod RunsAhead
 pub mod Flags
+pub mod Touches
 pub mod Table

@@ -6,6 +6,7 @@ use mathlib.Core.List.{List}
 use mathlib.Core.Path.{_≡_, refl, sym, ap, ap₂, _∙_}
 use lib.Dec.{eqb, leb}
 use lib.ListN.{length, getD, take, drop, length-map}
+use lib.Seq.{take-take}
 use borrow.Author.Tests.{leb-true, le-leb, eqb-true, eq-eqb}
 use Rattle.runs.proofs.Every.{below-at, below-of}
 use Rattle.runs.proofs.ListLaws.{and-left, and-right, every-map, length-upFrom, getD-map-upFrom}
@@ -44,13 +45,14 @@ wordless-is t n e =
     every-map (stateAt t) (λ q. every (λ w. not (eqb (w .code) 20)) (q .wires)) (upFrom 0 (getD t 0 0))
     ∙ sym (ap (λ (n : ℕ). every (wordlessState t) (upFrom 0 n)) e)
 
--- the next references of a state stand in its record
-pub next-words : (t : List ℕ) (k r at : ℕ) → at ≡ recordOffset k → r ≡ getD t 1 0
-    → take (at + nextRegistersOffset + r - (at + nextRegistersOffset)) (drop (at + nextRegistersOffset) t) ≡ stateAt t k .nextRegisters
+-- the next references of a state are the first R of sixteen words of its record
+pub next-words : (t : List ℕ) (k r at : ℕ) → at ≡ recordOffset k → r ≡ getD t 1 0 → r ≤ maxRegisters
+    → take r (take (at + nextRegistersOffset + maxRegisters - (at + nextRegistersOffset)) (drop (at + nextRegistersOffset) t)) ≡ stateAt t k .nextRegisters
 unfolding stateAt
-next-words t k r at ea er =
-    let n : at + nextRegistersOffset + r - (at + nextRegistersOffset) ≡ getD t 1 0 = omega (arith, er) in
-    ap₂ (λ (n i : ℕ). take n (drop (i + nextRegistersOffset) t)) n ea
+next-words t k r at ea er few =
+    let n : at + nextRegistersOffset + maxRegisters - (at + nextRegistersOffset) ≡ maxRegisters = omega arith in
+    ap (λ (n : ℕ). take r (take n (drop (at + nextRegistersOffset) t))) n ∙ take-take r maxRegisters (drop (at + nextRegistersOffset) t) few
+    ∙ ap₂ (λ (n i : ℕ). take n (drop (i + nextRegistersOffset) t)) er ea
 
 -- ---- a valid state, from the words of its record
 

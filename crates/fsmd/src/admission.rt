@@ -234,7 +234,7 @@ fn right_touch(table: &[u32], registers: usize, k: usize) -> bool
     ensures { λ v. ⌜ v ≡ rightTouch (now (table .entry)) k ⌝ }
 {
     let at = record(k) + MachineTable::NEXT_REGISTERS;
-    touch(table, k) == touch_word(&table[at..at + registers])
+    touch(table, k) == touch_word(&table[at..at + MachineTable::REGISTERS], registers)
 }
 
 fn all_right_touches(table: &[u32], registers: usize, states: usize) -> bool

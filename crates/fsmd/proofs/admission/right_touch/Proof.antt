@@ -15,7 +15,7 @@ returns c =
     let t = now (b .args .table) in
     let k = b .args .k in
     ap₂ eqb (c .before .before .touch .ensures)
-    (c .touch-word .ensures ∙ ap touchWord (next-words t k (b .args .registers) (c .before .before .before .«record» .result) (c .before .before .before .«record» .ensures) (b .pre .1 .1 .0)))
+    (c .touch-word .ensures ∙ ap touchWord (next-words t k (b .args .registers) (c .before .before .before .«record» .result) (c .before .before .before .«record» .ensures) (b .pre .1 .1 .0) (b .pre .1 .1 .1)))
 
 pub right-touch-spec : {M : Type 1} → statement M
 right-touch-spec =

@@ -1,15 +1,13 @@
 -- The machine of a table, state by state, and what it is that a table is admitted. Assumes nothing.
-use Prim.Native.Nat.{ℕ, _+_, _-_, _<_, _≤_}
-use native.Mathlib.Omega.{arith}
+use Prim.Native.Nat.{ℕ, _+_, _<_, _≤_}
 use mathlib.Core.Bool.{Bool, true, not, _&&_}
 use mathlib.Core.List.{List}
 use mathlib.Core.Path.{_≡_, refl, sym, ap, ap₂, _∙_}
 use lib.Dec.{eqb, leb}
 use lib.ListN.{length, getD, take, drop, length-map}
-use lib.Seq.{take-take}
 use borrow.Author.Tests.{leb-true, le-leb, eqb-true, eq-eqb}
 use Rattle.runs.proofs.Every.{below-at, below-of}
-use Rattle.runs.proofs.ListLaws.{and-left, and-right, every-map, length-upFrom, getD-map-upFrom}
+use Rattle.runs.proofs.ListLaws.{and-left, and-right, and-both, every-map, length-upFrom, getD-map-upFrom}
 use Rattle.runs.specs.Lists.{upFrom, every}
 use Rattle.fsmd.specs.Layout.{maxStates, maxRegisters, maxWires, recordOffset, nextStateOffset, nextRegistersOffset}
 use Rattle.fsmd.specs.Machine.{stateOf, emptyState, wordlessMachine}
@@ -45,14 +43,11 @@ wordless-is t n e =
     every-map (stateAt t) (λ q. every (λ w. not (eqb (w .code) 20)) (q .wires)) (upFrom 0 (getD t 0 0))
     ∙ sym (ap (λ (n : ℕ). every (wordlessState t) (upFrom 0 n)) e)
 
--- the next references of a state are the first R of sixteen words of its record
-pub next-words : (t : List ℕ) (k r at : ℕ) → at ≡ recordOffset k → r ≡ getD t 1 0 → r ≤ maxRegisters
-    → take r (take (at + nextRegistersOffset + maxRegisters - (at + nextRegistersOffset)) (drop (at + nextRegistersOffset) t)) ≡ stateAt t k .nextRegisters
+-- ---- the next references of a state, from the words of its record
+
+pub next-words : (t : List ℕ) (r k at : ℕ) → at ≡ recordOffset k → r ≡ getD t 1 0 → take r (drop (at + nextRegistersOffset) t) ≡ stateAt t k .nextRegisters
 unfolding stateAt
-next-words t k r at ea er few =
-    let n : at + nextRegistersOffset + maxRegisters - (at + nextRegistersOffset) ≡ maxRegisters = omega arith in
-    ap (λ (n : ℕ). take r (take n (drop (at + nextRegistersOffset) t))) n ∙ take-take r maxRegisters (drop (at + nextRegistersOffset) t) few
-    ∙ ap₂ (λ (n i : ℕ). take n (drop (i + nextRegistersOffset) t)) er ea
+next-words t r k at ea er = ap₂ (λ (n i : ℕ). take n (drop (i + nextRegistersOffset) t)) er ea
 
 -- ---- a valid state, from the words of its record
 
@@ -86,14 +81,12 @@ pub admitted-is : (t : List ℕ) (n r : ℕ) → n ≡ getD t 0 0 → r ≡ getD
     → admittedMachine t
     ≡ (leb 1 n && leb n maxStates && leb 1 r && leb r maxRegisters && every (within t) (upFrom 0 n)
     && every (λ k. every (λ j. apart t j k) (upFrom 0 k)) (upFrom 0 n)
-    && every (λ k. validState r (stateAt t k)) (upFrom 0 n)
-    && every (rightTouch t) (upFrom 0 n))
+    && every (λ k. validState r (stateAt t k) && rightTouch t k) (upFrom 0 n))
 unfolding admittedMachine
 admitted-is t n r en er =
     sym (ap₂ (λ (n r : ℕ). leb 1 n && leb n maxStates && leb 1 r && leb r maxRegisters && every (within t) (upFrom 0 n)
     && every (λ k. every (λ j. apart t j k) (upFrom 0 k)) (upFrom 0 n)
-    && every (λ k. validState r (stateAt t k)) (upFrom 0 n)
-    && every (rightTouch t) (upFrom 0 n)) en er)
+    && every (λ k. validState r (stateAt t k) && rightTouch t k) (upFrom 0 n)) en er)
 
 pub record Admitted (t : List ℕ) : Type 0 where
   pub some-states : 1 ≤ getD t 0 0
@@ -116,10 +109,9 @@ admitted-facts t e =
     let d = leb r maxRegisters in
     let f = every (within t) (upFrom 0 n) in
     let g = every (λ k. every (λ j. apart t j k) (upFrom 0 k)) (upFrom 0 n) in
-    let h = every (λ k. validState r (stateAt t k)) (upFrom 0 n) in
-    let i = every (rightTouch t) (upFrom 0 n) in
-    let e7 = and-left (a && b && c && d && f && g && h) i e in
-    let e6 = and-left (a && b && c && d && f && g) h e7 in
+    let p : ℕ → Bool = λ k. validState r (stateAt t k) && rightTouch t k in
+    let h = every p (upFrom 0 n) in
+    let e6 = and-left (a && b && c && d && f && g) h e in
     let e5 = and-left (a && b && c && d && f) g e6 in
     let e4 = and-left (a && b && c && d) f e5 in
     let e3 = and-left (a && b && c) d e4 in
@@ -131,8 +123,9 @@ admitted-facts t e =
       few-registers = leb-true r maxRegisters (and-right (a && b && c) d e4);
       in-space = λ k q. leb-true (firstWireAt t k + wireCountAt t k) maxWires (below-at (within t) n k (and-right (a && b && c && d) f e5) q);
       separate = λ j k q p. below-at (λ i. apart t i k) k j (below-at (λ i. every (λ j. apart t j i) (upFrom 0 i)) n k (and-right (a && b && c && d && f) g e6) p) q;
-      valid = λ k q. below-at (λ i. validState r (stateAt t i)) n k (and-right (a && b && c && d && f && g) h e7) q;
-      touch = λ k q. eqb-true (touchAt t k) (touchWord (stateAt t k .nextRegisters)) (below-at (rightTouch t) n k (and-right (a && b && c && d && f && g && h) i e) q);
+      valid = λ k q. and-left (validState r (stateAt t k)) (rightTouch t k) (below-at p n k (and-right (a && b && c && d && f && g) h e) q);
+      touch = λ k q.
+          eqb-true (touchAt t k) (touchWord (stateAt t k .nextRegisters)) (and-right (validState r (stateAt t k)) (rightTouch t k) (below-at p n k (and-right (a && b && c && d && f && g) h e) q));
     }
 
 pub facts-admitted : (t : List ℕ) → Admitted t → admittedMachine t ≡ true
@@ -144,6 +137,7 @@ facts-admitted t m =
     below-of (within t) n (λ k q. le-leb (firstWireAt t k + wireCountAt t k) maxWires (m .in-space k q)) in
     let g : every (λ k. every (λ j. apart t j k) (upFrom 0 k)) (upFrom 0 n) ≡ true =
     below-of (λ k. every (λ j. apart t j k) (upFrom 0 k)) n (λ k p. below-of (λ j. apart t j k) k (λ j q. m .separate j k q p)) in
-    let h : every (λ k. validState r (stateAt t k)) (upFrom 0 n) ≡ true = below-of (λ k. validState r (stateAt t k)) n (m .valid) in
-    let i : every (rightTouch t) (upFrom 0 n) ≡ true = below-of (rightTouch t) n (λ k q. eq-eqb (touchAt t k) (touchWord (stateAt t k .nextRegisters)) (m .touch k q)) in
-    rw (le-leb 1 n (m .some-states), le-leb n maxStates (m .few-states), le-leb 1 r (m .some-registers), le-leb r maxRegisters (m .few-registers), f, g, h) i
+    let p : ℕ → Bool = λ k. validState r (stateAt t k) && rightTouch t k in
+    let h : every p (upFrom 0 n) ≡ true =
+    below-of p n (λ k q. and-both (validState r (stateAt t k)) (rightTouch t k) (m .valid k q) (eq-eqb (touchAt t k) (touchWord (stateAt t k .nextRegisters)) (m .touch k q))) in
+    rw (le-leb 1 n (m .some-states), le-leb n maxStates (m .few-states), le-leb 1 r (m .some-registers), le-leb r maxRegisters (m .few-registers), f, g) h

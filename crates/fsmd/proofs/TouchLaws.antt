@@ -1,19 +1,17 @@
 -- Touch words: how one is made bit by bit, and that bit i of it says whether register i is touched. Assumes nothing.
 use Prim.Native.Nat.{ℕ, zero, suc, _+_, _-_, _*_, _/_, _%_, _^_, _<_, _≤_}
-use native.Mathlib.Nat.{two-pow-succ, pow-succ', one-le-pow, mul-assoc, mul-left-comm, zero-div, div-div-eq-div-mul, zero-mod, mod-lt, mod-eq-of-lt, mod-add-div, add-mul-mod-self-left}
-use native.Mathlib.Numerals.{add-one}
+use native.Mathlib.Nat.{two-pow-succ, pow-succ', pow-le-pow-right, zero-div, div-div-eq-div-mul}
 use native.Mathlib.Omega.{arith}
 use mathlib.Core.Bool.{Bool, true, false, not, _&&_}
 use mathlib.Core.List.{List, [], _∷_, map}
-use mathlib.Core.Path.{_≡_, refl, sym, ap, ap₂, subst, _∙_}
+use mathlib.Core.Path.{_≡_, refl, sym, ap, ap₂, _∙_}
 use lib.Dec.{eqb, ltb}
-use lib.ListN.{length, getD, take, length-map, List·getD-eq-default}
-use lib.Seq.{length-take-le, getD-take}
+use lib.ListN.{length, getD, length-map, List·getD-eq-default}
 use borrow.Author.Tests.{ltb-true, ltb-false, lt-ltb, eq-eqb, ne-eqb}
 use Rattle.word.specs.Word.{truth}
 use Rattle.runs.specs.Lists.{upFrom}
-use Rattle.runs.proofs.ListLaws.{length-upFrom, getD-map-upFrom, take-map-upFrom}
-use Rattle.runs.proofs.Fronts.{map-same}
+use Rattle.runs.proofs.ListLaws.{length-upFrom, upFrom-cons, upFrom-done, getD-map-upFrom}
+use Rattle.fsmd.specs.Layout.{maxRegisters}
 use Rattle.fsmd.specs.Touch.{touches, bitsOf, bit, touchWord}
 
 -- ---- words of bits
@@ -48,58 +46,39 @@ bit-at [] i = no-bits i
 bit-at (b ∷ bs) zero = lowest b (bitsOf bs)
 bit-at (b ∷ bs) (suc i) = above b (bitsOf bs) i ∙ bit-at bs i
 
--- one bit more, above the others
-bits-more : (f : ℕ → Bool) (a n : ℕ) → bitsOf (map f (upFrom a (suc n))) ≡ bitsOf (map f (upFrom a n)) + truth (f (a + n)) * 2 ^ n
-unfolding bitsOf
-bits-more f a zero = let e : a + 0 ≡ a = omega arith in rw e (omega arith)
-bits-more f a (suc n) =
-    let e : a + suc n ≡ suc a + n = omega arith in
-    let b = truth (f (suc a + n)) in
-    let double : b * 2 ^ suc n ≡ 2 * (b * 2 ^ n) = ap (λ (m : ℕ). b * m) (pow-succ' 2 n) ∙ mul-left-comm b 2 (2 ^ n) in
-    rw e (omega (arith, bits-more f (suc a) n, double))
-
--- the bits below r
-bits-cut : (bs : List Bool) (r : ℕ) → bitsOf (take r bs) ≡ bitsOf bs % 2 ^ r
-unfolding bitsOf
-bits-cut bs zero = omega arith
-bits-cut [] (suc r) = sym (zero-mod (2 ^ suc r))
-bits-cut (b ∷ bs) (suc r) =
-    let w = bitsOf bs in
-    let x = truth b + 2 * (w % 2 ^ r) in
-    let power : 2 ^ suc r ≡ 2 * 2 ^ r = pow-succ' 2 r in
-    let multiple : 2 ^ suc r * (w / 2 ^ r) ≡ 2 * (2 ^ r * (w / 2 ^ r)) = ap (λ (m : ℕ). m * (w / 2 ^ r)) power ∙ mul-assoc 2 (2 ^ r) (w / 2 ^ r) in
-    let sum : truth b + 2 * w ≡ x + 2 ^ suc r * (w / 2 ^ r) = omega (arith, mod-add-div w (2 ^ r), multiple) in
-    let low : x < 2 ^ suc r = omega (arith, bit-low b, power, mod-lt w (one-le-pow r 2 (omega arith))) in
-    ap (λ (v : ℕ). truth b + 2 * v) (bits-cut bs r) ∙ sym (ap (λ (v : ℕ). v % 2 ^ suc r) sum ∙ add-mul-mod-self-left x (2 ^ suc r) (w / 2 ^ r) ∙ mod-eq-of-lt low)
-
 -- ---- touch words
 
--- bits of the first n of these next references
-abbrev pub bitsBelow : List ℕ → ℕ → ℕ
-bitsBelow next n = bitsOf (map (λ i. not (eqb (getD next i 0) i)) (upFrom 0 n))
+-- the bits of the registers from i on
+abbrev pub bitsFrom : List ℕ → ℕ → ℕ
+bitsFrom next i = bitsOf (map (touches next) (upFrom i (length next - i)))
 
 module _ (next : List ℕ) where
-  pub bits-none : bitsBelow next 0 ≡ 0
-  unfolding bitsOf
-  bits-none = refl
-
-  pub bits-next : (n : ℕ) → bitsBelow next (n + 1) ≡ bitsBelow next n + truth (not (eqb (getD next n 0) n)) * 2 ^ n
-  bits-next n = let e : 0 + n ≡ n = omega arith in rw (add-one n) (rw e at (bits-more (λ i. not (eqb (getD next i 0) i)) 0 n))
-
-  pub bits-few : (n : ℕ) → bitsBelow next n < 2 ^ n
-  bits-few n =
-      let l = map (λ i. not (eqb (getD next i 0) i)) (upFrom 0 n) in
-      subst (λ (m : ℕ). bitsOf l < 2 ^ m) (length-map (upFrom 0 n) (λ i. not (eqb (getD next i 0) i)) ∙ length-upFrom 0 n) (bits-low l)
-
-  -- the touch word of the first r of n
-  pub bits-touch : (n r : ℕ) → r ≤ n → n ≤ length next → bitsBelow next n % 2 ^ r ≡ touchWord (take r next)
+  pub bits-all : bitsFrom next 0 ≡ touchWord next
   unfolding touchWord
-  bits-touch n r h k =
-      let l : length (take r next) ≡ r = length-take-le r next (omega arith) in
-      let f : ℕ → Bool = λ i. not (eqb (getD next i 0) i) in
-      sym (bits-cut (map f (upFrom 0 n)) r) ∙ ap bitsOf (take-map-upFrom f 0 n r h)
-      ∙ ap bitsOf (map-same f (touches (take r next)) 0 r (λ i lo hi. sym (ap₂ (λ (m x : ℕ). ltb i m && not (eqb x i)) l (getD-take r next i 0 (omega arith)) ∙ ap (λ (b : Bool). b && f i) (lt-ltb i r (omega arith)))))
-      ∙ ap (λ (m : ℕ). bitsOf (map (touches (take r next)) (upFrom 0 m))) (sym l)
+  bits-all = let e : length next - 0 ≡ length next = omega arith in ap (λ (n : ℕ). bitsOf (map (touches next) (upFrom 0 n))) e
+
+  pub bits-none : (i : ℕ) → length next ≤ i → bitsFrom next i ≡ 0
+  unfolding bitsOf
+  bits-none i h = ap (λ (l : List ℕ). bitsOf (map (touches next) l)) (upFrom-done i (length next) h)
+
+  bits-more : (i : ℕ) → i < length next → bitsFrom next i ≡ truth (not (eqb (getD next i 0) i)) + 2 * bitsFrom next (i + 1)
+  unfolding bitsOf
+  bits-more i h =
+      ap (λ (l : List ℕ). bitsOf (map (touches next) l)) (upFrom-cons i (length next) h)
+      ∙ ap (λ (b : Bool). truth (b && not (eqb (getD next i 0) i)) + 2 * bitsFrom next (i + 1)) (lt-ltb i (length next) h)
+
+  -- a loop's step from i down
+  pub bits-step : (i w : ℕ) → 0 < i → i ≤ length next → w ≡ bitsFrom next i → truth (not (eqb (getD next (i - 1) 0) (i - 1))) + 2 * w ≡ bitsFrom next (i - 1)
+  bits-step i w h l e =
+      let back : i - 1 + 1 ≡ i = omega arith in
+      sym (bits-more (i - 1) (omega arith) ∙ ap (λ (v : ℕ). truth (not (eqb (getD next (i - 1) 0) (i - 1))) + 2 * v) (ap (bitsFrom next) back ∙ sym e))
+
+  pub bits-few : (i : ℕ) → length next ≤ maxRegisters → bitsFrom next i < 2 ^ maxRegisters
+  bits-few i h =
+      let l = map (touches next) (upFrom i (length next - i)) in
+      let n : length l ≡ length next - i = length-map (upFrom i (length next - i)) (touches next) ∙ length-upFrom i (length next - i) in
+      let p : 2 ^ length l ≤ 2 ^ maxRegisters = pow-le-pow-right {n = 2} (omega arith) {i = length l} {j = maxRegisters} (omega arith) in
+      omega (arith, bits-low l)
 
   -- "bit r is set when r is below R and the next reference of register r is anything but r itself"
   pub touch-bit : (i : ℕ) → bit (touchWord next) i ≡ touches next i

@@ -128,5 +128,4 @@ admittedMachine t =
     leb 1 n && leb n maxStates && leb 1 r && leb r maxRegisters
     && every (within t) (upFrom 0 n)
     && every (λ k. every (λ j. apart t j k) (upFrom 0 k)) (upFrom 0 n)
-    && every (λ k. validState r (stateAt t k)) (upFrom 0 n)
-    && every (rightTouch t) (upFrom 0 n)
+    && every (λ k. validState r (stateAt t k) && rightTouch t k) (upFrom 0 n)

@@ -1,6 +1,6 @@
 // Which machine tables are admitted: the conditions of refusal 10.
 ghost use mathlib.Core.Path.{_≡_};
-ghost use mathlib.Core.Bool.{true, _||_};
+ghost use mathlib.Core.Bool.{true, _&&_, _||_};
 ghost use lib.Dec.{eqb, ltb};
 ghost use mathlib.Core.List.{map};
 ghost use Prim.Native.Nat.{_+_, _<_, _≤_};
@@ -8,6 +8,7 @@ ghost use lib.ListN.{length, take, drop};
 ghost use Rattle.word.specs.Word.{setCode};
 ghost use Rattle.runs.specs.Lists.{upFrom, every};
 ghost use Rattle.fsmd.specs.Layout.{machineWords, maxStates, maxRegisters, maxWires};
+ghost use Rattle.fsmd.specs.Touch.{touchWord};
 ghost use Rattle.fsmd.specs.Table.{machineRegisterCount, wireAt, stateAt, firstWireAt, wireCountAt, validReference, validWire, validWires, validState, within as withinOf, apart as apartOf, rightTouch, admittedMachine};
 use super::MachineTable;
 use super::Wire;
@@ -17,7 +18,7 @@ use super::table::record;
 use super::table::wire;
 use super::table::wire_count;
 use super::touch::touch;
-use super::touch::touch_word;
+use super::touch::with_bit;
 use buffers::word_index;
 use word::Code;
 
@@ -93,29 +94,43 @@ fn valid_wires(table: &[u32], registers: usize, first: usize, count: usize) -> b
     true
 }
 
-// The next references from `at` on, one for each register.
-fn valid_next(table: &[u32], registers: usize, n: usize, at: usize) -> bool
-    requires { ⌜ at + registers ≤ length (now table) ⌝ }
-    ensures { λ v. ⌜ v ≡ every (validReference registers n) (take registers (drop at (now (table .entry)))) ⌝ }
-{
-    let mut i = 0;
-    while i < registers {
-        if !valid_reference(registers, n, table[at + i]) {
-            return false;
-        }
-        i += 1;
-    }
-    true
+// What is found at next references: whether all are valid, and then their touch word.
+struct NextReferences {
+    valid: bool,
+    touch: u32,
 }
 
-// The wires and next references of state k.
+// The next references from `at` on, one for each register. The last comes first, as a touch word is made.
+fn next_references(table: &[u32], registers: usize, n: usize, at: usize) -> NextReferences
+    requires { ⌜ at + registers ≤ length (now table) ⌝ }
+    requires { ⌜ registers ≤ maxRegisters ⌝ }
+    ensures { λ r. ⌜ r .valid ≡ every (validReference registers n) (take registers (drop at (now (table .entry)))) ⌝ }
+    ensures { λ r. ⌜ (r .valid ≡ true → r .touch ≡ touchWord (take registers (drop at (now (table .entry))))) ⌝ }
+{
+    let mut touch: u32 = 0;
+    let mut i = registers;
+    while 0 < i {
+        i -= 1;
+        let x = table[at + i];
+        if !valid_reference(registers, n, x) {
+            return NextReferences {
+                valid: false,
+                touch,
+            };
+        }
+        touch = with_bit(touch, i, x);
+    }
+    NextReferences { valid: true, touch }
+}
+
+// The wires, next references and touch word of state k.
 fn valid_state(table: &[u32], registers: usize, k: usize) -> bool
     requires { ⌜ machineWords ≤ length (now table) ⌝ }
     requires { ⌜ k < maxStates ⌝ }
     requires { ⌜ firstWireAt (now table) k + wireCountAt (now table) k ≤ maxWires ⌝ }
     requires { ⌜ registers ≡ machineRegisterCount (now table) ⌝ }
     requires { ⌜ registers ≤ maxRegisters ⌝ }
-    ensures { λ v. ⌜ v ≡ validState registers (stateAt (now (table .entry)) k) ⌝ }
+    ensures { λ v. ⌜ v ≡ (validState registers (stateAt (now (table .entry)) k) && rightTouch (now (table .entry)) k) ⌝ }
 {
     let at = record(k);
     let first = first_wire(table, k);
@@ -126,7 +141,11 @@ fn valid_state(table: &[u32], registers: usize, k: usize) -> bool
     if !valid_reference(registers, count, table[at + MachineTable::NEXT_STATE]) {
         return false;
     }
-    valid_next(table, registers, count, at + MachineTable::NEXT_REGISTERS)
+    let next = next_references(table, registers, count, at + MachineTable::NEXT_REGISTERS);
+    if !next.valid {
+        return false;
+    }
+    touch(table, k) == next.touch
 }
 
 // The wires of state k end within those of the machine.
@@ -213,40 +232,11 @@ fn all_valid(table: &[u32], registers: usize, states: usize) -> bool
     requires { ⌜ every (withinOf (now table)) (upFrom 0 states) ≡ true ⌝ }
     requires { ⌜ registers ≡ machineRegisterCount (now table) ⌝ }
     requires { ⌜ registers ≤ maxRegisters ⌝ }
-    ensures { λ v. ⌜ v ≡ every (λ k. validState registers (stateAt (now (table .entry)) k)) (upFrom 0 states) ⌝ }
+    ensures { λ v. ⌜ v ≡ every (λ k. validState registers (stateAt (now (table .entry)) k) && rightTouch (now (table .entry)) k) (upFrom 0 states) ⌝ }
 {
     let mut k = 0;
     while k < states {
         if !valid_state(table, registers, k) {
-            return false;
-        }
-        k += 1;
-    }
-    true
-}
-
-// The touch word of state k is that of its next references.
-fn right_touch(table: &[u32], registers: usize, k: usize) -> bool
-    requires { ⌜ machineWords ≤ length (now table) ⌝ }
-    requires { ⌜ k < maxStates ⌝ }
-    requires { ⌜ registers ≡ machineRegisterCount (now table) ⌝ }
-    requires { ⌜ registers ≤ maxRegisters ⌝ }
-    ensures { λ v. ⌜ v ≡ rightTouch (now (table .entry)) k ⌝ }
-{
-    let at = record(k) + MachineTable::NEXT_REGISTERS;
-    touch(table, k) == touch_word(&table[at..at + MachineTable::REGISTERS], registers)
-}
-
-fn all_right_touches(table: &[u32], registers: usize, states: usize) -> bool
-    requires { ⌜ machineWords ≤ length (now table) ⌝ }
-    requires { ⌜ states ≤ maxStates ⌝ }
-    requires { ⌜ registers ≡ machineRegisterCount (now table) ⌝ }
-    requires { ⌜ registers ≤ maxRegisters ⌝ }
-    ensures { λ v. ⌜ v ≡ every (rightTouch (now (table .entry))) (upFrom 0 states) ⌝ }
-{
-    let mut k = 0;
-    while k < states {
-        if !right_touch(table, registers, k) {
             return false;
         }
         k += 1;
@@ -280,8 +270,5 @@ pub fn admitted(table: &[u32]) -> bool
     if !all_apart(table, states) {
         return false;
     }
-    if !all_valid(table, registers, states) {
-        return false;
-    }
-    all_right_touches(table, registers, states)
+    all_valid(table, registers, states)
 }

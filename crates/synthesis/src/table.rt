@@ -54,7 +54,7 @@ fn write_record(
     words[at + MachineTable::WIRE_COUNT] = count as u32;
     words[at + MachineTable::NEXT_STATE] = next;
     buffers::copy_words(words, at + MachineTable::NEXT_REGISTERS, registers);
-    words[at + MachineTable::TOUCH] = touch_word(registers, used);
+    words[at + MachineTable::TOUCH] = touch_word(&registers[..used]);
 }
 
 // A mark at each starter.

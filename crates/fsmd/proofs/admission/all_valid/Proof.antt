@@ -1,6 +1,7 @@
 -- `fsmd::admission::all_valid` meets its contract: the states from k on decide for all. Assumes nothing.
 use Prim.Native.Nat.{_+_, _-_, _≤_}
 use native.Mathlib.Omega.{arith}
+use mathlib.Core.Bool.{_&&_}
 use mathlib.Core.Path.{_≡_, refl, sym, _∙_}
 use lib.ListN.{drop}
 use denote.Ref.{now}
@@ -9,12 +10,12 @@ use borrow.Author.Tests.{leb-true}
 use Rattle.runs.proofs.Every.{below-fails, below-passes, below-done, below-at}
 use Rattle.runs.specs.Lists.{upFrom, every}
 use Rattle.fsmd.specs.Layout.{maxWires}
-use Rattle.fsmd.specs.Table.{validState, stateAt, within, firstWireAt, wireCountAt}
+use Rattle.fsmd.specs.Table.{validState, stateAt, within, firstWireAt, wireCountAt, rightTouch}
 use Rattle.fsmd.proofs.admission.all_valid.Statement.{statement}
 use Rattle.fsmd.proofs.admission.all_valid.Tie as tie
 
 abbrev Inv-loop : tie.InvT-loop
-Inv-loop table registers states k₀ k = (k ≤ states) × (every (λ i. validState registers (stateAt table i)) (upFrom 0 states) ≡ every (λ i. validState registers (stateAt table i)) (drop k (upFrom 0 states)))
+Inv-loop table registers states k₀ k = (k ≤ states) × (every (λ i. validState registers (stateAt table i) && rightTouch table i) (upFrom 0 states) ≡ every (λ i. validState registers (stateAt table i) && rightTouch table i) (drop k (upFrom 0 states)))
 
 abbrev μ-loop : tie.MeasureT-loop
 μ-loop table registers states k₀ k = states - k
@@ -36,7 +37,7 @@ returns c =
     let a = b .before .before .args in
     let t = now (a .table) in
     let n = a .states in
-    sym (b .loop .inv .1 ∙ below-fails (λ i. validState (a .registers) (stateAt t i)) n (b .loop .k) (c .before .before .loop-test .taken) (c .before .valid-state .result) (c .before .valid-state .ensures) (c .if1 .taken))
+    sym (b .loop .inv .1 ∙ below-fails (λ i. validState (a .registers) (stateAt t i) && rightTouch t i) n (b .loop .k) (c .before .before .loop-test .taken) (c .before .valid-state .result) (c .before .valid-state .ensures) (c .if1 .taken))
 
 loop-less : tie.Need-loop-less Inv-loop μ-loop
 loop-less c = omega arith
@@ -48,7 +49,7 @@ loop-again c =
     let t = now (a .table) in
     let n = a .states in (
       omega arith,
-      b .loop .inv .1 ∙ below-passes (λ i. validState (a .registers) (stateAt t i)) n (b .loop .k) (c .before .before .loop-test .taken) (c .before .valid-state .result) (c .before .valid-state .ensures) (c .if1 .left),
+      b .loop .inv .1 ∙ below-passes (λ i. validState (a .registers) (stateAt t i) && rightTouch t i) n (b .loop .k) (c .before .before .loop-test .taken) (c .before .valid-state .result) (c .before .valid-state .ensures) (c .if1 .left),
     )
 
 returns-2 : tie.Need-returns-2 Inv-loop μ-loop
@@ -57,7 +58,7 @@ returns-2 c =
     let a = b .before .before .args in
     let t = now (a .table) in
     let n = a .states in
-    sym (b .loop .inv .1 ∙ below-done (λ i. validState (a .registers) (stateAt t i)) n (b .loop .k) (c .loop-test .left))
+    sym (b .loop .inv .1 ∙ below-done (λ i. validState (a .registers) (stateAt t i) && rightTouch t i) n (b .loop .k) (c .loop-test .left))
 
 pub all-valid-spec : {M : Type 1} → statement M
 all-valid-spec =

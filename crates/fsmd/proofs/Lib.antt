@@ -2,6 +2,7 @@ pub mod Windows
 pub mod WireReads
 pub mod Environment
 pub mod TouchLaws
+pub mod Apart
 pub mod Machines
 pub mod Steps
 pub mod WrittenTable

@@ -1,21 +1,19 @@
 -- Reading back what was written: the machine of a machine's table is that machine, and the table is admitted. Assumes nothing.
 use Prim.Native.Nat.{ℕ, _+_, _<_, _≤_}
 use native.Mathlib.Omega.{arith}
-use mathlib.Core.Bool.{true, _||_}
+use mathlib.Core.Bool.{true}
 use mathlib.Core.List.{List, [], _++_, map}
 use mathlib.Core.Path.{_≡_, refl, sym, ap, ap₂, _∙_}
-use lib.Dec.{eqb}
 use lib.ListN.{length, getD, length-map}
 use lib.Seq.{ext-getD}
-use borrow.Author.Tests.{le-leb}
 use Rattle.runs.proofs.ListLaws.{length-upFrom, getD-map-upFrom}
-use Rattle.runs.proofs.Tests.{or-right}
 use Rattle.runs.specs.Lists.{upFrom}
 use Rattle.runs.specs.Runs.{Runner}
 use Rattle.fsmd.specs.Layout.{maxStates, maxRegisters, maxWires}
 use Rattle.fsmd.specs.Machine.{State, wireCount, FSMD, emptyState, stateOf, clock, machineRunner}
 use Rattle.fsmd.specs.Touch.{touchWord}
-use Rattle.fsmd.specs.Table.{machineTableOf, firstWireAt, wireCountAt, stateAt, machineOf, validState, admittedMachine}
+use Rattle.fsmd.specs.Table.{machineTableOf, stateAt, machineOf, validState, admittedMachine}
+use Rattle.fsmd.proofs.Apart.{behind-apart}
 use Rattle.fsmd.proofs.Machines.{facts-admitted}
 use Rattle.fsmd.proofs.WrittenTable.{before-room, before-less, count-is, registers-are, back-first, back-count, back-state, back-touch}
 
@@ -82,11 +80,8 @@ module _ (m : FSMD) (rest : List ℕ) (s : Sound m) where
         separate = λ j k l h.
             let b : k < length (m .states) = omega arith in
             let a : j < length (m .states) = omega arith in
-            rw (
-              le-leb (firstWireAt t j + wireCountAt t j) (firstWireAt t k)
-                  (omega (arith, back-first m rest (f .few-states) (f .room) k b, back-first m rest (f .few-states) (f .room) j a, back-count m rest (f .few-states) (f .room) j a, before-less (m .states) j k l b)),
-              or-right (eqb (wireCountAt t j) 0 || eqb (wireCountAt t k) 0) true refl,
-            );
+            behind-apart t j k
+            (omega (arith, back-first m rest (f .few-states) (f .room) k b, back-first m rest (f .few-states) (f .room) j a, back-count m rest (f .few-states) (f .room) j a, before-less (m .states) j k l b));
         valid = λ k h.
             let b : k < length (m .states) = omega arith in
             ap₂ validState r (read-state m rest f k b) ∙ s .valid k b;

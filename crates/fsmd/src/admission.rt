@@ -211,7 +211,8 @@ fn apart_from_earlier(table: &[u32], k: usize) -> bool
     true
 }
 
-fn all_apart(table: &[u32], states: usize) -> bool
+// Every two states share no wire.
+fn pairs_apart(table: &[u32], states: usize) -> bool
     requires { ⌜ machineWords ≤ length (now table) ⌝ }
     requires { ⌜ states ≤ maxStates ⌝ }
     ensures { λ v. ⌜ v ≡ every (λ k. every (λ j. apartOf (now (table .entry)) j k) (upFrom 0 k)) (upFrom 0 states) ⌝ }
@@ -224,6 +225,37 @@ fn all_apart(table: &[u32], states: usize) -> bool
         k += 1;
     }
     true
+}
+
+// Each state's wires stand behind those of the states before it.
+fn in_order(table: &[u32], states: usize) -> bool
+    requires { ⌜ machineWords ≤ length (now table) ⌝ }
+    requires { ⌜ states ≤ maxStates ⌝ }
+    ensures { λ v. ⌜ (v ≡ true → every (λ k. every (λ j. apartOf (now (table .entry)) j k) (upFrom 0 k)) (upFrom 0 states) ≡ true) ⌝ }
+{
+    let mut end = 0;
+    let mut k = 0;
+    while k < states {
+        let first = first_wire(table, k);
+        if first < end {
+            return false;
+        }
+        end = first + wire_count(table, k);
+        k += 1;
+    }
+    true
+}
+
+// The wires of a table that synthesis made stand in order, and no pair of states is looked at.
+fn all_apart(table: &[u32], states: usize) -> bool
+    requires { ⌜ machineWords ≤ length (now table) ⌝ }
+    requires { ⌜ states ≤ maxStates ⌝ }
+    ensures { λ v. ⌜ v ≡ every (λ k. every (λ j. apartOf (now (table .entry)) j k) (upFrom 0 k)) (upFrom 0 states) ⌝ }
+{
+    if in_order(table, states) {
+        return true;
+    }
+    pairs_apart(table, states)
 }
 
 fn all_valid(table: &[u32], registers: usize, states: usize) -> bool

@@ -54,6 +54,23 @@ fn apart(x: (u64, u64), y: (u64, u64)) -> bool {
     x.0 == x.1 || y.0 == y.1 || x.1 <= y.0 || y.1 <= x.0
 }
 
+/// Each state begins where those before it have ended.
+fn in_order(table: &[u32], states: usize) -> bool {
+    let mut end = 0;
+    (0..states).all(|k| {
+        let (first, past) = span(table, k);
+        let behind = end <= first;
+        end = past;
+        behind
+    })
+}
+
+/// States in order are apart; else every two are looked at.
+fn all_apart(table: &[u32], states: usize) -> bool {
+    in_order(table, states)
+        || (0..states).all(|k| (0..k).all(|j| apart(span(table, j), span(table, k))))
+}
+
 /// Whether an admitted table holds code 20; none for one that is not admitted. The table has at
 /// least the words of a machine table.
 pub fn admitted(table: &[u32]) -> Option<bool> {
@@ -63,7 +80,7 @@ pub fn admitted(table: &[u32]) -> Option<bool> {
     }
     let (states, mut reads) = (states as usize, false);
     let fits = (0..states).all(|k| span(table, k).1 <= WIRES as u64)
-        && (0..states).all(|k| (0..k).all(|j| apart(span(table, j), span(table, k))))
+        && all_apart(table, states)
         && (0..states).all(|k| state_fits(table, k, registers, &mut reads));
     fits.then_some(reads)
 }

@@ -163,7 +163,7 @@ write-record-requires : tie.Need-write-record-requires
 write-record-requires c κs =
     let s = small (c .before .before .before .before .before .before .before .before .before .before .before .before .before .before .before .before .before .before .before .before .before .before .before .before .before .before .before) in
     let m = made-few (c .before .before .before .before .before .before .before .before .before) in
-    (omega (arith, table-length (c .before .before .before .before .before .before .before .before .before), s .state), registers-length (c .before .before .before .before .before .before .before .before .before), s .wire, omega arith, s .registers)
+    (omega (arith, table-length (c .before .before .before .before .before .before .before .before .before), s .state), registers-length (c .before .before .before .before .before .before .before .before .before), s .wire, omega arith, omega (arith, s .registers))
 
 add-result : tie.Need-add-result
 add-result c = omega (arith, made-few (c .before .before .before .before .before .before .before .before .before .before .before .before .before))

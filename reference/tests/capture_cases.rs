@@ -4,7 +4,6 @@ mod common;
 
 use common::recordings::{lines, Row};
 use reference::case::{Captures, Case, MAX_RECORDING};
-use reference::generate::cases;
 use reference::operations::{compare_captures, CaptureAnswer};
 use std::sync::OnceLock;
 
@@ -49,14 +48,12 @@ impl Pair {
 
 fn stored() -> &'static [Pair] {
     static STORED: OnceLock<Vec<Pair>> = OnceLock::new();
-    STORED.get_or_init(|| cases(1, 4_800).into_iter().map(Pair::of).collect())
+    STORED.get_or_init(|| common::stored_cases().into_iter().map(Pair::of).collect())
 }
 
 /// At least so many of the stored pairs are of a kind.
 fn at_least(least: usize, kind: &str, holds: impl Fn(&Pair) -> bool) {
-    let found = stored().iter().filter(|pair| holds(pair)).count();
-    println!("{kind}: {found}");
-    assert!(found >= least, "{kind}: {found}");
+    common::at_least(stored(), least, kind, holds);
 }
 
 #[test]

@@ -194,7 +194,7 @@ fn random_bytes() {
 /// Each wrong reading answers some of the stored cases wrongly.
 #[test]
 fn wrong_readings_are_told_apart() {
-    let stored = cases(1, 4_800);
+    let stored = common::stored_cases();
     for reading in WRONG {
         let told = stored.iter().filter(|case| {
             let Captures { registers, first, second } = &case.captures;

@@ -1,5 +1,7 @@
 //! The case stream: its form, its size, and what its cases hit.
 
+mod common;
+
 use reference::answer::{answer, digest, Answer};
 use reference::case::{read_cases, Asked, Captures, Case};
 use reference::generate::cases;
@@ -21,7 +23,7 @@ fn stored() -> &'static [(Case, Answer)] {
         let answer = answer(&case);
         (case, answer)
     };
-    STORED.get_or_init(|| cases(1, 4_800).into_iter().map(with_answer).collect())
+    STORED.get_or_init(|| common::stored_cases().into_iter().map(with_answer).collect())
 }
 
 #[test]
@@ -42,7 +44,7 @@ fn the_same_seed_makes_the_same_cases() {
 
 #[test]
 fn every_refusal_is_hit() {
-    let stats = Stats::of(&cases(1, 4_800));
+    let stats = Stats::of(&common::stored_cases());
     let expected: [(Counted, &[u32]); 10] = [
         (Counted::Read, &[0, 1, 2, 3, 4, 5, 7]),
         (Counted::Write, &[0, 6, 7, 8]),
@@ -65,7 +67,7 @@ fn every_refusal_is_hit() {
 
 #[test]
 fn what_matters_most_is_hit_often() {
-    let stats = Stats::of(&cases(1, 4_800));
+    let stats = Stats::of(&common::stored_cases());
     let many = [
         (Counted::RunGraph, 0, 1_000),
         (Counted::RunMachine, 0, 1_000),
@@ -99,7 +101,7 @@ fn what_matters_most_is_hit_often() {
 /// Each run ends in each way with the flag clear and raised.
 #[test]
 fn every_flag_is_hit() {
-    let stats = Stats::of(&cases(1, 4_800));
+    let stats = Stats::of(&common::stored_cases());
     for run in Operation::ALL {
         for (end, flag) in run.flags() {
             let hits = stats.flags(run, end as u32, flag == 1);

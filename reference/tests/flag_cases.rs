@@ -7,7 +7,6 @@ use common::flags::{admitted, flag, slots, Reading, Slot, WRONG, WRONG_ADMISSION
 use common::traces::{graph_trace, machine_trace, Event, Trace};
 use reference::answer::{answer, buffers_of, Answer};
 use reference::case::Case;
-use reference::generate::cases;
 use reference::graph::Binary;
 use reference::machine_table::{decode, MACHINE_WORDS};
 use reference::operations::synthesise;
@@ -57,14 +56,12 @@ impl Stored {
 
 fn stored() -> &'static [Stored] {
     static STORED: OnceLock<Vec<Stored>> = OnceLock::new();
-    STORED.get_or_init(|| cases(1, 4_800).into_iter().map(Stored::of).collect())
+    STORED.get_or_init(|| common::stored_cases().into_iter().map(Stored::of).collect())
 }
 
 /// In so many stored cases, at least, something of a kind is found.
 fn at_least(least: usize, kind: &str, holds: impl Fn(&Stored) -> bool) {
-    let found = stored().iter().filter(|one| holds(one)).count();
-    println!("{kind}: {found}");
-    assert!(found >= least, "{kind}: {found}");
+    common::at_least(stored(), least, kind, holds);
 }
 
 /// In so many stored cases, at least, a run of each kind has it: graph, machine, both with words.

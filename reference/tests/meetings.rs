@@ -1,9 +1,10 @@
 //! Refusals that meet in one call: which do so in the stored cases, and that their order shows.
 
+mod common;
+
 use reference::answer::{answer, buffers_of, Answer};
 use reference::case::Case;
 use reference::faults::{faults, Fault, Faults};
-use reference::generate::cases;
 use reference::graph_table::GRAPH_WORDS;
 use reference::listing::listing;
 use reference::machine_table::{decode, MACHINE_WORDS, RECORDS_AT, RECORD_WORDS};
@@ -31,7 +32,7 @@ impl Stored {
 
 fn stored() -> &'static [Stored] {
     static STORED: OnceLock<Vec<Stored>> = OnceLock::new();
-    STORED.get_or_init(|| cases(1, 4_800).into_iter().map(Stored::of).collect())
+    STORED.get_or_init(|| common::stored_cases().into_iter().map(Stored::of).collect())
 }
 
 /// What tells one refusal from another in an answer: number, recording, line; 0 for a success.

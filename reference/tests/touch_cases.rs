@@ -8,7 +8,6 @@ use common::touch::{
 };
 use reference::answer::{answer, buffers_of, Answer};
 use reference::case::Case;
-use reference::generate::cases;
 use reference::machine_table::MACHINE_WORDS;
 use reference::operations::synthesise;
 use std::sync::OnceLock;
@@ -74,14 +73,12 @@ impl Stored {
 
 fn stored() -> &'static [Stored] {
     static STORED: OnceLock<Vec<Stored>> = OnceLock::new();
-    STORED.get_or_init(|| cases(1, 4_800).into_iter().map(Stored::of).collect())
+    STORED.get_or_init(|| common::stored_cases().into_iter().map(Stored::of).collect())
 }
 
 /// In so many stored cases, at least, something of a kind is found.
 fn at_least(least: usize, kind: &str, holds: impl Fn(&Stored) -> bool) {
-    let found = stored().iter().filter(|one| holds(one)).count();
-    println!("{kind}: {found}");
-    assert!(found >= least, "{kind}: {found}");
+    common::at_least(stored(), least, kind, holds);
 }
 
 /// The right reading, by the words of the tables, is what is answered and made.

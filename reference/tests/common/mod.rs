@@ -7,7 +7,8 @@ pub mod recordings;
 pub mod touch;
 pub mod traces;
 
-use reference::generate::graphs;
+use reference::case::Case;
+use reference::generate::{cases, graphs};
 use reference::graph::{Block, Comparison, Ending, Graph};
 use reference::graph_table::GRAPH_WORDS;
 use reference::machine_table::MACHINE_WORDS;
@@ -17,6 +18,20 @@ use reference::operations::{
 };
 use reference::parse::parse;
 use reference::random::Random;
+
+/// The recorded cases, by the seed and count of `stored.txt`.
+pub fn stored_cases() -> Vec<Case> {
+    let numbers = include_str!("../../stored.txt").split_whitespace();
+    let numbers: Vec<usize> = numbers.map(|word| word.parse().expect("a number")).collect();
+    cases(numbers[0] as u64, numbers[1])
+}
+
+/// At least so many of a list are of a kind.
+pub fn at_least<T>(list: &[T], least: usize, kind: &str, holds: impl Fn(&T) -> bool) {
+    let found = list.iter().filter(|one| holds(one)).count();
+    println!("{kind}: {found}");
+    assert!(found >= least, "{kind}: {found}");
+}
 
 pub fn refusal(text: &str) -> (u32, u32) {
     let mut table = vec![9; GRAPH_WORDS];

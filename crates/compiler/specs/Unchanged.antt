@@ -1,17 +1,20 @@
--- What every operation leaves as it is, as paper 01 says it: registers from R up, and words past a table's length. Assumes nothing.
+-- What operations leave as it is: registers from R up and words past a table's length (paper 01), and registers that a state does not touch (R-4 of paper 02). Assumes nothing.
 use Prim.Native.Nat.{ℕ}
+use mathlib.Core.Bool.{false}
 use mathlib.Core.List.{List, _++_}
 use mathlib.Core.Path.{_≡_}
-use lib.ListN.{length, drop}
+use lib.ListN.{length, getD, drop}
 use Rattle.cfg.specs.Layout.{graphWords}
 use Rattle.cfg.specs.Table.{graphRegisterCount}
 use Rattle.cfg.specs.Run.{graphAnswer, graphRegisters, graphWordsAnswer, graphWordsRegisters}
 use Rattle.cfg_text.specs.Read.{readAnswer, readWords}
 use Rattle.cfg_write.specs.Write.{writeAnswer, writeBytes}
 use Rattle.fsmd.specs.Layout.{machineWords, maxRegisters}
-use Rattle.fsmd.specs.Table.{machineRegisterCount}
+use Rattle.fsmd.specs.Machine.{machineRunner}
+use Rattle.fsmd.specs.Table.{machineRegisterCount, machineOf}
 use Rattle.fsmd.specs.Run.{machineAnswer, machineRegisters, machineWordsAnswer, machineWordsRegisters}
 use Rattle.synthesis.specs.Synthesis.{synthesisAnswer, synthesisWords}
+use Rattle.touching.specs.declared.TouchesAnswer.the-variants.{Answered}
 use Rattle.touching.specs.Touching.{touchesAnswer, firstTouchingAnswer}
 
 -- "Registers from R up keep their words." R is the table's word 1; a table that is not admitted is refused, and so keeps them all.
@@ -53,3 +56,10 @@ pub record PastLengths : Type 0 where
       → machineWordsRegisters (m ++ u) (rs ++ v) start budget words ≡ machineWordsRegisters m rs start budget words ++ v
   pub touches-answer : (m u : List ℕ) → length m ≡ machineWords → (k i : ℕ) → touchesAnswer (m ++ u) k i ≡ touchesAnswer m k i
   pub first-touching-answer : (m u : List ℕ) → length m ≡ machineWords → (i : ℕ) → firstTouchingAnswer (m ++ u) i ≡ firstTouchingAnswer m i
+
+-- What a touch word is for, "the states that may change a register": where the answer is that state k does not touch register i, every cycle of the
+-- state leaves that register as it is, whatever the registers and the sampled word.
+abbrev pub UntouchedKept : Type 0
+UntouchedKept =
+    (t : List ℕ) (k i : ℕ) → touchesAnswer t k i ≡ Answered false → (sampled : ℕ) (rs : List ℕ) → length rs ≡ maxRegisters
+    → getD (machineRunner (machineOf t) .unit sampled k rs .registers) i 0 ≡ getD rs i 0

@@ -67,9 +67,9 @@ record Answers (t : List ℕ) (k i : ℕ) : Type 0 where
   below : k < stateCount t
   untouched : touchesAt t i k ≡ false
 
-not-true : (b : Bool) → touchedField (Answered b) ≡ 0 → b ≡ false
-not-true true e = absurd (omega (arith, e))
-not-true false e = refl
+field-zero : (b : Bool) → touchedField (Answered b) ≡ 0 → b ≡ false
+field-zero true e = absurd (omega (arith, e))
+field-zero false e = refl
 
 answers : (t : List ℕ) (k i : ℕ) → touchesAnswer t k i ≡ Answered false → Answers t k i
 answers t k i e = go (ltb (length t) machineWords) (admittedMachine t) (ltb k (stateCount t)) refl refl refl
@@ -88,7 +88,7 @@ answers t k i e = go (ltb (length t) machineWords) (admittedMachine t) (ltb k (s
         record {
           admits = record { whole = whole; good = g };
           below = h;
-          untouched = not-true (touchesAt t i k) (ap touchedField (sym (touches-answered t k i whole g h) ∙ e));
+          untouched = field-zero (touchesAt t i k) (ap touchedField (sym (touches-answered t k i whole g h) ∙ e));
         }
 
 pub untouched-kept : UntouchedKept

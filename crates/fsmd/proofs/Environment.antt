@@ -111,7 +111,7 @@ module _ (s : ℕ) (l : List ℕ) (r n : ℕ) (w : Wire) (few : r ≤ maxRegiste
 -- ---- the wires from `first` on, one after another
 
 -- the word of wire n stands after those before it
-grown : (l : List ℕ) (n v : ℕ) → maxRegisters + n < length l → take (maxRegisters + (n + 1)) (set l (maxRegisters + n) v) ≡ take (maxRegisters + n) l ++ (v ∷ [])
+pub grown : (l : List ℕ) (n v : ℕ) → maxRegisters + n < length l → take (maxRegisters + (n + 1)) (set l (maxRegisters + n) v) ≡ take (maxRegisters + n) l ++ (v ∷ [])
 grown l n v k =
     let i : maxRegisters + (n + 1) ≡ suc (maxRegisters + n) = omega arith in
     ap (λ (j : ℕ). take j (set l (maxRegisters + n) v)) i ∙ take-suc-set l (maxRegisters + n) v k

@@ -7,7 +7,7 @@ use lib.Dec.{ltb, leb}
 use lib.IntN.{ℤ, pos, negsuc, negℤ, subℕ, _+ℤ_, _-ℤ_}
 use lib.Signed.{ltZ, leZ}
 use borrow.Author.Tests.{ltb-true, ltb-false, lt-ltb, le-ltb, le-leb, lt-leb}
-use Rattle.word.specs.Word.{choose, signedOf, addOf, subOf, compareOf}
+use Rattle.word.specs.Word.{choose, signedOf, addOf, subOf, sxOf, compareOf}
 use Rattle.word.specs.declared.Comparison.the-variants.{Lt, Ge}
 use Rattle.word.proofs.Differences.{same-difference, sum-differences, neg-difference}
 
@@ -67,7 +67,7 @@ ge-not a b = go (ltb a b) refl
     go true e = lt-leb b a (ltb-true a b e)
     go false e = le-leb b a (ltb-false a b e)
 
-geZ-not : (y z : ℤ) → leZ z y ≡ not (ltZ y z)
+pub geZ-not : (y z : ℤ) → leZ z y ≡ not (ltZ y z)
 geZ-not (pos a) (pos b) = ge-not a b
 geZ-not (pos a) (negsuc b) = refl
 geZ-not (negsuc a) (pos b) = refl
@@ -103,3 +103,24 @@ pub record SubStays (a b : ℕ) : Type 0 where
 
 pub sub-level : (a b : ℕ) → b < 2 ^ 32 → SubStays a b → level (subOf a b) + level b ≡ level a + 2 ^ 31
 sub-level a b h s = omega arith
+
+-- ---- the low 16 bits as signed
+
+-- sx gives what 16 signed bits hold, and a word that they hold as it is
+pub record SixteenBits (a : ℕ) : Type 0 where
+  pub least : 2 ^ 31 - 2 ^ 15 ≤ level (sxOf a)
+  pub most : level (sxOf a) < 2 ^ 31 + 2 ^ 15
+  pub same : 2 ^ 31 - 2 ^ 15 ≤ level a → level a < 2 ^ 31 + 2 ^ 15 → sxOf a ≡ a
+
+pub sx-level : (a : ℕ) → a < 2 ^ 32 → SixteenBits a
+sx-level a h = go (ltb (a % 2 ^ 16) (2 ^ 15)) refl
+  where
+    go : (t : Bool) → ltb (a % 2 ^ 16) (2 ^ 15) ≡ t → SixteenBits a
+    go true e =
+        let p = ltb-true (a % 2 ^ 16) (2 ^ 15) e in
+        let s : sxOf a ≡ a % 2 ^ 16 = rw e in
+        record { least = omega arith; most = omega arith; same = λ l m. s ∙ omega arith }
+    go false e =
+        let p = ltb-false (a % 2 ^ 16) (2 ^ 15) e in
+        let s : sxOf a ≡ 2 ^ 32 - suc (2 ^ 16 - suc (a % 2 ^ 16)) = rw e in
+        record { least = omega arith; most = omega arith; same = λ l m. s ∙ omega arith }

@@ -1,13 +1,16 @@
--- Laws that wires go by: the operands that a code reads, and codes 5, 6, 18 and 19 at truth values. Assumes nothing.
-use Prim.Native.Nat.{ℕ, zero, suc, _<_}
-use mathlib.Core.Path.{_≡_, refl, ap, ap₂}
+-- Laws that wires go by: the operands that a code reads, the sampled word, and codes 5, 6, 18 and 19 at truth values. Assumes nothing.
+use Prim.Native.Nat.{ℕ, zero, suc, _+_, _-_, _<_, _≤_}
+use native.Mathlib.Omega.{arith}
+use mathlib.Core.Path.{_≡_, refl, sym, ap, ap₂, _∙_}
 use mathlib.Core.Bool.{Bool, true, false, not, _&&_, _||_}
 use mathlib.Core.List.{List, [], _∷_}
 use lib.Bits.{bitAnd, bitOr, bitXor}
-use lib.Dec.{eqb, lit<}
-use lib.ListN.{getD}
+use lib.Dec.{eqb, ltb, lit<}
+use lib.ListN.{getD, drop}
+use lib.Seq.{getD-take, getD-drop}
+use borrow.Author.Tests.{ltb-true, ltb-false}
 use Rattle.word.specs.declared.Comparison.the-variants.{Eq, Ne, Lt, Ge, Ltu, Geu}
-use Rattle.word.specs.Word.{choose, addOf, subOf, shlOf, shrOf, sarOf, sxOf, andNotOf, compareOf, truth, results, evalOf, arities, arity}
+use Rattle.word.specs.Word.{choose, addOf, subOf, shlOf, shrOf, sarOf, sxOf, andNotOf, compareOf, truth, inCode, results, evalOf, arities, arity}
 
 module _ (s a b c a′ b′ c′ : ℕ) where
   -- x and y are the same where the first n operands are
@@ -67,6 +70,30 @@ module _ (s a b c a′ b′ c′ : ℕ) where
       then three (λ x y z. choose (eqb x 0) z y)
       then none s
       then end)
+
+-- ---- the sampled word
+
+-- `in` stands last and reads no operand
+operands-before-in : (k : ℕ) → inCode ≤ k → arity k ≡ 0
+unfolding arity
+operands-before-in k h =
+    let e : inCode + (k - inCode) ≡ k = omega arith in
+    ap (λ (i : ℕ). getD arities i 0) (sym e) ∙ sym (getD-drop inCode arities (k - inCode) 0) ∙ go (k - inCode)
+  where
+    go : (i : ℕ) → getD (drop inCode arities) i 0 ≡ 0
+    go zero = refl
+    go (suc i) = refl
+
+-- so a code that reads an operand does not read the sampled word
+pub eval-unsampled : (s s′ k a b c : ℕ) → 0 < arity k → evalOf s k a b c ≡ evalOf s′ k a b c
+unfolding evalOf
+eval-unsampled s s′ k a b c h = go (ltb k inCode) refl
+  where
+    go : (t : Bool) → ltb k inCode ≡ t → evalOf s k a b c ≡ evalOf s′ k a b c
+    go true e =
+        let l = ltb-true k inCode e in
+        sym (getD-take inCode (results s a b c) k 0 l) ∙ getD-take inCode (results s′ a b c) k 0 l
+    go false e = absurd (let z = operands-before-in k (ltb-false k inCode e) in omega arith)
 
 -- ---- at truth values
 

@@ -1,0 +1,103 @@
+-- Every cycle from values inside ends inside what the operation leaves: the promise of R-5, in signed values. Assumes nothing.
+use Prim.Native.Nat.{ℕ, _+_, _^_, _≤_, _<_}
+use native.Mathlib.Omega.{arith}
+use mathlib.Core.List.{List, [], _∷_, _++_, map}
+use mathlib.Core.Path.{_≡_, sym, ap, _∙_}
+use lib.ListN.{length, getD, take, drop, length-append, length-map, List·getD-append}
+use lib.Seq.{getD-take, length-take-le}
+use borrow.Author.Tests.{leb-true, le-leb}
+use Rattle.runs.specs.Lists.{upFrom}
+use Rattle.word.proofs.Levels.{ge-level}
+use Rattle.fsmd.specs.Layout.{maxRegisters, recordOffset, nextRegistersOffset}
+use Rattle.fsmd.specs.Machine.{State, clock}
+use Rattle.fsmd.specs.Table.{machineRegisterCount, wireAt, stateAt, machineOf, firstWireAt, wireCountAt}
+use Rattle.fsmd.proofs.Machines.{state-is}
+use Rattle.fsmd.proofs.Windows.{window-length}
+use Rattle.bounds.specs.declared.Range.{Range}
+use Rattle.bounds.specs.declared.BoundsAnswer.the-variants.{Bounded}
+use Rattle.bounds.specs.Bounds.{rangeAt, firstBounds, nextBounds}
+use Rattle.bounds.specs.Operation.{boundsAnswer, boundsAfter, lowestLeft, highestLeft}
+use Rattle.bounds.specs.Sound.{Between, Inside, RegisterWords, CyclesStayInside}
+use Rattle.bounds.proofs.Answers.{Accepted, accepted, bounded-left}
+use Rattle.bounds.proofs.CycleSound.{Literals, known-registers, cycle-holds}
+use Rattle.bounds.proofs.RangeSound.{Within}
+
+-- a list of words
+abbrev pub AllWords : List ℕ → Type 0
+AllWords l = (i : ℕ) → getD l i 0 < 2 ^ 32
+
+-- ---- between, as signed, is within, by levels
+
+within : (r : Range) (x : ℕ) → r .low < 2 ^ 32 → r .high < 2 ^ 32 → x < 2 ^ 32 → Between (r .low) (r .high) x → Within r x
+within r x l h w b =
+    record {
+      low-word = l;
+      high-word = h;
+      word = w;
+      above = leb-true _ _ (sym (ge-level x (r .low) w l) ∙ b .above);
+      under = leb-true _ _ (sym (ge-level (r .high) x h w) ∙ b .under);
+    }
+
+between : (r : Range) (x : ℕ) → Within r x → Between (r .low) (r .high) x
+between r x w =
+    record {
+      above = ge-level x (r .low) (w .word) (w .low-word) ∙ le-leb _ _ (w .above);
+      under = ge-level (r .high) x (w .high-word) (w .word) ∙ le-leb _ _ (w .under);
+    }
+
+moved : {l m h j x y : ℕ} → l ≡ m → h ≡ j → x ≡ y → Between m j y → Between l h x
+moved e f g b = rw (e, f, g) b
+
+-- ---- the state of a table
+
+literals : (t : List ℕ) → AllWords t → (is : List ℕ) → Literals (map (wireAt t) is)
+unfolding wireAt
+literals t w [] = tt
+literals t w (i ∷ is) = (w _, literals t w is)
+
+module _ (t ls hs : List ℕ) (k : ℕ) (words : AllWords t) (low-words : AllWords ls) (high-words : AllWords hs) (answer : boundsAnswer t ls hs k ≡ Bounded) where
+  facts : Accepted t ls hs k
+  facts = accepted t ls hs k answer
+
+  -- a register's range before the cycle is what the buffers say
+  first-is : (l : List ℕ) (i : ℕ) → i < machineRegisterCount t → getD (take maxRegisters l) i 0 ≡ getD l i 0
+  first-is l i h = let few = facts .table .few-registers in getD-take maxRegisters l i 0 (omega arith)
+
+  next-length : length (stateAt t k .nextRegisters) ≡ machineRegisterCount t
+  unfolding stateAt
+  next-length =
+      let a = facts in
+      let n = a .table .few-states in
+      let r = a .table .few-registers in
+      window-length t (recordOffset k + nextRegistersOffset) (machineRegisterCount t) (omega (arith, a .long .table, a .state))
+
+  state-literals : Literals (stateAt t k .wires)
+  unfolding stateAt
+  state-literals = literals t words (upFrom (firstWireAt t k) (wireCountAt t k))
+
+  module _ (sampled : ℕ) (hs′ : sampled < 2 ^ 32) (rs : List ℕ) (file : RegisterWords rs) (start : Inside (machineRegisterCount t) ls hs rs) where
+    next-within : (i : ℕ) → i < machineRegisterCount t → Within (rangeAt (boundsAfter t ls hs k) i) (getD (clock (machineOf t) sampled (stateAt t k) rs .registers) i 0)
+    unfolding boundsAfter machineOf
+    next-within i h =
+        let a = facts in
+        let e = firstBounds maxRegisters ls hs in
+        cycle-holds (machineOf t) (stateAt t k) sampled rs e hs′
+        (known-registers (machineRegisterCount t) rs e (a .table .few-registers) (file .count) (length-take-le maxRegisters ls (a .long .lowest)) (length-take-le maxRegisters hs (a .long .highest))
+        (λ j q. rw (first-is ls j q, first-is hs j q) (within (record { low = getD ls j 0; high = getD hs j 0 }) (getD rs j 0) (low-words j) (high-words j) (file .words j) (start j q))))
+        state-literals (a .table .valid k (a .state)) i (rw next-length h)
+
+  -- what is left at a register below R is the next bound
+  left-at : (l m : List ℕ) (i : ℕ) → machineRegisterCount t ≤ length m → i < machineRegisterCount t → getD (m ++ drop maxRegisters l) i 0 ≡ getD m i 0
+  left-at l m i n h = List·getD-append m (drop maxRegisters l) 0 i (omega arith)
+
+  after-long : (machineRegisterCount t ≤ length (boundsAfter t ls hs k .lowest)) × (machineRegisterCount t ≤ length (boundsAfter t ls hs k .highest))
+  unfolding boundsAfter nextBounds
+  after-long = (simp (length-append, length-map, next-length) (omega arith), simp (length-append, length-map, next-length) (omega arith))
+
+  pub stays-inside : CyclesStayInside t k ls hs (lowestLeft t ls hs k) (highestLeft t ls hs k)
+  stays-inside sampled hs′ rs file start i h =
+      let b = bounded-left t ls hs k answer in
+      let f = boundsAfter t ls hs k in
+      moved (ap (λ (l : List ℕ). getD l i 0) (b .0) ∙ left-at ls (f .lowest) i (after-long .0) h) (ap (λ (l : List ℕ). getD l i 0) (b .1) ∙ left-at hs (f .highest) i (after-long .1) h)
+      (ap (λ (q : State). getD (clock (machineOf t) sampled q rs .registers) i 0) (state-is t k (facts .state)))
+      (between (rangeAt f i) (getD (clock (machineOf t) sampled (stateAt t k) rs .registers) i 0) (next-within sampled hs′ rs file start i h))

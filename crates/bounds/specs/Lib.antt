@@ -1,0 +1,5 @@
+pub mod Range
+pub mod Bounds
+pub mod Operation
+pub mod Sound
+pub mod Values

@@ -12,6 +12,7 @@ use Rattle.word.specs.Word.{choose}
 use Rattle.fsmd.specs.Clock.{Ready}
 use Rattle.fsmd.specs.Layout.{maxRegisters, machineWords}
 use Rattle.fsmd.specs.Table.{stateCount, machineRegisterCount, stateAt, admittedMachine}
+use Rattle.fsmd.proofs.KeptRegisters.{next-length}
 use Rattle.fsmd.proofs.Machines.{Admitted, admitted-facts}
 use Rattle.bounds.specs.declared.BoundsAnswer.{BoundsAnswer}
 use Rattle.bounds.specs.declared.BoundsAnswer.the-variants.{Refused, Bounded}
@@ -116,6 +117,10 @@ module _ (t ls hs : List ℕ) (k : ℕ) where
         registers = a .table .few-registers;
         valid = a .table .valid j h;
       }
+
+  -- the state has a next reference for each register
+  pub next-count : Accepted → length (stateAt t k .nextRegisters) ≡ machineRegisterCount t
+  next-count a = next-length t k (omega (arith, a .long .table, a .state, a .table .few-states, a .table .few-registers))
 
   -- ---- what the buffers hold at the end
 

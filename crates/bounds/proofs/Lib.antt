@@ -4,3 +4,6 @@ pub mod CycleSound
 pub mod CycleBounds
 pub mod Answers
 pub mod StaysInside
+pub mod Values
+pub mod KeptWords
+pub mod PastTable

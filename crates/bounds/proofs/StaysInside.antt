@@ -8,17 +8,16 @@ use lib.Seq.{getD-take, length-take-le}
 use borrow.Author.Tests.{leb-true, le-leb}
 use Rattle.runs.specs.Lists.{upFrom}
 use Rattle.word.proofs.Levels.{ge-level}
-use Rattle.fsmd.specs.Layout.{maxRegisters, recordOffset, nextRegistersOffset}
+use Rattle.fsmd.specs.Layout.{maxRegisters}
 use Rattle.fsmd.specs.Machine.{State, clock}
 use Rattle.fsmd.specs.Table.{machineRegisterCount, wireAt, stateAt, machineOf, firstWireAt, wireCountAt}
 use Rattle.fsmd.proofs.Machines.{state-is}
-use Rattle.fsmd.proofs.Windows.{window-length}
 use Rattle.bounds.specs.declared.Range.{Range}
 use Rattle.bounds.specs.declared.BoundsAnswer.the-variants.{Bounded}
 use Rattle.bounds.specs.Bounds.{rangeAt, firstBounds, nextBounds}
 use Rattle.bounds.specs.Operation.{boundsAnswer, boundsAfter, lowestLeft, highestLeft}
 use Rattle.bounds.specs.Sound.{Between, Inside, RegisterWords, CyclesStayInside}
-use Rattle.bounds.proofs.Answers.{Accepted, accepted, bounded-left}
+use Rattle.bounds.proofs.Answers.{Accepted, accepted, next-count, bounded-left}
 use Rattle.bounds.proofs.CycleSound.{Literals, known-registers, cycle-holds}
 use Rattle.bounds.proofs.RangeSound.{Within}
 
@@ -63,14 +62,6 @@ module _ (t ls hs : List ℕ) (k : ℕ) (words : AllWords t) (low-words : AllWor
   first-is : (l : List ℕ) (i : ℕ) → i < machineRegisterCount t → getD (take maxRegisters l) i 0 ≡ getD l i 0
   first-is l i h = let few = facts .table .few-registers in getD-take maxRegisters l i 0 (omega arith)
 
-  next-length : length (stateAt t k .nextRegisters) ≡ machineRegisterCount t
-  unfolding stateAt
-  next-length =
-      let a = facts in
-      let n = a .table .few-states in
-      let r = a .table .few-registers in
-      window-length t (recordOffset k + nextRegistersOffset) (machineRegisterCount t) (omega (arith, a .long .table, a .state))
-
   state-literals : Literals (stateAt t k .wires)
   unfolding stateAt
   state-literals = literals t words (upFrom (firstWireAt t k) (wireCountAt t k))
@@ -84,7 +75,7 @@ module _ (t ls hs : List ℕ) (k : ℕ) (words : AllWords t) (low-words : AllWor
         cycle-holds (machineOf t) (stateAt t k) sampled rs e hs′
         (known-registers (machineRegisterCount t) rs e (a .table .few-registers) (file .count) (length-take-le maxRegisters ls (a .long .lowest)) (length-take-le maxRegisters hs (a .long .highest))
         (λ j q. rw (first-is ls j q, first-is hs j q) (within (record { low = getD ls j 0; high = getD hs j 0 }) (getD rs j 0) (low-words j) (high-words j) (file .words j) (start j q))))
-        state-literals (a .table .valid k (a .state)) i (rw next-length h)
+        state-literals (a .table .valid k (a .state)) i (rw (next-count t ls hs k facts) h)
 
   -- what is left at a register below R is the next bound
   left-at : (l m : List ℕ) (i : ℕ) → machineRegisterCount t ≤ length m → i < machineRegisterCount t → getD (m ++ drop maxRegisters l) i 0 ≡ getD m i 0
@@ -92,7 +83,9 @@ module _ (t ls hs : List ℕ) (k : ℕ) (words : AllWords t) (low-words : AllWor
 
   after-long : (machineRegisterCount t ≤ length (boundsAfter t ls hs k .lowest)) × (machineRegisterCount t ≤ length (boundsAfter t ls hs k .highest))
   unfolding boundsAfter nextBounds
-  after-long = (simp (length-append, length-map, next-length) (omega arith), simp (length-append, length-map, next-length) (omega arith))
+  after-long =
+      let n = next-count t ls hs k facts in
+      (simp (length-append, length-map) (omega arith), simp (length-append, length-map) (omega arith))
 
   pub stays-inside : CyclesStayInside t k ls hs (lowestLeft t ls hs k) (highestLeft t ls hs k)
   stays-inside sampled hs′ rs file start i h =

@@ -1,9 +1,17 @@
 -- Every operation leaves registers from R up and words past a table's length as they are. Assumes nothing.
+use Prim.Native.Nat.{ℕ}
 use native.Mathlib.Omega.{arith}
+use mathlib.Core.List.{List}
+use mathlib.Core.Path.{_≡_}
+use lib.ListN.{length}
+use Rattle.bounds.specs.Values.{Long}
+use Rattle.bounds.proofs.KeptWords.{lowest-kept, highest-kept}
+use Rattle.bounds.proofs.PastTable.{past-bounds, past-left}
 use Rattle.cfg.proofs.KeptRegisters.{graph-keeps, graph-words-keep}
 use Rattle.cfg.proofs.PastTable as graph
 use Rattle.cfg_text.proofs.PastTable.{past-read-answer, past-read-words}
 use Rattle.cfg_write.proofs.PastTable.{past-write-answer, past-write-bytes}
+use Rattle.fsmd.specs.Layout.{machineWords, maxRegisters}
 use Rattle.fsmd.proofs.KeptRegisters.{machine-keeps, machine-words-keep}
 use Rattle.fsmd.proofs.PastTable as machine
 use Rattle.touching.proofs.PastTable.{past-touches, past-first}
@@ -16,7 +24,12 @@ registers-kept = record {
   graph-with-words = graph-words-keep;
   machine = machine-keeps;
   machine-with-words = machine-words-keep;
+  lowest = lowest-kept;
+  highest = highest-kept;
 }
+
+long : (m ls hs : List ℕ) → length m ≡ machineWords → length ls ≡ maxRegisters → length hs ≡ maxRegisters → Long m ls hs
+long m ls hs a b c = record { table = omega arith; lowest = omega arith; highest = omega arith }
 
 pub past-lengths : PastLengths
 past-lengths = record {
@@ -38,4 +51,7 @@ past-lengths = record {
   machine-with-words-registers = λ m u rs v h k start budget words. machine.past-words-registers m u (omega arith) rs v (omega arith) start budget words;
   touches-answer = λ m u h k i. past-touches m u (omega arith) i k;
   first-touching-answer = λ m u h i. past-first m u (omega arith) i;
+  bounds-answer = λ m u ls v hs w a b c k. past-bounds m u ls v hs w (long m ls hs a b c) k;
+  bounds-lowest = λ m u ls v hs w a b c k. past-left m u ls v hs w (long m ls hs a b c) k .0;
+  bounds-highest = λ m u ls v hs w a b c k. past-left m u ls v hs w (long m ls hs a b c) k .1;
 }

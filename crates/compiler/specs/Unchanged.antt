@@ -14,6 +14,7 @@ use Rattle.fsmd.specs.Machine.{machineRunner}
 use Rattle.fsmd.specs.Table.{machineRegisterCount, machineOf}
 use Rattle.fsmd.specs.Run.{machineAnswer, machineRegisters, machineWordsAnswer, machineWordsRegisters}
 use Rattle.synthesis.specs.Synthesis.{synthesisAnswer, synthesisWords}
+use Rattle.bounds.specs.Operation.{boundsAnswer, lowestLeft, highestLeft}
 use Rattle.touching.specs.declared.TouchesAnswer.the-variants.{Answered}
 use Rattle.touching.specs.Touching.{touchesAnswer, firstTouchingAnswer}
 
@@ -25,6 +26,8 @@ pub record RegistersKept : Type 0 where
   pub machine : (t rs : List ℕ) (start budget : ℕ) → drop (machineRegisterCount t) (machineRegisters t rs start budget) ≡ drop (machineRegisterCount t) rs
   pub machine-with-words : (t rs : List ℕ) (start budget : ℕ) (words : List ℕ)
       → drop (machineRegisterCount t) (machineWordsRegisters t rs start budget words) ≡ drop (machineRegisterCount t) rs
+  pub lowest : (t ls hs : List ℕ) (k : ℕ) → drop (machineRegisterCount t) (lowestLeft t ls hs k) ≡ drop (machineRegisterCount t) ls
+  pub highest : (t ls hs : List ℕ) (k : ℕ) → drop (machineRegisterCount t) (highestLeft t ls hs k) ≡ drop (machineRegisterCount t) hs
 
 -- "In every operation, words past a table's length are neither read nor changed": not read, as the answer and what is left in front are
 -- the same whatever stands there; not changed, as it still stands there at the end. t is the graph's table, m the machine's, and rs the
@@ -56,6 +59,12 @@ pub record PastLengths : Type 0 where
       → machineWordsRegisters (m ++ u) (rs ++ v) start budget words ≡ machineWordsRegisters m rs start budget words ++ v
   pub touches-answer : (m u : List ℕ) → length m ≡ machineWords → (k i : ℕ) → touchesAnswer (m ++ u) k i ≡ touchesAnswer m k i
   pub first-touching-answer : (m u : List ℕ) → length m ≡ machineWords → (i : ℕ) → firstTouchingAnswer (m ++ u) i ≡ firstTouchingAnswer m i
+  pub bounds-answer : (m u ls v hs w : List ℕ) → length m ≡ machineWords → length ls ≡ maxRegisters → length hs ≡ maxRegisters → (k : ℕ)
+      → boundsAnswer (m ++ u) (ls ++ v) (hs ++ w) k ≡ boundsAnswer m ls hs k
+  pub bounds-lowest : (m u ls v hs w : List ℕ) → length m ≡ machineWords → length ls ≡ maxRegisters → length hs ≡ maxRegisters → (k : ℕ)
+      → lowestLeft (m ++ u) (ls ++ v) (hs ++ w) k ≡ lowestLeft m ls hs k ++ v
+  pub bounds-highest : (m u ls v hs w : List ℕ) → length m ≡ machineWords → length ls ≡ maxRegisters → length hs ≡ maxRegisters → (k : ℕ)
+      → highestLeft (m ++ u) (ls ++ v) (hs ++ w) k ≡ highestLeft m ls hs k ++ w
 
 -- What a touch word is for, "the states that may change a register": where the answer is that state k does not touch register i, every cycle of the
 -- state leaves that register as it is, whatever the registers and the sampled word.

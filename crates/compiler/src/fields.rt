@@ -1,6 +1,7 @@
 // The numbers that an answer stands for: the refusal's number, 0 for success, and its other values.
 ghost use mathlib.Core.Path.{_≡_};
 ghost use Rattle.runs.specs.Runs.{runNumber, runOutcome, runCount, runNext, runFlag};
+use bounds::BoundsAnswer;
 use capture::CaptureAnswer;
 use capture::Difference;
 use cfg_text::ReadAnswer;
@@ -10,6 +11,7 @@ use runs::RunAnswer;
 use synthesis::SynthesisAnswer;
 use touching::FirstTouchingAnswer;
 use touching::TouchesAnswer;
+ghost use Rattle.bounds.specs.Operation.{boundsNumber};
 ghost use Rattle.capture.specs.Capture.{refusalNumber, faultyRecording, faultyLine, sharedCount, differsFlag, differingCycle};
 ghost use Rattle.cfg_text.specs.Read.{readNumber, readLine};
 ghost use Rattle.cfg_write.specs.Write.{writeNumber, writeLength};
@@ -218,5 +220,15 @@ pub fn first_touching_state(answer: FirstTouchingAnswer) -> u32
         FirstTouchingAnswer::Refused(_) => 0,
         FirstTouchingAnswer::Nowhere => MachineTable::NONE,
         FirstTouchingAnswer::At(state) => state,
+    }
+}
+
+// 0 where nothing is refused.
+pub fn bounds_number(answer: BoundsAnswer) -> u32
+    ensures { λ r. ⌜ r ≡ boundsNumber answer ⌝ }
+{
+    match answer {
+        BoundsAnswer::Refused(number) => number,
+        BoundsAnswer::Bounded => 0,
     }
 }

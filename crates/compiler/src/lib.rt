@@ -1,4 +1,4 @@
-// The ten operations, on buffers that the caller lends. Each contract says the whole of what an operation does, on all inputs: its
+// The eleven operations, on buffers that the caller lends. Each contract says the whole of what an operation does, on all inputs: its
 // answer, and what every buffer holds at the end. A refused operation leaves its buffers as they were.
 pub mod fields; // fields.rt: the numbers and values of an answer
 
@@ -27,7 +27,12 @@ ghost use Rattle.fsmd.specs.Table.{machineOf};
 ghost use Rattle.fsmd.specs.Run.{machineRefusal, machineWordsRefusal, machineAnswer, machineRegisters, machineWordsAnswer, machineWordsRegisters};
 ghost use Rattle.touching.specs.Touching.{touchesAnswer, firstTouchingAnswer};
 ghost use Rattle.touching.specs.Values.{TouchesValues, FirstTouchingValues};
+ghost use Rattle.bounds.specs.Operation.{boundsAnswer, lowestLeft, highestLeft};
+ghost use Rattle.bounds.specs.Values.{BoundsValues};
+ghost use Rattle.bounds.specs.Sound.{CyclesStayInside};
+ghost use Rattle.bounds.specs.declared.BoundsAnswer.«the-variants».{Bounded};
 ghost use Rattle.compiler.specs.Answers.{ReadValues, WriteValues, SynthesisValues, CaptureValues};
+use bounds::BoundsAnswer;
 use capture::CaptureAnswer;
 use cfg_text::ReadAnswer;
 use cfg_write::WriteAnswer;
@@ -139,4 +144,21 @@ pub fn first_touching(machine: &[u32], register: u32) -> FirstTouchingAnswer
     ensures { λ r. ⌜ FirstTouchingValues (now (machine .entry)) register r ⌝ }
 {
     touching::first_touching(machine, register)
+}
+
+// "Registers known within bounds": what one cycle of a state can do to registers from lowest to highest values. Where nothing is refused,
+// every cycle of the state from values inside ends inside what the buffers then hold, whatever the input word.
+pub fn bounds(
+    machine: &[u32],
+    lowest: &mut [u32],
+    highest: &mut [u32],
+    state: u32,
+) -> BoundsAnswer
+    ensures { λ r. ⌜ r ≡ boundsAnswer (now (machine .entry)) (now (lowest .entry)) (now (highest .entry)) state ⌝ }
+    ensures { λ _. ⌜ now (lowest .exit) ≡ lowestLeft (now (machine .entry)) (now (lowest .entry)) (now (highest .entry)) state ⌝ }
+    ensures { λ _. ⌜ now (highest .exit) ≡ highestLeft (now (machine .entry)) (now (lowest .entry)) (now (highest .entry)) state ⌝ }
+    ensures { λ r. ⌜ BoundsValues (now (machine .entry)) (now (lowest .entry)) (now (highest .entry)) state r ⌝ }
+    ensures { λ r. ⌜ (r ≡ Bounded → CyclesStayInside (now (machine .entry)) state (now (lowest .entry)) (now (highest .entry)) (now (lowest .exit)) (now (highest .exit))) ⌝ }
+{
+    bounds::operation::bounds(machine, lowest, highest, state)
 }

@@ -47,7 +47,7 @@ clock-keeps m w q rs n r states registers next l =
     }
 
 -- a state whose record lies in the table has them
-next-length : (t : List ℕ) (k : ℕ) → recordOffset k + nextRegistersOffset + getD t 1 0 ≤ length t → length (stateAt t k .nextRegisters) ≡ getD t 1 0
+pub next-length : (t : List ℕ) (k : ℕ) → recordOffset k + nextRegistersOffset + getD t 1 0 ≤ length t → length (stateAt t k .nextRegisters) ≡ getD t 1 0
 unfolding stateAt
 next-length t k h = window-length t (recordOffset k + nextRegistersOffset) (getD t 1 0) h
 

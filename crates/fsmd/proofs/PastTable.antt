@@ -110,6 +110,9 @@ module _ (t u : List ℕ) (whole : machineWords ≤ length t) where
   pub past-count : getD (t ++ u) 0 0 ≡ getD t 0 0
   past-count = front .word 0 (omega arith)
 
+  pub past-register-count : getD (t ++ u) 1 0 ≡ getD t 1 0
+  past-register-count = front .word 1 (omega arith)
+
   pub past-state : admittedMachine t ≡ true → (k : ℕ) → k < getD t 0 0 → stateAt (t ++ u) k ≡ stateAt t k
   past-state h k l =
       let a = admitted-facts t h in

@@ -1,4 +1,4 @@
-// The ten operations as C functions: include/gutkavu.h declares them. Each returns the refusal's number, 0 for success, and sets every
+// The eleven operations as C functions: include/gutkavu.h declares them. Each returns the refusal's number, 0 for success, and sets every
 // other field on every call.
 use capture::CaptureAnswer;
 use compiler::fields;
@@ -10,6 +10,7 @@ ghost use Rattle.cfg_write.specs.Write.{writeAnswer, writeBytes, writeNumber, w
 ghost use Rattle.synthesis.specs.Synthesis.{synthesisAnswer, synthesisWords, synthesisNumber};
 ghost use Rattle.cfg.specs.Run.{graphAnswer, graphRegisters, graphWordsAnswer, graphWordsRegisters};
 ghost use Rattle.fsmd.specs.Run.{machineAnswer, machineRegisters, machineWordsAnswer, machineWordsRegisters};
+ghost use Rattle.bounds.specs.Operation.{boundsAnswer, lowestLeft, highestLeft, boundsNumber};
 ghost use Rattle.touching.specs.Touching.{touchesAnswer, touchesNumber, touchedField, firstTouchingAnswer, firstNumber, firstState};
 ghost use Rattle.host.specs.Fields.{RunFields, CaptureFields};
 
@@ -195,4 +196,18 @@ pub extern "C" fn gutkavu_first_touching(machine: &[u32], register: u32, state: 
     let answer = compiler::first_touching(machine, register);
     *state = fields::first_touching_state(answer);
     fields::first_touching_number(answer)
+}
+
+#[no_mangle]
+pub extern "C" fn gutkavu_bounds(
+    machine: &[u32],
+    lowest: &mut [u32],
+    highest: &mut [u32],
+    state: u32,
+) -> u32
+    ensures { λ r. ⌜ r ≡ boundsNumber (boundsAnswer (now (machine .entry)) (now (lowest .entry)) (now (highest .entry)) state) ⌝ }
+    ensures { λ _. ⌜ now (lowest .exit) ≡ lowestLeft (now (machine .entry)) (now (lowest .entry)) (now (highest .entry)) state ⌝ }
+    ensures { λ _. ⌜ now (highest .exit) ≡ highestLeft (now (machine .entry)) (now (lowest .entry)) (now (highest .entry)) state ⌝ }
+{
+    fields::bounds_number(compiler::bounds(machine, lowest, highest, state))
 }

@@ -131,9 +131,9 @@ uint32_t gutkavu_first_touching(const uint32_t *machine, size_t machine_len, uin
 
 /* Asks what one cycle of a state can do to registers that are known within bounds. Refusals 7, 10, 9, 13. Word r of
  * lowest and of highest is a signed value in two's complement: register r lies between them, both included. For each
- * register below R they are set to a lowest and a highest value at the end of the cycle; words from R up stay. Every
- * cycle of the state from registers within the bounds given, on any input word, ends within those answered, which may
- * be wider than what the cycles reach.
+ * register below R they are set to a lowest and a highest value at the end of the cycle; words from R up stay. The two
+ * buffers must not overlap. Every cycle of the state from registers within the bounds given, on any input word, ends
+ * within those answered, which may be wider than what the cycles reach.
  *
  * The bounds are worked out wire by wire, each wire having a range:
  *   - where all inputs of a wire are single values, the exact value; word c of add and sub is no input;

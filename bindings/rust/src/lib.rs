@@ -79,8 +79,8 @@
 //! assert_eq!((next.range(0), next.range(1)), (-720..=720, -1_440..=1_440));
 //! let next = machine.bounds(0, &Bounds::FULL)?;
 //! assert_eq!((next.range(0), next.range(1)), (-32_768..=32_767, -65_536..=65_534));
-//! let refused = machine.bounds(0, &Bounds::FULL.with(0, 720..=-720));
-//! assert_eq!(refused, Err(Refusal::LowestAboveHighest));
+//! let swapped = Bounds { lowest: [720; 16], highest: [-720; 16] };
+//! assert_eq!(machine.bounds(0, &swapped), Err(Refusal::LowestAboveHighest));
 //! # Ok::<(), Box<dyn std::error::Error>>(())
 //! ```
 //!

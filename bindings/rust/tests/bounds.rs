@@ -449,9 +449,13 @@ fn the_lowest_above_the_highest_is_refused() {
         let known = within(&[(-720, 720)]).with(r, -1..=0);
         assert!(made.bounds(0, &known).is_ok());
     }
-    let other = Bounds::FULL.with(6, 720..=-720);
-    assert_eq!(made.bounds(0, &other).map(|next| next.range(6)), Ok(720..=-720));
-    assert_eq!(made.bounds(1, &Bounds::FULL.with(0, 1..=0)), Err(Refusal::NoStart));
+    let mut swapped = Bounds::FULL;
+    (swapped.lowest[6], swapped.highest[6]) = (720, -720);
+    let next = made.bounds(0, &swapped).expect("r6 is not below R");
+    assert_eq!((next.lowest[6], next.highest[6]), (720, -720));
+    (swapped.lowest[0], swapped.highest[0]) = (720, -720);
+    assert_eq!(made.bounds(0, &swapped), refused);
+    assert_eq!(made.bounds(1, &swapped), Err(Refusal::NoStart));
     assert_eq!(Refusal::LowestAboveHighest.number(), 13);
 }
 

@@ -1,4 +1,4 @@
-/* A compiler of control-flow graphs into state machines: ten operations on buffers that the caller lends.
+/* A compiler of control-flow graphs into state machines: eleven operations on buffers that the caller lends.
  *
  * Every function returns the number of a refusal, or 0. On a refusal no buffer is changed, and every other field is
  * set to 0 unless its comment says otherwise. Words of a buffer past the length of its table are neither read nor
@@ -13,6 +13,7 @@
  *   5  target not below B                  10  no machine table
  *  11  starter list without block 0 or the start block, or with a block not below B
  *  12  a table that holds code 20, in a run without words
+ *  13  bounds whose lowest value of a register below R is above the highest
  *  17  a recording's line not of its form, or R not 1 to 16
  *  18  a recording's cycle not above that of the line before
  *
@@ -127,6 +128,24 @@ uint32_t gutkavu_touches(const uint32_t *machine, size_t machine_len, uint32_t s
 /* Asks for the lowest-numbered state of a machine that may change a register. Refusals 7, 10. Sets state, to
  * GUTKAVU_NONE where there is none. Any reg may be asked about; one not below R is never touched. */
 uint32_t gutkavu_first_touching(const uint32_t *machine, size_t machine_len, uint32_t reg, uint32_t *state);
+
+/* Asks what one cycle of a state can do to registers that are known within bounds. Refusals 7, 10, 9, 13. Word r of
+ * lowest and of highest is a signed value in two's complement: register r lies between them, both included. For each
+ * register below R they are set to a lowest and a highest value at the end of the cycle; words from R up stay. The two
+ * buffers must not overlap. Every cycle of the state from registers within the bounds given, on any input word, ends
+ * within those answered, which may be wider than what the cycles reach.
+ *
+ * The bounds are worked out wire by wire, each wire having a range:
+ *   - where all inputs of a wire are single values, the exact value; word c of add and sub is no input;
+ *   - set and copy: the literal, the range of a;
+ *   - code 19: the range of b where a is never zero, that of c where a is zero, else the smallest that holds both;
+ *   - add and sub: from the ends, full where a result could wrap;
+ *   - sx: the range of a where it lies in -32768 to 32767, else -32768 to 32767;
+ *   - eq, ne, lt and ge: the value where the ends of a and b decide it, else 0 to 1;
+ *   - ltu and geu: 0 to 1;
+ *   - any other, and `in` always: full, that is -2147483648 to 2147483647. */
+uint32_t gutkavu_bounds(const uint32_t *machine, size_t machine_len, uint32_t *lowest, size_t lowest_len,
+                        uint32_t *highest, size_t highest_len, uint32_t state);
 
 /* Compares two recordings of one run, the first an array's capture, say, and the second a model's run; either may
  * lack cycles, and both may have any length, 0 included. A line is `cycle,state,` and as many register words as

@@ -1,7 +1,7 @@
-/* How a C program reads a graph, synthesises its machine, runs both, without words and with them, asks which states
- * touch a register, compares a recording of the machine with one of the array, and learns that a sum went over: example
- * SWING TURN ARRAY WRAP, the paths of examples/swing.txt, examples/turn.txt, examples/turn-array.capture and
- * examples/wrap.txt. */
+/* How a C program reads a graph, synthesises its machine, runs both, without words and with them, asks what a cycle can
+ * do to registers known within bounds and which states touch a register, compares a recording of the machine with one
+ * of the array, and learns that a sum went over: example SWING TURN ARRAY WRAP, the paths of examples/swing.txt,
+ * examples/turn.txt, examples/turn-array.capture and examples/wrap.txt. */
 #include "gutkavu.h"
 
 #include <inttypes.h>
@@ -110,6 +110,25 @@ static void print_swing(int32_t rate)
     const char *side = registers[3] == 1 ? "port" : "starboard";
     printf("  %" PRId32 ": %s to %s, rate %" PRIu32 "; ", rate, how, side, registers[4]);
     printf("blocks %" PRIu32 ", cycles %" PRIu32 "\n", both.blocks, both.cycles);
+}
+
+/* What a cycle of state 0 can do with a rate between two values in register 0, the other registers being 0. */
+static void print_bounds(int32_t from, int32_t to)
+{
+    uint32_t lowest[GUTKAVU_REGISTER_WORDS] = {(uint32_t)from};
+    uint32_t highest[GUTKAVU_REGISTER_WORDS] = {(uint32_t)to};
+    uint32_t number = gutkavu_bounds(machine, GUTKAVU_MACHINE_WORDS, lowest, GUTKAVU_REGISTER_WORDS, highest,
+                                     GUTKAVU_REGISTER_WORDS, 0);
+    printf("  %" PRId32 " to %" PRId32 ":", from, to);
+    if (number != 0) {
+        printf(" refused %" PRIu32 "\n", number);
+        return;
+    }
+    for (uint32_t reg = 0; reg < machine[1]; reg++) {
+        const char *comma = reg == 0 ? "" : ",";
+        printf("%s r%" PRIu32 " %" PRId32 " to %" PRId32, comma, reg, (int32_t)lowest[reg], (int32_t)highest[reg]);
+    }
+    printf("\n");
 }
 
 /* Runs graph and machine with a rate that begins at 0 and is summed up in steps, as long as it is below a limit. */
@@ -225,17 +244,19 @@ static void print_captures(const char *array)
     print_comparison("with a leading zero", other, model);
 }
 
-int main(int count, char **arguments)
+/* All questions about the swing graph, whose text this is. */
+static void print_swings(const char *text, size_t length)
 {
-    static char text[TEXT_ROOM], other[TEXT_ROOM];
-    if (count != 5)
-        fail("usage: example SWING TURN ARRAY WRAP");
-    size_t length = load(arguments[1], text);
+    static char other[TEXT_ROOM];
     compile(text, length);
     print_machine();
     printf("signed comparison (lt)\n");
     print_swing(-200);
     print_swing(200);
+    printf("a rate within bounds\n");
+    print_bounds(-720, 720);
+    print_bounds(1, 720);
+    print_bounds(720, -720);
     /* The same text with its first signed comparison made unsigned. */
     compile(other, replace(text, "ite,lt,", "ite,ltu,", other));
     printf("unsigned comparison (ltu)\n");
@@ -244,6 +265,14 @@ int main(int count, char **arguments)
     uint32_t line;
     uint32_t number = gutkavu_read((const uint8_t *)text, length - 1, graph, GUTKAVU_GRAPH_WORDS, &line);
     printf("without the last line feed\n  refused %" PRIu32 " at line %" PRIu32 "\n", number, line);
+}
+
+int main(int count, char **arguments)
+{
+    static char text[TEXT_ROOM];
+    if (count != 5)
+        fail("usage: example SWING TURN ARRAY WRAP");
+    print_swings(text, load(arguments[1], text));
     compile(text, load(arguments[2], text));
     printf("rate of turn\n");
     print_turn();

@@ -1,10 +1,11 @@
 //! How a Rust program reads a graph, synthesises its machine, runs both, without words and with
-//! them, asks which states touch a register, compares a recording of the machine with one of the
-//! array, and learns that a sum went over: `example SWING TURN ARRAY WRAP`, the paths of
-//! examples/swing.txt, examples/turn.txt, examples/turn-array.capture and examples/wrap.txt.
+//! them, asks what a cycle can do to registers known within bounds and which states touch a
+//! register, compares a recording of the machine with one of the array, and learns that a sum went
+//! over: `example SWING TURN ARRAY WRAP`, the paths of examples/swing.txt, examples/turn.txt,
+//! examples/turn-array.capture and examples/wrap.txt.
 
 use gutkavu::captures::{self, Comparison, Line, Recording};
-use gutkavu::{Graph, Machine, Outcome};
+use gutkavu::{Bounds, Graph, Machine, Outcome};
 use std::error::Error;
 
 const BUDGET: u32 = 1_000;
@@ -58,6 +59,20 @@ fn print_swing(graph: &Graph, machine: &Machine, rate: i32) -> Result<(), Box<dy
     let side = if registers[3] == 1 { "port" } else { "starboard" };
     println!("  {rate}: {how} to {side}, rate {}; blocks {blocks}, cycles {cycles}", registers[4]);
     Ok(())
+}
+
+/// What a cycle of state 0 can do with a rate between two values in register 0, the other registers
+/// being 0.
+fn print_bounds(machine: &Machine, from: i32, to: i32) {
+    print!("  {from} to {to}: ");
+    match machine.bounds(0, &Bounds::exact(&[0; 16]).with(0, from..=to)) {
+        Ok(next) => {
+            let registers = 0..machine.registers() as usize;
+            let range = |r| format!("r{r} {} to {}", next.lowest[r], next.highest[r]);
+            println!("{}", registers.map(range).collect::<Vec<_>>().join(", "));
+        }
+        Err(refused) => println!("refused {}", refused.number()),
+    }
 }
 
 /// Runs graph and machine with a rate that begins at 0 and is summed up in steps, as long as it is
@@ -162,18 +177,18 @@ fn print_captures(machine: &Machine, array: &str) -> Result<(), Box<dyn Error>> 
     Ok(())
 }
 
-fn main() -> Result<(), Box<dyn Error>> {
-    let paths: Vec<String> = std::env::args().skip(1).collect();
-    let [swing, turn, array, wrap] = &paths[..] else {
-        return Err("usage: example SWING TURN ARRAY WRAP".into());
-    };
-    let text = std::fs::read_to_string(swing)?;
+/// All questions about the swing graph, whose text this is.
+fn print_swings(text: &str) -> Result<(), Box<dyn Error>> {
     let graph: Graph = text.parse()?;
     let machine = graph.synthesise();
     print_machine(&graph, &machine);
     println!("signed comparison (lt)");
     print_swing(&graph, &machine, -200)?;
     print_swing(&graph, &machine, 200)?;
+    println!("a rate within bounds");
+    print_bounds(&machine, -720, 720);
+    print_bounds(&machine, 1, 720);
+    print_bounds(&machine, 720, -720);
     // The same text with its first signed comparison made unsigned.
     let graph: Graph = text.replacen("ite,lt,", "ite,ltu,", 1).parse()?;
     let machine = graph.synthesise();
@@ -184,6 +199,15 @@ fn main() -> Result<(), Box<dyn Error>> {
     if let Err(refused) = Graph::read(&text.as_bytes()[..text.len() - 1]) {
         println!("  refused {} at line {}", refused.number(), refused.line());
     }
+    Ok(())
+}
+
+fn main() -> Result<(), Box<dyn Error>> {
+    let paths: Vec<String> = std::env::args().skip(1).collect();
+    let [swing, turn, array, wrap] = &paths[..] else {
+        return Err("usage: example SWING TURN ARRAY WRAP".into());
+    };
+    print_swings(&std::fs::read_to_string(swing)?)?;
     let graph: Graph = std::fs::read_to_string(turn)?.parse()?;
     let machine = graph.synthesise();
     println!("rate of turn");

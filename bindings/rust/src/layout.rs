@@ -42,7 +42,8 @@ pub mod machine {
     pub const WIRES: usize = RECORDS + super::MOST_STATES * RECORD_WORDS;
     /// A wire: code, a, b, c. In an add or sub wire (codes 3 and 4) c is the reference of its
     /// block's arrival, checked as a and b are; the wire counts for the flag of a run where that
-    /// value is nonzero. Tables from before there was a flag have 0 there, which is register 0.
+    /// value is nonzero. Bounds do not depend on it. Tables from before there was a flag have 0
+    /// there, which is register 0.
     pub const WIRE_WORDS: usize = 4;
 
     // Within a record.

@@ -67,6 +67,23 @@
 //! # Ok::<(), Box<dyn std::error::Error>>(())
 //! ```
 //!
+//! Where registers are known within [`Bounds`] only, a machine is asked what one cycle of a state
+//! can do: every cycle from registers within them ends within the bounds answered.
+//!
+//! ```
+//! use gutkavu::{Bounds, Graph, Refusal};
+//!
+//! let graph: Graph = "graph,1,2\nblock,0\nsx,0,0\nadd,1,0,0\nhalt\n".parse()?;
+//! let machine = graph.synthesise();
+//! let next = machine.bounds(0, &Bounds::FULL.with(0, -720..=720))?;
+//! assert_eq!((next.range(0), next.range(1)), (-720..=720, -1_440..=1_440));
+//! let next = machine.bounds(0, &Bounds::FULL)?;
+//! assert_eq!((next.range(0), next.range(1)), (-32_768..=32_767, -65_536..=65_534));
+//! let swapped = Bounds { lowest: [720; 16], highest: [-720; 16] };
+//! assert_eq!(machine.bounds(0, &swapped), Err(Refusal::LowestAboveHighest));
+//! # Ok::<(), Box<dyn std::error::Error>>(())
+//! ```
+//!
 //! Two recordings of one run, an array's capture and a model's run, are compared cycle by cycle;
 //! either may lack cycles. [`captures`] has the form of their lines.
 //!
@@ -79,7 +96,7 @@
 //! # Ok::<(), Box<dyn std::error::Error>>(())
 //! ```
 //!
-//! [`operations`] has the ten operations on lent buffers, with every field that they answer, for
+//! [`operations`] has the eleven operations on lent buffers, with every field that they answer, for
 //! programs that keep their own tables. [`layout`] says where things stand in a table.
 
 pub mod captures;
@@ -87,11 +104,13 @@ pub mod layout;
 pub mod operations;
 pub mod raw;
 
+mod bounds;
 mod graph;
 mod machine;
 mod refusal;
 mod run;
 
+pub use bounds::Bounds;
 pub use graph::Graph;
 pub use machine::Machine;
 pub use refusal::{ReadRefusal, Refusal};

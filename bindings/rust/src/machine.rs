@@ -1,7 +1,7 @@
 //! A machine, held as its table.
 
 use crate::layout::{machine::*, MOST_BLOCKS, MOST_STATES};
-use crate::{operations, Refusal, Run, RunWithWords, MACHINE_WORDS, NONE};
+use crate::{operations, Bounds, Refusal, Run, RunWithWords, MACHINE_WORDS, NONE};
 use std::fmt;
 
 /// A state machine. One made by synthesis runs from each of its states; one made of other words may
@@ -56,6 +56,21 @@ impl Machine {
         let fields = operations::first_touching(&self.words[..], register);
         Refusal::answer(fields.number)?;
         Ok(Some(fields.state).filter(|&state| state != NONE))
+    }
+
+    /// What one cycle of a state can do to registers within bounds: bounds of each register below R
+    /// at its end. Registers from R up keep theirs. Refusals 10, 9, 13.
+    ///
+    /// Every cycle of the state from registers within the bounds given, on any input word, ends
+    /// within those answered. They may be wider than what the cycles reach, because each wire is
+    /// worked out from the ranges of its inputs alone.
+    pub fn bounds(&self, state: u32, within: &Bounds) -> Result<Bounds, Refusal> {
+        let mut lowest = within.lowest.map(|value| value as u32);
+        let mut highest = within.highest.map(|value| value as u32);
+        let number = operations::bounds(&self.words[..], &mut lowest, &mut highest, state);
+        Refusal::answer(number)?;
+        let values = |words: [u32; 16]| words.map(|word| word as i32);
+        Ok(Bounds { lowest: values(lowest), highest: values(highest) })
     }
 
     /// The number of states, N.

@@ -30,6 +30,8 @@ pub enum Refusal {
     NoStarters = 11,
     /// 12: a run without words has a table that holds code 20.
     WordsNeeded = 12,
+    /// 13: in bounds, the lowest value of a register below R is above the highest.
+    LowestAboveHighest = 13,
     /// 17: a recording's line is not of its form, or R is not 1 to 16.
     NoCaptureForm = 17,
     /// 18: a recording's cycle is not above that of the line before.
@@ -37,7 +39,7 @@ pub enum Refusal {
 }
 
 impl Refusal {
-    const ALL: [Refusal; 14] = [
+    const ALL: [Refusal; 15] = [
         Refusal::TextTooLong,
         Refusal::NoForm,
         Refusal::NotDue,
@@ -50,11 +52,12 @@ impl Refusal {
         Refusal::NoMachine,
         Refusal::NoStarters,
         Refusal::WordsNeeded,
+        Refusal::LowestAboveHighest,
         Refusal::NoCaptureForm,
         Refusal::CycleNotAbove,
     ];
 
-    /// The refusal's number, from 1 to 12, or 17 or 18.
+    /// The refusal's number, from 1 to 13, or 17 or 18.
     pub fn number(self) -> u32 {
         self as u32
     }
@@ -81,6 +84,9 @@ impl Refusal {
                 "starter list without block 0 or the start block, or with a block not below B"
             }
             Refusal::WordsNeeded => "a table that holds code 20, in a run without words",
+            Refusal::LowestAboveHighest => {
+                "bounds whose lowest value of a register below R is above the highest"
+            }
             Refusal::NoCaptureForm => "a recording's line not of its form, or R not 1 to 16",
             Refusal::CycleNotAbove => "a recording's cycle not above that of the line before",
         }

@@ -103,10 +103,10 @@ fn refusals_print_their_meaning() {
     assert_eq!(refused.to_string(), "refused 2 at line 3: no line form, or no line feed");
     let refused = Graph::read(&[b'x'; 16_385]).expect_err("no graph");
     assert_eq!(refused.to_string(), "refused 1: text too long");
-    for number in (1..=12).chain(17..=18) {
+    for number in (1..=13).chain(17..=18) {
         assert_eq!(Refusal::from_number(number).map(Refusal::number), Some(number));
     }
-    assert!([0, 13, 14, 15, 16, 19].iter().all(|&number| Refusal::from_number(number).is_none()));
+    assert!([0, 14, 15, 16, 19].iter().all(|&number| Refusal::from_number(number).is_none()));
 }
 
 #[test]

@@ -12,3 +12,5 @@ pub record Within (c : Case) : Type 0 where
   pub registers : c .registers .count ≤ 20
   pub words : c .words .count ≤ 64
   pub starters : c .starters .count ≤ 70
+  pub lowest : c .asked .lowest .count ≤ 20
+  pub highest : c .asked .highest .count ≤ 20

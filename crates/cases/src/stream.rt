@@ -49,15 +49,17 @@ pub struct TakenCaptures {
     pub next: Cursor,
 }
 
-// The state and the register that are asked about.
+// What is asked about: a state, a register, and the lowest and highest words of the registers. The place behind it is that behind the case.
 pub struct Asked {
     pub state: u32,
     pub register: u32,
+    pub lowest: Region,
+    pub highest: Region,
     pub next: Cursor,
 }
 
 // The text's bytes, sizes of buffers, pairs of index and word, register words, the words and starters of runs with words, two recordings,
-// the state and the register asked about, and the place behind the case.
+// and what is asked about.
 pub struct Case {
     pub text: Region,
     pub graph: u32,
@@ -73,9 +75,7 @@ pub struct Case {
     pub words: Region,
     pub starters: Region,
     pub captures: Captures,
-    pub state: u32,
-    pub register: u32,
-    pub next: Cursor,
+    pub asked: Asked,
 }
 
 impl Case {
@@ -98,7 +98,7 @@ impl Case {
 
     pub const CAPTURE: u32 = 4000;
     // The bytes of a case, at most.
-    pub const BYTES: usize = 29712;
+    pub const BYTES: usize = 29880;
 }
 
 // The first four bytes as a word.
@@ -223,18 +223,26 @@ fn captures_at(s: &[u8], c: Cursor) -> TakenCaptures {
     }
 }
 
-fn asked_at(s: &[u8], c: Cursor) -> Asked {
+fn asked_at(s: &[u8], c: Cursor) -> Asked
+    ensures { λ r. ⌜ (r .lowest .count ≤ 20) × (r .highest .count ≤ 20) ⌝ }
+{
     let state = word(s, c);
     let register = word(s, state.next);
-    let next = register.next;
+    let lowest = take(s, register.next, Case::REGISTERS, 4);
+    let highest = take(s, lowest.next, Case::REGISTERS, 4);
+    let lowest_region = lowest.region;
+    let highest_region = highest.region;
+    let next = highest.next;
     Asked {
         state: state.value,
         register: register.value,
+        lowest: lowest_region,
+        highest: highest_region,
         next,
     }
 }
 
-// The case at a place; `next` says whether it is whole.
+// The case at a place; the cursor at its end says whether it is whole.
 pub fn case_at(s: &[u8], at: usize) -> Case
     ensures { λ r. ⌜ Within r ⌝ }
 {
@@ -257,7 +265,6 @@ pub fn case_at(s: &[u8], at: usize) -> Case
     let word_region = words.region;
     let starter_region = starters.region;
     let captures = recordings.captures;
-    let next = asked.next;
     Case {
         text: text_region,
         graph: graph.value,
@@ -273,8 +280,6 @@ pub fn case_at(s: &[u8], at: usize) -> Case
         words: word_region,
         starters: starter_region,
         captures,
-        state: asked.state,
-        register: asked.register,
-        next,
+        asked,
     }
 }

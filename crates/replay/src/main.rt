@@ -17,9 +17,9 @@ ghost use Rattle.cases.specs.Limits.{Within};
 fn print(s: &[u8], c: Case) -> bool
     requires { ⌜ Within c ⌝ }
 {
-    let mut fields = [0u32; 44];
+    let mut fields = [0u32; 47];
     steps::answer(s, c, &mut fields);
-    let mut out = [0u8; 484];
+    let mut out = [0u8; 517];
     let n = line::put_line(&mut out, &fields);
     io::write_all(STDOUT_FILENO, &out[..n])
 }
@@ -37,7 +37,8 @@ fn step(buffer: &mut [u8], window: Window) -> Window
     }
     let s = &buffer[..end];
     let c = stream::case_at(s, from);
-    let next = c.next;
+    let asked = c.asked;
+    let next = asked.next;
     let at = next.at;
     if !next.good || end < at || !print(s, c) {
         io::write_all(STDERR_FILENO, b"replay: a damaged case, or no output\n");

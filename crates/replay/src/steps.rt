@@ -4,6 +4,7 @@ use cases::contents;
 use cases::contents::store;
 use cases::digest;
 use cases::stream;
+use cases::stream::Asked;
 use cases::stream::Captures;
 use cases::stream::Case;
 use cases::stream::Region;
@@ -215,13 +216,60 @@ fn compare_captures(s: &[u8], captures: Captures, line: &mut [u32]) {
 }
 
 // Both questions about the case's register.
-fn ask(machine: &[u32], c: Case, line: &mut [u32]) {
-    let one = compiler::touches(machine, c.state, c.register);
+fn ask_touching(machine: &[u32], asked: Asked, line: &mut [u32]) {
+    let one = compiler::touches(machine, asked.state, asked.register);
     store(line, 40, fields::touches_number(one));
     store(line, 41, fields::touched(one));
-    let lowest = compiler::first_touching(machine, c.register);
+    let lowest = compiler::first_touching(machine, asked.register);
     store(line, 42, fields::first_touching_number(lowest));
     store(line, 43, fields::first_touching_state(lowest));
+}
+
+fn bound(
+    machine: &[u32],
+    lowest: &mut [u32],
+    highest: &mut [u32],
+    s: &[u8],
+    asked: Asked,
+    line: &mut [u32],
+) {
+    let low = asked.lowest;
+    let high = asked.highest;
+    contents::load(lowest, s, low.at);
+    contents::load(highest, s, high.at);
+    let answer = compiler::bounds(machine, lowest, highest, asked.state);
+    store(line, 44, fields::bounds_number(answer));
+    store(line, 45, digest::of_words(lowest));
+    store(line, 46, digest::of_words(highest));
+}
+
+// The bounds of the case's state, on copies of the lowest and highest words.
+fn ask_bounds(s: &[u8], c: Case, machine: &[u32], line: &mut [u32])
+    requires { ⌜ Within c ⌝ }
+{
+    let asked = c.asked;
+    let low = asked.lowest;
+    let high = asked.highest;
+    let n = low.count as usize;
+    let m = high.count as usize;
+    let mut lowest = [0u32; 20];
+    let mut highest = [0u32; 20];
+    bound(
+        machine,
+        &mut lowest[..n],
+        &mut highest[..m],
+        s,
+        asked,
+        line,
+    );
+}
+
+// All questions about the machine.
+fn ask(s: &[u8], c: Case, machine: &[u32], line: &mut [u32])
+    requires { ⌜ Within c ⌝ }
+{
+    ask_touching(machine, c.asked, line);
+    ask_bounds(s, c, machine, line);
 }
 
 fn patch(w: &mut [u32], s: &[u8], patches: Region) {
@@ -246,9 +294,9 @@ fn answer_on(s: &[u8], c: Case, graph: &mut [u32], machine: &mut [u32], line: &m
     make_tables(s, c, graph, machine, line);
     run_both(s, c, graph, machine, line);
     run_both_with_words(s, c, graph, machine, line);
+    ask(s, c, machine, line);
     list(text_of(s, c), line);
     compare_captures(s, c.captures, line);
-    ask(machine, c, line);
 }
 
 pub fn answer(s: &[u8], c: Case, line: &mut [u32])

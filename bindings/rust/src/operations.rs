@@ -1,4 +1,4 @@
-//! The ten operations on lent buffers. On a refusal every buffer is left as it was.
+//! The eleven operations on lent buffers. On a refusal every buffer is left as it was.
 
 use crate::raw;
 
@@ -201,6 +201,23 @@ pub fn first_touching(machine: &[u32], register: u32) -> FirstTouchingFields {
     // SAFETY: as in `read`.
     let number = unsafe { raw::gutkavu_first_touching(table, length, register, &mut state) };
     FirstTouchingFields { number, state }
+}
+
+/// Asks what one cycle of a state can do to registers between the signed values of two buffers,
+/// which are set to bounds at its end; gives the refusal's number, or 0.
+pub fn bounds(machine: &[u32], lowest: &mut [u32], highest: &mut [u32], state: u32) -> u32 {
+    // SAFETY: as in `read`.
+    unsafe {
+        raw::gutkavu_bounds(
+            machine.as_ptr(),
+            machine.len(),
+            lowest.as_mut_ptr(),
+            lowest.len(),
+            highest.as_mut_ptr(),
+            highest.len(),
+            state,
+        )
+    }
 }
 
 /// Compares two recordings of one run, of `registers` registers each.

@@ -102,6 +102,15 @@ extern "C" {
         reg: u32,
         state: *mut u32,
     ) -> u32;
+    pub fn gutkavu_bounds(
+        machine: *const u32,
+        machine_len: usize,
+        lowest: *mut u32,
+        lowest_len: usize,
+        highest: *mut u32,
+        highest_len: usize,
+        state: u32,
+    ) -> u32;
     pub fn gutkavu_compare_captures(
         registers: u32,
         first: *const u8,

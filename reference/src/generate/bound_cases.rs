@@ -82,13 +82,21 @@ const SUMS: [[Ends; 2]; 24] = [
 ];
 
 /// Ranges and single values about the ends of 16 bits.
-const HALVES: [Ends; 18] = [
+const HALVES: [Ends; 26] = [
     (-32_768, 32_767),
     (-32_769, 32_767),
     (-32_768, 32_768),
     (-32_768, 0),
     (32_767, 32_768),
     (-32_769, -32_768),
+    (0, 32_767),
+    (32_766, 32_767),
+    (-32_768, -32_767),
+    (-32_768, -5),
+    (-32_769, 5),
+    (5, 32_768),
+    (0, 32_768),
+    (40_000, 60_000),
     (32_768, 65_535),
     (65_535, 65_536),
     (0, 65_535),
@@ -104,7 +112,7 @@ const HALVES: [Ends; 18] = [
 ];
 
 /// Ranges that are apart, touch, meet in one number or more, or lie in one another.
-const COMPARED: [[Ends; 2]; 22] = [
+const COMPARED: [[Ends; 2]; 29] = [
     [(0, 5), (6, 9)],
     [(0, 5), (5, 9)],
     [(0, 5), (4, 9)],
@@ -127,6 +135,13 @@ const COMPARED: [[Ends; 2]; 22] = [
     [(LEAST, -1), (0, MOST)],
     [(0, MOST), (LEAST, -1)],
     [(LEAST, -1), (-1, MOST)],
+    [(-1, MOST), (LEAST, -1)],
+    [(5, 9), (5, 5)],
+    [(5, 5), (0, 5)],
+    [(0, 5), (5, 5)],
+    [(5, 5), (5, 9)],
+    [(0, 7), (-3, 0)],
+    [(-3, 0), (0, 7)],
 ];
 
 /// Conditions that are zero, are not, or may be both.

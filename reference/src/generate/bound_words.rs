@@ -34,7 +34,7 @@ const ABOUT_ZERO: [Ends; 9] =
     [(0, 0), (0, 0), (-1, 0), (0, 1), (1, 1), (-1, 1), (-1, -1), (-5, -1), (1, 9)];
 
 /// About the ends of 16 bits, signed and unsigned.
-const ABOUT_HALF: [Ends; 12] = [
+const ABOUT_HALF: [Ends; 15] = [
     (-32_768, 32_767),
     (-32_769, 32_767),
     (-32_768, 32_768),
@@ -47,6 +47,9 @@ const ABOUT_HALF: [Ends; 12] = [
     (-720, 720),
     (-300, 32_767),
     (-32_768, -1),
+    (32_700, 32_767),
+    (-32_768, -32_700),
+    (33_000, 34_000),
 ];
 
 fn clamped((low, high): Ends) -> Ends {
@@ -68,7 +71,7 @@ fn width(random: &mut Random) -> i64 {
 
 /// A range that meets another by one number, ends beside it or is one away from it.
 fn beside(random: &mut Random, (low, high): Ends) -> Ends {
-    let (gap, width) = (random.pick(&[-1, 0, 0, 1, 1]), width(random));
+    let (gap, width) = (random.pick(&[-1, 0, 0, 0, 1]), width(random));
     match random.percent(50) {
         true => (high + gap, high + gap + width),
         false => (low - gap - width, low - gap),
@@ -114,7 +117,7 @@ fn reversed(random: &mut Random, (low, high): Ends) -> Ends {
 }
 
 /// All single, all narrow, or of all kinds.
-fn ranges(random: &mut Random, length: usize) -> Vec<Ends> {
+pub fn ranges(random: &mut Random, length: usize) -> Vec<Ends> {
     let kind = random.below(10);
     let mut all: Vec<Ends> = vec![(0, 0)];
     for _ in 0..length {

@@ -111,7 +111,7 @@ pub fn bounds(table: &[u32], lowest: &mut [u32], highest: &mut [u32], state: u32
         return number;
     }
     let registers = table[1] as usize;
-    let mut ranges = [FULL; REGISTERS + WIRES];
+    let mut ranges = [one(0); REGISTERS + WIRES];
     for (range, (&low, &high)) in ranges[..registers].iter_mut().zip(lowest.iter().zip(&*highest)) {
         *range = Range { low: low as i32, high: high as i32 };
     }

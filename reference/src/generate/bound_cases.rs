@@ -49,12 +49,12 @@ fn panel(codes: &[u32], ends: &[Ends]) -> Case {
     case
 }
 
-/// Codes with a rule of their own, and those that are full or 0 to 1 unless all is single.
-pub const RULED: [u32; 8] = [3, 4, 11, 12, 13, 14, 15, 19];
-pub const UNRULED: [u32; 12] = [1, 2, 5, 6, 7, 8, 9, 10, 16, 17, 18, 20];
+/// Codes whose rules look at ends, the unsigned comparisons beside them, and others.
+pub const RULED: [u32; 10] = [3, 4, 11, 12, 13, 14, 15, 16, 17, 19];
+pub const OTHERS: [u32; 10] = [1, 2, 5, 6, 7, 8, 9, 10, 18, 20];
 
 /// Sums and differences that are at the ends of the signed range, and past them by one.
-const SUMS: [[Ends; 2]; 24] = [
+const SUMS: [[Ends; 2]; 28] = [
     [(MOST - 5, MOST - 1), (0, 1)],
     [(MOST - 5, MOST), (0, 1)],
     [(LEAST + 1, 0), (-1, 0)],
@@ -69,6 +69,10 @@ const SUMS: [[Ends; 2]; 24] = [
     [(MOST - 1, MOST), (2, 3)],
     [(LEAST, LEAST + 1), (-3, -2)],
     [(LEAST, LEAST + 1), (2, 3)],
+    [(MOST - 1, MOST), (-3, -2)],
+    [(MOST, MOST), (-9, -8)],
+    [(5, 6), (LEAST, LEAST + 1)],
+    [(LEAST, LEAST), (9, 10)],
     [(MOST, MOST), (1, 1)],
     [(LEAST, LEAST), (1, 1)],
     [(MOST, MOST), (0, 1)],
@@ -82,7 +86,7 @@ const SUMS: [[Ends; 2]; 24] = [
 ];
 
 /// Ranges and single values about the ends of 16 bits.
-const HALVES: [Ends; 26] = [
+const HALVES: [Ends; 29] = [
     (-32_768, 32_767),
     (-32_769, 32_767),
     (-32_768, 32_768),
@@ -96,6 +100,9 @@ const HALVES: [Ends; 26] = [
     (-32_769, 5),
     (5, 32_768),
     (0, 32_768),
+    (-5, 32_768),
+    (32_000, 32_768),
+    (-32_769, -32_000),
     (40_000, 60_000),
     (32_768, 65_535),
     (65_535, 65_536),
@@ -194,12 +201,12 @@ fn rules() -> Vec<Case> {
     cases.extend(HALVES.map(|a| panel(&RULED, &[a, (1, 2), (0, 1)])));
     for [a, b] in SINGLES.map(|values| values.map(|value| (value, value))) {
         cases.push(panel(&RULED, &[a, b, (4, 9)]));
-        cases.push(panel(&UNRULED, &[a, b, (4, 9)]));
+        cases.push(panel(&OTHERS, &[a, b, (4, 9)]));
     }
     for [a, b] in
         [[(3, 3), (5, 6)], [(5, 6), (3, 3)], [(0, 1), (0, 1)], [(1, 1), (2, 9)], [FULL; 2]]
     {
-        cases.push(panel(&UNRULED, &[a, b, (0, 0)]));
+        cases.push(panel(&OTHERS, &[a, b, (0, 0)]));
     }
     cases
 }

@@ -455,6 +455,18 @@ impl Call<'_> {
         (all, record)
     }
 
+    /// The code of each wire of the state, the ends of what it may read, and its own.
+    pub fn wires(&self) -> Vec<(u32, [Ends; 3], Ends)> {
+        let (all, record) = self.worked_out(Right);
+        let first = WIRES_AT + 4 * record[0] as usize;
+        let words = self.table[first..].chunks_exact(4).take(record[1] as usize);
+        let at = |reference: u32| all.get(reference as usize).copied().unwrap_or(FULL);
+        let wire = |(index, words): (usize, &[u32])| {
+            (words[0], [1, 2, 3].map(|slot| at(words[slot])), all[16 + index])
+        };
+        words.enumerate().map(wire).collect()
+    }
+
     fn written(&self, reading: Reading, number: u32) -> Answered {
         let mut answered = self.unchanged(number);
         let (mut all, record) = self.worked_out(reading);

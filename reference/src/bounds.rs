@@ -85,19 +85,25 @@ fn sign_extended(a: Range) -> Range {
     }
 }
 
-/// What the ends decide of a comparison, if they do.
+/// Whether a is below b, where the ends decide it.
+fn below(a: Range, b: Range) -> Option<bool> {
+    if a.highest < b.lowest {
+        Some(true)
+    } else if a.lowest >= b.highest {
+        Some(false)
+    } else {
+        None
+    }
+}
+
+/// Whether a comparison holds, where the ends decide it.
 fn decided(comparison: Comparison, a: Range, b: Range) -> Option<bool> {
-    let less = || match () {
-        () if a.highest < b.lowest => Some(true),
-        () if a.lowest >= b.highest => Some(false),
-        () => None,
-    };
     let apart = !a.meets(b);
     match comparison {
         Comparison::Eq => apart.then_some(false),
         Comparison::Ne => apart.then_some(true),
-        Comparison::Lt => less(),
-        Comparison::Ge => less().map(|less| !less),
+        Comparison::Lt => below(a, b),
+        Comparison::Ge => below(a, b).map(|below| !below),
         Comparison::Ltu | Comparison::Geu => None,
     }
 }
@@ -129,8 +135,8 @@ fn inputs(wire: Wire) -> Vec<Source> {
     }
 }
 
-/// The ranges of a cycle so far, and beside them the words of a cycle from the lowest values. These
-/// are a wire's exact inputs where its inputs are single.
+/// The ranges of a cycle so far, and beside them their lowest ends as words: these are what a wire
+/// reads where its inputs are single.
 struct Cycle {
     registers: Vec<Range>,
     wires: Vec<Range>,

@@ -42,6 +42,8 @@ pub enum Reading {
     BothArms,
     /// Both arms unless the condition is single.
     BothUnlessSingle,
+    /// Both arms though the condition is nothing but zero.
+    BothWhereZero,
     /// The condition may be zero where one of its ends is.
     ZeroAtTheEnds,
     /// The condition is nonzero where its lowest is.
@@ -96,6 +98,8 @@ pub enum Reading {
     InIsZero,
     InKept,
     LiteralIsReference,
+    /// What is compared with itself is equal, and less itself 0.
+    OneReference,
     /// The first wire, which is set, may be anything.
     SetFull,
     // Which registers, which state.
@@ -129,19 +133,19 @@ pub enum Reading {
 
 use Reading::*;
 
-pub const WRONG: [Reading; 74] = [
+pub const WRONG: [Reading; 76] = [
     WrappedEnds, ClampedEnds, HighestTested, LowestTested, WrapAtTheEnd, WrapLate, BothEndsWrap,
     SubOfLikeEnds, SumsFull, UnsignedWrap, TakenWhereUnsure, ElseWhereUnsure, FullWhereUnsure,
-    BothArms, BothUnlessSingle, ZeroAtTheEnds, LowestDecides, ChoiceTurned, SxUnsigned,
-    SxByHighest, SxByLowest, SxOneMore, SxOneLess, SxOfEnds, SxFull, SxAlwaysHalf, LtOneEarly,
-    LtZeroLate, GeZeroEarly, GeOneLate, EqualRanges, TouchingApart, EqUndecided, LtUndecided,
-    UnsignedOrder, LtuDecided, ComparedFull, AndOrXorInexact, ShiftsInexact, AndNotInexact,
-    LtuInexact, SumsInexact, SxInexact, EqInexact, ArrivalCounts, FirstSingle, AndNarrow, InIsHalf,
-    InIsZero, InKept, LiteralIsReference, SetFull, InPlace, Joined, AllSixteen, PastSixteen,
-    StateZero, LastState, ThirteenBeforeNine, ThirteenBeforeTen, ThirteenBeforeSeven,
-    NineBeforeTen, ThirteenOfAll, ThirteenUnsigned, ThirteenWhereEqual, ThirteenOfFirst,
-    ThirteenNotOfLast, NoThirteen, NineAboveN, NineFrom64, LowestNotShort, HighestNotShort,
-    TurnedOnThirteen, WrittenOnRefusal,
+    BothArms, BothUnlessSingle, BothWhereZero, ZeroAtTheEnds, LowestDecides, ChoiceTurned,
+    SxUnsigned, SxByHighest, SxByLowest, SxOneMore, SxOneLess, SxOfEnds, SxFull, SxAlwaysHalf,
+    LtOneEarly, LtZeroLate, GeZeroEarly, GeOneLate, EqualRanges, TouchingApart, EqUndecided,
+    LtUndecided, UnsignedOrder, LtuDecided, ComparedFull, AndOrXorInexact, ShiftsInexact,
+    AndNotInexact, LtuInexact, SumsInexact, SxInexact, EqInexact, ArrivalCounts, FirstSingle,
+    AndNarrow, InIsHalf, InIsZero, InKept, LiteralIsReference, OneReference, SetFull, InPlace,
+    Joined, AllSixteen, PastSixteen, StateZero, LastState, ThirteenBeforeNine, ThirteenBeforeTen,
+    ThirteenBeforeSeven, NineBeforeTen, ThirteenOfAll, ThirteenUnsigned, ThirteenWhereEqual,
+    ThirteenOfFirst, ThirteenNotOfLast, NoThirteen, NineAboveN, NineFrom64, LowestNotShort,
+    HighestNotShort, TurnedOnThirteen, WrittenOnRefusal,
 ];
 
 pub fn word(value: i64) -> u32 {
@@ -210,6 +214,7 @@ fn choice(reading: Reading, a: Ends, b: Ends, c: Ends) -> Ends {
     };
     match (reading, may_be_zero, single(a)) {
         (BothArms, ..) => hull(b, c),
+        (BothWhereZero, true, true) => hull(b, c),
         (LowestDecides, true, _) => c,
         (_, false, _) => b,
         (_, true, true) => c,
@@ -347,6 +352,10 @@ fn wire(reading: Reading, words: &[u32], at: impl Fn(u32) -> Option<Ends>) -> En
         (20, InIsHalf) => return HALF,
         (20, InKept) => return at(0).unwrap_or(FULL),
         (20, _) => return FULL,
+        (4 | 12..=17, OneReference) if words[1] == words[2] => {
+            let exact = signed(value(code, [0; 3]));
+            return (exact, exact);
+        }
         _ => (),
     }
     let inputs = [1, 2, 3].map(|slot| at(words[slot]).unwrap_or(FULL));

@@ -81,6 +81,10 @@ fn wires(least: usize, kind: &str, holds: impl Fn(u32, [Ends; 3], Ends) -> bool)
     });
 }
 
+/// A kind of range, or of two that are compared.
+type Kind = (&'static str, fn(Ends) -> bool);
+type PairKind = (&'static str, fn(Ends, Ends) -> bool);
+
 fn single((low, high): Ends) -> bool {
     low == high
 }
@@ -145,7 +149,7 @@ fn sums_of_every_kind() {
 /// Conditions about zero, and sign extensions about 16 bits.
 #[test]
 fn conditions_and_extensions_of_every_kind() {
-    let kinds: [(&str, fn(Ends) -> bool); 8] = [
+    let kinds: [Kind; 8] = [
         ("zero", |a| a == (0, 0)),
         ("single and not zero", |a| single(a) && a.0 != 0),
         ("above zero", |a| !single(a) && a.0 > 0),
@@ -160,7 +164,7 @@ fn conditions_and_extensions_of_every_kind() {
             code == 19 && b != c && holds(a)
         });
     }
-    let kinds: [(&str, fn(Ends) -> bool); 6] = [
+    let kinds: [Kind; 6] = [
         ("inside", |(low, high)| low < high && low > -32_768 && high < 32_767),
         ("at an end", |(low, high)| low < high && (low == -32_768) != (high == 32_767)),
         ("past the highest by one", |(low, high)| low < high && high == 32_768),
@@ -176,7 +180,7 @@ fn conditions_and_extensions_of_every_kind() {
 /// Ranges that are compared: apart, touching, overlapping, the same.
 #[test]
 fn comparisons_of_every_kind() {
-    let kinds: [(&str, fn(Ends, Ends) -> bool); 8] = [
+    let kinds: [PairKind; 8] = [
         ("below", |a, b| a.1 < b.0),
         ("above", |a, b| a.0 > b.1),
         ("touching from below", |a, b| a.1 == b.0),

@@ -223,6 +223,11 @@ fn input_words_are_full() {
     }
 }
 
+#[test]
+fn the_swing_is_that_of_the_examples() {
+    assert_eq!(SWING, include_str!("../../examples/swing.txt"));
+}
+
 /// Rates of the request. The rate is sign extended into r1; r4 is as found where the rate is 0.
 #[test]
 fn swing() {

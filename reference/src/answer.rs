@@ -1,9 +1,9 @@
-//! The answer to a case: thirteen steps, and one line of numbers.
+//! The answer to a case: fourteen steps, and one line of numbers.
 
 use crate::case::{Asked, Captures, Case, Patch};
 use crate::listing::listing;
 use crate::operations::{
-    compare_captures, first_touching, read, run_graph, run_graph_with_words, run_machine,
+    bounds, compare_captures, first_touching, read, run_graph, run_graph_with_words, run_machine,
     run_machine_with_words, synthesise, touches, write, CaptureAnswer, FirstTouchingAnswer,
     ReadAnswer, RunAnswer, TouchesAnswer, WordsRunAnswer, WriteAnswer,
 };
@@ -13,6 +13,14 @@ use crate::operations::{
 pub struct Ran<A> {
     pub answer: A,
     pub registers: u64,
+}
+
+/// The number of the bounds, and the digests of both buffers after.
+#[derive(Clone, Copy, Debug, PartialEq, Eq)]
+pub struct Bounded {
+    pub number: u32,
+    pub lowest: u64,
+    pub highest: u64,
 }
 
 #[derive(Clone, Debug, PartialEq, Eq)]
@@ -32,6 +40,7 @@ pub struct Answer {
     pub captures: CaptureAnswer,
     pub touches: TouchesAnswer,
     pub first_touching: FirstTouchingAnswer,
+    pub bounds: Bounded,
 }
 
 /// A number that depends on every number of a sequence and on its length.
@@ -81,6 +90,13 @@ fn captures(case: &Case) -> CaptureAnswer {
     compare_captures(*registers, first, second)
 }
 
+/// On copies of the two buffers.
+fn bounded(case: &Case, machine: &[u32]) -> Bounded {
+    let (mut lowest, mut highest) = (case.bounds.lowest.clone(), case.bounds.highest.clone());
+    let number = bounds(machine, &mut lowest, &mut highest, case.asked.state);
+    Bounded { number, lowest: digest(&lowest), highest: digest(&highest) }
+}
+
 pub fn answer(case: &Case) -> Answer {
     let mut graph = fresh_words(case.graph_length);
     let read = read(&case.text, &mut graph);
@@ -117,6 +133,7 @@ pub fn answer(case: &Case) -> Answer {
         captures: captures(case),
         touches: touches(&machine, asked_state, register),
         first_touching: first_touching(&machine, register),
+        bounds: bounded(case, &machine),
     }
 }
 
@@ -156,6 +173,8 @@ impl Answer {
         fields.extend(capture_fields(self.captures));
         fields.extend([u64::from(self.touches.number), self.touches.touched.into()]);
         fields.extend([u64::from(self.first_touching.number), self.first_touching.state.into()]);
+        let Bounded { number, lowest, highest } = self.bounds;
+        fields.extend([number.into(), lowest, highest]);
         let printed: Vec<String> = fields.iter().map(u64::to_string).collect();
         printed.join(",")
     }

@@ -28,6 +28,13 @@ pub struct Asked {
     pub register: u32,
 }
 
+/// Lowest and highest words of registers at the start of a cycle.
+#[derive(Clone, Debug, PartialEq, Eq)]
+pub struct Bounds {
+    pub lowest: Vec<u32>,
+    pub highest: Vec<u32>,
+}
+
 #[derive(Clone, Debug, PartialEq, Eq)]
 pub struct Case {
     pub text: Vec<u8>,
@@ -45,11 +52,13 @@ pub struct Case {
     pub starters: Vec<u32>,
     pub captures: Captures,
     pub asked: Asked,
+    /// The bounds are asked for the state asked about.
+    pub bounds: Bounds,
 }
 
 impl Case {
     /// A case with exact buffers, no damage, small budgets, a word for each cycle, recordings of
-    /// nothing and a question about state 0 and register 0.
+    /// nothing, a question about state 0 and register 0, and registers between -720 and 720.
     pub fn plain(text: &[u8]) -> Case {
         Case {
             text: text.to_vec(),
@@ -67,6 +76,7 @@ impl Case {
             starters: vec![0],
             captures: Captures { registers: 1, first: Vec::new(), second: Vec::new() },
             asked: Asked { state: 0, register: 0 },
+            bounds: Bounds { lowest: vec![-720i32 as u32; 16], highest: vec![720; 16] },
         }
     }
 
@@ -89,6 +99,8 @@ impl Case {
         put_bytes(stream, &self.captures.second);
         put(stream, self.asked.state);
         put(stream, self.asked.register);
+        put_list(stream, &self.bounds.lowest);
+        put_list(stream, &self.bounds.highest);
     }
 }
 
@@ -159,6 +171,11 @@ impl<'a> Stream<'a> {
         })
     }
 
+    fn bounds(&mut self) -> Option<Bounds> {
+        let lowest = self.list(MAX_REGISTER_BUFFER)?;
+        Some(Bounds { lowest, highest: self.list(MAX_REGISTER_BUFFER)? })
+    }
+
     fn case(&mut self) -> Option<Case> {
         Some(Case {
             text: self.bytes(MAX_CASE_TEXT)?,
@@ -176,6 +193,7 @@ impl<'a> Stream<'a> {
             starters: self.list(MAX_STARTERS)?,
             captures: self.captures()?,
             asked: Asked { state: self.word()?, register: self.word()? },
+            bounds: self.bounds()?,
         })
     }
 }

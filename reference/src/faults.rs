@@ -7,7 +7,8 @@ mod recordings;
 mod tables;
 mod text;
 
-use crate::case::Case;
+use crate::case::{Bounds, Case};
+use crate::graph::signed;
 use crate::operation::{Operation, Refusal};
 use crate::parse::MAX_TEXT;
 use crate::print::print;
@@ -141,6 +142,27 @@ impl Facts<'_> {
         ])
     }
 
+    /// A lowest above its highest, where both words are there, of a register below R.
+    fn reversed(&self) -> bool {
+        let Bounds { lowest, highest } = &self.case.bounds;
+        let used = self.machine.registers.map_or(0, |count| count.min(16)) as usize;
+        let mut ends = lowest.iter().zip(highest).take(used);
+        ends.any(|(&low, &high)| signed(low) > signed(high))
+    }
+
+    fn bounds(&self) -> Vec<Fault> {
+        let Bounds { lowest, highest } = &self.case.bounds;
+        let state = self.case.asked.state;
+        applying(&[
+            (Refusal::ShortMachine, self.machine.short),
+            (Refusal::ShortLowest, lowest.len() < 16),
+            (Refusal::ShortHighest, highest.len() < 16),
+            (Refusal::MachineTable, self.machine.refused),
+            (Refusal::State, self.machine.states.is_some_and(|states| state >= states)),
+            (Refusal::Reversed, self.reversed()),
+        ])
+    }
+
     fn of(&self, operation: Operation) -> Vec<Fault> {
         match operation {
             Operation::Read => self.read(),
@@ -153,12 +175,13 @@ impl Facts<'_> {
             Operation::CompareCaptures => recordings::faults(&self.case.captures),
             Operation::Touches => self.touches(),
             Operation::FirstTouching => self.first_touching(),
+            Operation::Bounds => self.bounds(),
         }
     }
 }
 
 /// The faults of each call of a case, given the buffers as its runs find them.
-pub fn faults(case: &Case, graph: &[u32], machine: &[u32]) -> [Faults; 10] {
+pub fn faults(case: &Case, graph: &[u32], machine: &[u32]) -> [Faults; 11] {
     let facts = Facts {
         case,
         graph: GraphFacts::of(graph),

@@ -1,8 +1,9 @@
-//! The second program: graph text, synthesis, two interpreters, a listing, captures compared, and
-//! which states touch a register.
+//! The second program: graph text, synthesis, two interpreters, a listing, captures compared, which
+//! states touch a register, and what a cycle makes of registers within bounds.
 
 pub mod answer;
 pub mod block_set;
+pub mod bounds;
 pub mod capture;
 pub mod case;
 pub mod faults;

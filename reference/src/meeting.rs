@@ -77,7 +77,7 @@ pub fn meetings(faults: &Faults) -> BTreeSet<Meeting> {
 /// A run with words has no 12, a machine's run gets no list and so has no 11, and a short output is
 /// 8 and not 7. 9 never comes without 11: a list that has such a start has a block not below B. The
 /// search for a state that touches a register is given no state and so has no 9.
-const OF_CALLS: [(Operation, Refusal, &[Refusal]); 24] = {
+const OF_CALLS: [(Operation, Refusal, &[Refusal]); 29] = {
     use Operation::*;
     use Refusal::*;
     [
@@ -105,6 +105,11 @@ const OF_CALLS: [(Operation, Refusal, &[Refusal]); 24] = {
         (Touches, ShortMachine, &[MachineTable, State]),
         (Touches, MachineTable, &[State]),
         (FirstTouching, ShortMachine, &[MachineTable]),
+        (Bounds, ShortMachine, &[ShortLowest, ShortHighest, MachineTable, State, Reversed]),
+        (Bounds, ShortLowest, &[ShortHighest, MachineTable, State, Reversed]),
+        (Bounds, ShortHighest, &[MachineTable, State, Reversed]),
+        (Bounds, MachineTable, &[State, Reversed]),
+        (Bounds, State, &[Reversed]),
     ]
 };
 

@@ -1,4 +1,4 @@
-//! The ten operations by name: the fields they answer, their numbers, the order of their refusals.
+//! The eleven operations by name: the fields they answer, their numbers, the order of their refusals.
 
 /// Why a call is refused. Where two buffers of one call may be short, each is one by itself.
 #[derive(Clone, Copy, Debug, PartialEq, Eq, PartialOrd, Ord)]
@@ -12,12 +12,15 @@ pub enum Refusal {
     ShortGraph,
     ShortMachine,
     ShortRegisters,
+    ShortLowest,
+    ShortHighest,
     ShortOutput,
     Start,
     State,
     MachineTable,
     Starters,
     ReadsWords,
+    Reversed,
     RecordedCount,
     RecordedForm,
     RecordedOrder,
@@ -32,12 +35,17 @@ impl Refusal {
             Refusal::Register => 4,
             Refusal::Target => 5,
             Refusal::GraphTable => 6,
-            Refusal::ShortGraph | Refusal::ShortMachine | Refusal::ShortRegisters => 7,
+            Refusal::ShortGraph
+            | Refusal::ShortMachine
+            | Refusal::ShortRegisters
+            | Refusal::ShortLowest
+            | Refusal::ShortHighest => 7,
             Refusal::ShortOutput => 8,
             Refusal::Start | Refusal::State => 9,
             Refusal::MachineTable => 10,
             Refusal::Starters => 11,
             Refusal::ReadsWords => 12,
+            Refusal::Reversed => 13,
             Refusal::RecordedCount | Refusal::RecordedForm => 17,
             Refusal::RecordedOrder => 18,
         }
@@ -49,6 +57,8 @@ impl Refusal {
             Refusal::ShortGraph => " graph",
             Refusal::ShortMachine => " machine",
             Refusal::ShortRegisters => " registers",
+            Refusal::ShortLowest => " lowest",
+            Refusal::ShortHighest => " highest",
             Refusal::RecordedCount => " R",
             _ => "",
         };
@@ -68,10 +78,11 @@ pub enum Operation {
     CompareCaptures,
     Touches,
     FirstTouching,
+    Bounds,
 }
 
 impl Operation {
-    pub const ALL: [Operation; 10] = [
+    pub const ALL: [Operation; 11] = [
         Operation::Read,
         Operation::Write,
         Operation::Synthesise,
@@ -82,6 +93,7 @@ impl Operation {
         Operation::CompareCaptures,
         Operation::Touches,
         Operation::FirstTouching,
+        Operation::Bounds,
     ];
 
     pub fn name(self) -> &'static str {
@@ -96,6 +108,7 @@ impl Operation {
             Operation::CompareCaptures => "compare captures",
             Operation::Touches => "touches",
             Operation::FirstTouching => "first touching",
+            Operation::Bounds => "bounds",
         }
     }
 
@@ -104,7 +117,7 @@ impl Operation {
         match self {
             Operation::Read => &["number", "line"],
             Operation::Write => &["number", "length"],
-            Operation::Synthesise => &["number"],
+            Operation::Synthesise | Operation::Bounds => &["number"],
             Operation::RunGraph | Operation::RunMachine => {
                 &["number", "halted", "count", "next", "flag"]
             }
@@ -132,6 +145,7 @@ impl Operation {
             Operation::CompareCaptures => &[0, 17, 18],
             Operation::Touches => &[0, 7, 9, 10],
             Operation::FirstTouching => &[0, 7, 10],
+            Operation::Bounds => &[0, 7, 9, 10, 13],
         }
     }
 
@@ -154,6 +168,9 @@ impl Operation {
             Operation::CompareCaptures => &[RecordedCount, RecordedForm, RecordedOrder],
             Operation::Touches => &[ShortMachine, MachineTable, State],
             Operation::FirstTouching => &[ShortMachine, MachineTable],
+            Operation::Bounds => {
+                &[ShortMachine, ShortLowest, ShortHighest, MachineTable, State, Reversed]
+            }
         }
     }
 

@@ -1,6 +1,7 @@
-//! The ten operations on lent buffers, with their refusal numbers.
+//! The eleven operations on lent buffers, with their refusal numbers.
 
 use crate::block_set::BlockSet;
+use crate::bounds::{self, Range};
 use crate::capture::{self, Fault, Findings};
 use crate::graph::{Graph, MAX_REGISTERS};
 use crate::graph_table::{self, GRAPH_WORDS};
@@ -307,4 +308,31 @@ pub fn first_touching(table: &[u32], register: u32) -> FirstTouchingAnswer {
         Ok(state) => FirstTouchingAnswer { number: 0, state },
         Err(number) => FirstTouchingAnswer { number, state: 0 },
     }
+}
+
+/// The ranges of the registers below R after a cycle from this state.
+fn bounded(table: &[u32], lowest: &[u32], highest: &[u32], state: u32) -> Result<Vec<Range>, u32> {
+    if lowest.len() < MAX_REGISTERS || highest.len() < MAX_REGISTERS {
+        return Err(7);
+    }
+    let machine = machine_of(table)?;
+    let state = &machine.states[below_or_9(state, machine.states.len())?];
+    let ends = lowest.iter().zip(highest).take(machine.registers);
+    let ranges: Vec<Range> = ends.map(|(&low, &high)| Range::of_words(low, high)).collect();
+    match ranges.iter().all(|range| range.is_some()) {
+        true => Ok(bounds::next_ranges(state, &ranges)),
+        false => Err(13),
+    }
+}
+
+/// Puts the bounds of each register after a cycle in place of those before it.
+pub fn bounds(table: &[u32], lowest: &mut [u32], highest: &mut [u32], state: u32) -> u32 {
+    let ranges = match bounded(table, lowest, highest, state) {
+        Ok(ranges) => ranges,
+        Err(number) => return number,
+    };
+    for (register, range) in ranges.into_iter().enumerate() {
+        (lowest[register], highest[register]) = range.words();
+    }
+    0
 }

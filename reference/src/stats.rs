@@ -24,6 +24,7 @@ pub enum Counted {
     CompareCaptures,
     Touches,
     FirstTouching,
+    Bounds,
     GraphHalted,
     MachineHalted,
     GraphOutcome,
@@ -35,6 +36,7 @@ pub enum Counted {
     RunOfPatched,
     WordsRunOfPatched,
     TouchesOfPatched,
+    BoundsOfPatched,
 }
 
 impl Counted {
@@ -50,6 +52,7 @@ impl Counted {
             Counted::CompareCaptures => "compare captures",
             Counted::Touches => "touches",
             Counted::FirstTouching => "first touching",
+            Counted::Bounds => "bounds",
             Counted::GraphHalted => "graph halted",
             Counted::MachineHalted => "machine halted",
             Counted::GraphOutcome => "graph outcome with words",
@@ -61,6 +64,7 @@ impl Counted {
             Counted::RunOfPatched => "run of a patched machine",
             Counted::WordsRunOfPatched => "run with words of a patched machine",
             Counted::TouchesOfPatched => "touches of a patched machine",
+            Counted::BoundsOfPatched => "bounds of a patched machine",
         }
     }
 }
@@ -98,6 +102,7 @@ impl Stats {
         self.count(Counted::CompareCaptures, captures.number);
         self.count(Counted::Touches, touches.number);
         self.count(Counted::FirstTouching, first.number);
+        self.count(Counted::Bounds, answer.bounds.number);
         let outcomes = [
             (Counted::GraphHalted, graph.number, u32::from(graph.halted)),
             (Counted::MachineHalted, machine.number, u32::from(machine.halted)),
@@ -117,6 +122,7 @@ impl Stats {
             self.count(Counted::RunOfPatched, machine.number);
             self.count(Counted::WordsRunOfPatched, machine_words.number);
             self.count(Counted::TouchesOfPatched, touches.number);
+            self.count(Counted::BoundsOfPatched, answer.bounds.number);
         }
     }
 

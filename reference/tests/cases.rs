@@ -3,7 +3,7 @@
 mod common;
 
 use reference::answer::{answer, digest, Answer};
-use reference::case::{read_cases, Asked, Captures, Case};
+use reference::case::{read_cases, Asked, Bounds, Captures, Case};
 use reference::generate::cases;
 use reference::generate::sum_cases::one;
 use reference::generate::touch_cases::FOUR;
@@ -45,7 +45,7 @@ fn the_same_seed_makes_the_same_cases() {
 #[test]
 fn every_refusal_is_hit() {
     let stats = Stats::of(&common::stored_cases());
-    let expected: [(Counted, &[u32]); 10] = [
+    let expected: [(Counted, &[u32]); 11] = [
         (Counted::Read, &[0, 1, 2, 3, 4, 5, 7]),
         (Counted::Write, &[0, 6, 7, 8]),
         (Counted::Synthesise, &[0, 6, 7]),
@@ -56,6 +56,7 @@ fn every_refusal_is_hit() {
         (Counted::CompareCaptures, &[0, 17, 18]),
         (Counted::Touches, &[0, 7, 9, 10]),
         (Counted::FirstTouching, &[0, 7, 10]),
+        (Counted::Bounds, &[0, 7, 9, 10, 13]),
     ];
     for (counted, numbers) in expected {
         for number in 0..20 {
@@ -78,6 +79,10 @@ fn what_matters_most_is_hit_often() {
         (Counted::TouchesOfPatched, 0, 400),
         (Counted::TouchesOfPatched, 9, 100),
         (Counted::TouchesOfPatched, 10, 400),
+        (Counted::Bounds, 0, 1_800),
+        (Counted::Bounds, 13, 200),
+        (Counted::BoundsOfPatched, 0, 800),
+        (Counted::BoundsOfPatched, 13, 80),
         (Counted::Touched, 0, 600),
         (Counted::Touched, 1, 600),
         (Counted::StateFound, 0, 600),
@@ -155,7 +160,7 @@ fn many_cases_go_dry_together() {
 fn stored_cases_stay_small() {
     let mut stream = Vec::new();
     stored().iter().for_each(|(case, _)| case.append_to(&mut stream));
-    assert!(stream.len() < 4_500_000, "{}", stream.len());
+    assert!(stream.len() < 5_500_000, "{}", stream.len());
 }
 
 #[test]
@@ -166,9 +171,9 @@ fn digests() {
 }
 
 #[test]
-fn answer_lines_have_forty_four_fields() {
+fn answer_lines_have_forty_seven_fields() {
     for case in cases(8, 40) {
-        assert_eq!(answer(&case).line().split(',').count(), 44);
+        assert_eq!(answer(&case).line().split(',').count(), 47);
     }
 }
 
@@ -211,16 +216,17 @@ fn flags_in_the_line() {
     }
 }
 
-/// The last four fields are those of the two questions: number and touched, number and state.
+/// Behind the captures are the four fields of the two questions: number and touched, number and
+/// state.
 #[test]
-fn questions_end_the_line() {
+fn questions_in_the_line() {
     let mut case = Case::plain(FOUR.as_bytes());
     let mut end = |state, register, patches: &[(u32, u32)]| {
         case.asked = Asked { state, register };
         case.machine_patches = patches.to_vec();
         let line = answer(&case).line();
         let fields: Vec<&str> = line.split(',').collect();
-        fields[40..].join(",")
+        fields[40..44].join(",")
     };
     assert_eq!(end(0, 1, &[]), "0,0,0,2");
     assert_eq!(end(3, 1, &[]), "0,1,0,2");
@@ -230,15 +236,50 @@ fn questions_end_the_line() {
     assert_eq!(end(0, 0, &[(0, 3)]), "0,0,0,1");
 }
 
-/// Behind the recordings stand the state and the register asked about: any two words.
+/// The last three fields are those of the bounds: number, digests of lowest and highest after.
 #[test]
-fn a_question_ends_the_case() {
+fn bounds_end_the_line() {
+    let mut case = Case::plain(one("add").as_bytes());
+    let mut end = |state, lowest: &[i32], highest: &[i32]| {
+        let words = |list: &[i32]| list.iter().map(|&value| value as u32).collect();
+        case.asked.state = state;
+        case.bounds = Bounds { lowest: words(lowest), highest: words(highest) };
+        let line = answer(&case).line();
+        let fields: Vec<&str> = line.split(',').collect();
+        fields[44..].join(",")
+    };
+    let line = |number: u32, lowest: &[i32], highest: &[i32]| {
+        let words = |list: &[i32]| list.iter().map(|&value| value as u32).collect::<Vec<u32>>();
+        format!("{number},{},{}", digest(&words(lowest)), digest(&words(highest)))
+    };
+    let (mut lowest, mut highest) = ([-3; 17], [4; 17]);
+    assert_eq!(end(1, &lowest, &highest), line(9, &lowest, &highest));
+    assert_eq!(end(0, &highest, &lowest), line(13, &highest, &lowest));
+    assert_eq!(end(0, &lowest[..15], &highest), line(7, &lowest[..15], &highest));
+    let bounded = end(0, &lowest, &highest);
+    (lowest[2], highest[2]) = (-6, 8);
+    assert_eq!(bounded, line(0, &lowest, &highest));
+}
+
+/// Behind the recordings stand the state and the register asked about, any two words, and the two
+/// buffers of bounds, of at most 20 words each.
+#[test]
+fn questions_and_bounds_end_the_case() {
     let mut case = Case::plain(b"");
     case.asked = Asked { state: u32::MAX, register: 258 };
+    case.bounds = Bounds { lowest: vec![7, 8], highest: vec![u32::MAX] };
     let mut stream = Vec::new();
     case.append_to(&mut stream);
-    assert!(stream.ends_with(&[0, 0, 0, 0, 255, 255, 255, 255, 2, 1, 0, 0]));
-    assert_eq!(read_cases(&stream), Ok(vec![case]));
+    let end = [&[0, 0, 0, 0, 255, 255, 255, 255, 2, 1, 0, 0][..]];
+    let bounds = [&[2, 0, 0, 0, 7, 0, 0, 0, 8, 0, 0, 0][..], &[1, 0, 0, 0, 255, 255, 255, 255]];
+    assert!(stream.ends_with(&[end.concat(), bounds.concat()].concat()));
+    assert_eq!(read_cases(&stream), Ok(vec![case.clone()]));
+    for (lowest, highest, read) in [(20, 20, true), (21, 20, false), (20, 21, false)] {
+        case.bounds = Bounds { lowest: vec![1; lowest], highest: vec![2; highest] };
+        let mut stream = Vec::new();
+        case.append_to(&mut stream);
+        assert_eq!(read_cases(&stream).is_ok(), read);
+    }
 }
 
 /// A machine buffer of a case has at most 13,764 words.
@@ -253,12 +294,14 @@ fn longest_machine_buffer() {
     }
 }
 
-/// Behind the lists stand R and both recordings, of at most 4,000 bytes each, before the question.
+/// Behind the lists stand R and both recordings, of at most 4,000 bytes each, before the question
+/// and the bounds.
 #[test]
 fn recordings_in_the_case() {
     let mut case = Case::plain(b"");
     let (first, second) = (vec![7; 4_000], vec![8; 4_000]);
     case.captures = Captures { registers: u32::MAX, first, second };
+    case.bounds = Bounds { lowest: Vec::new(), highest: Vec::new() };
     let mut stream = Vec::new();
     case.append_to(&mut stream);
     let end: Vec<u8> = [255; 4]
@@ -267,7 +310,7 @@ fn recordings_in_the_case() {
         .chain([7; 4_000])
         .chain([160, 15, 0, 0])
         .chain([8; 4_000])
-        .chain([0; 8])
+        .chain([0; 16])
         .collect();
     assert!(stream.ends_with(&end));
     assert_eq!(read_cases(&stream), Ok(vec![case.clone()]));

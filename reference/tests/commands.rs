@@ -82,8 +82,10 @@ fn compare() {
     assert!(text.contains("\ntouches,9,"), "{text}");
     assert!(text.contains("\noutcome of touches,1,"), "{text}");
     assert!(text.contains("\noutcome of first touching,0,"), "{text}");
+    assert!(text.contains("\nbounds,13,"), "{text}");
     assert!(text.contains("\nmet in synthesise: 7 graph and 6 ("), "{text}");
     assert!(text.contains("\nmet in first touching: 7 machine and 10 ("), "{text}");
+    assert!(text.contains("\nmet in bounds: 7 machine and 7 lowest ("), "{text}");
 }
 
 /// The graphs that `bench` times, as texts that are read and give the machines they should.

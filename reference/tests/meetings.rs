@@ -10,7 +10,7 @@ use reference::listing::listing;
 use reference::machine_table::{decode, MACHINE_WORDS, RECORDS_AT, RECORD_WORDS};
 use reference::meeting::{meetings, possible, Meeting};
 use reference::operation::{Operation, Refusal};
-use reference::operations::{first_touching, run_graph, run_machine, synthesise, touches};
+use reference::operations::{bounds, first_touching, run_graph, run_machine, synthesise, touches};
 use reference::parse::parse;
 use std::collections::BTreeMap;
 use std::sync::OnceLock;
@@ -19,7 +19,7 @@ struct Stored {
     case: Case,
     answer: Answer,
     machine: Vec<u32>,
-    faults: [Faults; 10],
+    faults: [Faults; 11],
 }
 
 impl Stored {
@@ -57,6 +57,7 @@ fn answered(operation: Operation, answer: &Answer) -> Refused {
         Operation::RunMachineWithWords => answer.run_machine_with_words.answer.number,
         Operation::Touches => answer.touches.number,
         Operation::FirstTouching => answer.first_touching.number,
+        Operation::Bounds => answer.bounds.number,
     };
     (number, 0, 0)
 }
@@ -92,7 +93,7 @@ fn only_possible_pairs_meet_and_each_often() {
     for faults in stored().iter().flat_map(|one| &one.faults) {
         meetings(faults).into_iter().for_each(|one| *counts.entry(one).or_insert(0) += 1);
     }
-    assert_eq!(possible().len(), 92);
+    assert_eq!(possible().len(), 107);
     for meeting in counts.keys() {
         assert!(possible().contains(meeting), "{meeting:?}");
     }
@@ -267,7 +268,13 @@ fn faults_behind_short_buffers_are_real() {
         let (state, register) = (one.case.asked.state, one.case.asked.register);
         let asked = touches(&machine, state, register).number;
         let searched = first_touching(&machine, register).number;
-        let numbers = [(2, made), (3, ran), (4, cycled), (8, asked), (9, searched)];
+        let mut lowest = lengthened(&one.case.bounds.lowest, 16);
+        let mut highest = lengthened(&one.case.bounds.highest, 16);
+        // What a buffer lacks is not above, or below, what the other has.
+        (one.case.bounds.lowest.len()..16).for_each(|at| lowest[at] = 1 << 31);
+        (one.case.bounds.highest.len()..16).for_each(|at| highest[at] = (1 << 31) - 1);
+        let bounded = bounds(&machine, &mut lowest, &mut highest, state);
+        let numbers = [(2, made), (3, ran), (4, cycled), (8, asked), (9, searched), (10, bounded)];
         for (faults, number) in numbers.map(|(index, number)| (&one.faults[index], number)) {
             let mut mended = faults.clone();
             mended.all.retain(|fault| fault.refusal.number() != 7);

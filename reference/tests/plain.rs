@@ -6,7 +6,7 @@ use gutkavu::operations::{
     compare_captures, FirstTouchingFields, RunFields, RunWithWordsFields, TouchesFields,
 };
 use reference::answer::buffers_of;
-use reference::case::{Asked, Case};
+use reference::case::{Asked, Bounds, Case};
 use reference::generate;
 use reference::operations::{self, RunAnswer, WordsRunAnswer};
 use reference::random::Random;
@@ -108,10 +108,20 @@ fn questions_agree(case: &Case, machine: &[u32], seen: &mut Seen) {
     seen.insert(("the first state", plain.state));
 }
 
+fn bounds_agree(case: &Case, machine: &[u32], seen: &mut Seen) {
+    let Bounds { lowest, highest } = &case.bounds;
+    let (mut x, mut y) = (lowest.clone(), highest.clone());
+    let second = operations::bounds(machine, &mut x, &mut y, case.asked.state);
+    let (mut low, mut high) = (lowest.clone(), highest.clone());
+    let plain = plain::bounds(machine, &mut low, &mut high, case.asked.state);
+    assert_eq!((second, x, y), (plain, low, high));
+    seen.insert(("bounds", plain));
+}
+
 #[test]
 fn the_plain_program_gives_what_the_second_gives() {
     let mut seen = Seen::new();
-    for case in generate::cases(31, 4_200) {
+    for case in generate::cases(31, 5_200) {
         let (graph, machine) = buffers_of(&case);
         texts_agree(&case, &graph, &mut seen);
         machines_agree(&case, &graph, &mut seen);
@@ -119,6 +129,7 @@ fn the_plain_program_gives_what_the_second_gives() {
         graph_runs_with_words_agree(&case, &graph, &mut seen);
         machine_runs_with_words_agree(&case, &machine, &mut seen);
         questions_agree(&case, &machine, &mut seen);
+        bounds_agree(&case, &machine, &mut seen);
     }
     let every = [
         ("read", &[0, 1, 2, 3, 4, 5, 7][..]),
@@ -138,6 +149,7 @@ fn the_plain_program_gives_what_the_second_gives() {
         ("whether it is touched", &[0, 1]),
         ("first touching", &[0, 7, 10]),
         ("the first state", &[0, 1, 2, 3, 63, 255]),
+        ("bounds", &[0, 7, 9, 10, 13]),
     ];
     all_seen(&seen, &every);
 }

@@ -1,6 +1,7 @@
-//! The plain program: the ten operations as plain Rust on flat arrays, with the same checks and the
-//! same algorithms as the proved library. Nothing is allocated.
+//! The plain program: the eleven operations as plain Rust on flat arrays, with the same checks and
+//! the same algorithms as the proved library. Nothing is allocated.
 
+pub mod bounds;
 pub mod capture;
 pub mod graph_admission;
 pub mod grouping;
@@ -17,6 +18,7 @@ pub mod value;
 pub mod words;
 pub mod write;
 
+pub use bounds::bounds;
 pub use capture::compare_captures;
 pub use read::read;
 pub use run_graph::{run_graph, run_graph_with_words};

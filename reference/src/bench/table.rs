@@ -2,7 +2,7 @@
 
 use super::runs::{Kind, Program, PLAIN, PROVED};
 use super::timing::{compare, duration, rate, Timing, ROUNDS, SAMPLE};
-use super::work::{Question, Work, BLOCK_BUDGET, CYCLE_BUDGET};
+use super::work::{Bounds, Question, Work, BLOCK_BUDGET, CYCLE_BUDGET};
 use gutkavu::operations;
 use std::fmt::Write;
 use std::hint::black_box;
@@ -14,6 +14,7 @@ pub fn heading() -> String {
          Ratio: proved / plain, the median of the rounds and its quartiles.\n\
          Runs: so many blocks or cycles a call; the last two columns are blocks or cycles a second.\n\
          Touches, first touching: the last state, and the register whose first such state comes latest.\n\
+         Bounds: of the last state, all registers between -720 and 720, and all single.\n\
          Runs with words: in these rows the first instruction of each block is `in`.\n\
          With / without: the proved runs with words and without, on the graph of the other rows.\n\
          On every graph both programs gave the same answers and the same buffers.\n"
@@ -81,6 +82,22 @@ fn questions(work: &Work, out: &mut String) {
     row(out, "first touching", &searched, None);
 }
 
+/// Of the last state, which is the one state of graphs with 16 registers.
+fn bounds(work: &Work, out: &mut String) {
+    let (table, Question { state, .. }) = (&work.tables.machine, work.question());
+    let kinds =
+        [("bounds, -720 to 720", Bounds::RATES), ("bounds, single", Bounds::single(work.file))];
+    for (name, before) in kinds {
+        let call = |run: fn(&[u32], &mut [u32], &mut [u32], u32) -> u32| {
+            let Bounds { mut lowest, mut highest } = black_box(before);
+            let number = run(black_box(table), &mut lowest, &mut highest, black_box(state));
+            (number, lowest, highest)
+        };
+        let timing = compare(|| call(operations::bounds), || call(plain::bounds));
+        row(out, name, &timing, None);
+    }
+}
+
 /// A run without words, the one with them, and the large budget.
 const RUNS: [(&str, Kind, Kind, u32); 2] = [
     ("run graph", Program::graph, Program::graph_with_words, BLOCK_BUDGET),
@@ -131,6 +148,7 @@ pub fn rows(work: &Work) -> (String, f64) {
     texts(work, &mut out);
     synthesis(work, &mut out);
     questions(work, &mut out);
+    bounds(work, &mut out);
     runs(work, &mut out);
     heads(&mut out, "with words / without, proved", ["with", "without"]);
     let highest = words(work, &mut out);

@@ -32,6 +32,27 @@ pub struct Question {
     pub register: u32,
 }
 
+/// The lowest and highest words of registers before a cycle, or after it.
+#[derive(Clone, Copy, PartialEq)]
+pub struct Bounds {
+    pub lowest: [u32; REGISTER_WORDS],
+    pub highest: [u32; REGISTER_WORDS],
+}
+
+impl Bounds {
+    pub const RATES: Bounds = Bounds::of(-720, 720);
+    const FULL: Bounds = Bounds::of(i32::MIN, i32::MAX);
+    const REVERSED: Bounds = Bounds::of(1, 0);
+
+    const fn of(low: i32, high: i32) -> Bounds {
+        Bounds { lowest: [low as u32; REGISTER_WORDS], highest: [high as u32; REGISTER_WORDS] }
+    }
+
+    pub fn single(words: [u32; REGISTER_WORDS]) -> Bounds {
+        Bounds { lowest: words, highest: words }
+    }
+}
+
 /// Blocks and cycles of a long run.
 pub const BLOCK_BUDGET: u32 = 10_000;
 pub const CYCLE_BUDGET: u32 = 1_000;
@@ -126,6 +147,7 @@ impl Work {
             same("the machine table", &made, &tables.machine)?;
             self.check_runs(tables)?;
             self.check_questions(tables)?;
+            self.check_bounds(tables)?;
         }
         Ok(())
     }
@@ -140,6 +162,23 @@ impl Work {
             }
             let proved = operations::first_touching(table, register);
             same("first touching", proved, plain::first_touching(table, register))?;
+        }
+        Ok(())
+    }
+
+    /// Every state and one past them, on bounds of each kind and the wrong way round.
+    fn check_bounds(&self, tables: &Tables) -> Result<(), String> {
+        let table = &tables.machine;
+        let kinds = [Bounds::RATES, Bounds::FULL, Bounds::single(self.file), Bounds::REVERSED];
+        for (state, before) in (0..=self.states()).flat_map(|state| kinds.map(|one| (state, one))) {
+            let (mut proved, mut plain) = (before, before);
+            let [x, y] = [&mut proved, &mut plain];
+            let numbers = (
+                operations::bounds(table, &mut x.lowest, &mut x.highest, state),
+                plain::bounds(table, &mut y.lowest, &mut y.highest, state),
+            );
+            same("bounds", numbers.0, numbers.1)?;
+            same("the bounds after", proved, plain)?;
         }
         Ok(())
     }

@@ -3,7 +3,7 @@
 use super::lent::{Differing, Lent};
 use super::library::{padded, Library};
 use reference::answer::{fresh_bytes, fresh_words, patch};
-use reference::case::{Asked, Captures, Case};
+use reference::case::{Asked, Bounds, Captures, Case};
 use reference::operation::{Fields, Operation};
 use reference::operations::{
     self, CaptureAnswer, FirstTouchingAnswer, RunAnswer, TouchesAnswer, WordsRunAnswer,
@@ -190,14 +190,30 @@ fn first_touching(library: &impl Library, machine: &[u32], register: u32) -> Com
     }
 }
 
+/// Both buffers are written, and each is looked at.
+fn bounds(library: &impl Library, machine: &[u32], case: &Case) -> Compared {
+    let (state, Bounds { mut lowest, mut highest }) = (case.asked.state, case.bounds.clone());
+    let mut lent_machine = Lent::new(machine);
+    let (mut lent_lowest, mut lent_highest) = (Lent::new(&lowest), Lent::new(&highest));
+    let found = library.bounds(&mut lent_machine, &mut lent_lowest, &mut lent_highest, state);
+    Compared {
+        operation: Operation::Bounds,
+        expected: padded(&[operations::bounds(machine, &mut lowest, &mut highest, state)]),
+        found,
+        differing: (lent_machine.differing("machine table", machine))
+            .or_else(|| lent_lowest.differing("lowest", &lowest))
+            .or_else(|| lent_highest.differing("highest", &highest)),
+    }
+}
+
 /// What each operation came to, and the two buffers as the runs found them.
 pub struct Checked {
-    pub compared: [Compared; 10],
+    pub compared: [Compared; 11],
     pub graph: Vec<u32>,
     pub machine: Vec<u32>,
 }
 
-/// The ten operations on a case, each on the buffers that this program made so far.
+/// The eleven operations on a case, each on the buffers that this program made so far.
 pub fn check(case: &Case, library: &impl Library) -> Checked {
     let mut graph = fresh_words(case.graph_length);
     let read = read(library, &case.text, &mut graph);
@@ -217,6 +233,7 @@ pub fn check(case: &Case, library: &impl Library) -> Checked {
         compare_captures(library, &case.captures),
         touches(library, &machine, case.asked),
         first_touching(library, &machine, case.asked.register),
+        bounds(library, &machine, case),
     ];
     Checked { compared, graph, machine }
 }

@@ -55,6 +55,13 @@ pub trait Library: Sync {
     ) -> Fields;
     fn touches(&self, machine: &mut Lent<u32>, state: u32, register: u32) -> Fields;
     fn first_touching(&self, machine: &mut Lent<u32>, register: u32) -> Fields;
+    fn bounds(
+        &self,
+        machine: &mut Lent<u32>,
+        lowest: &mut Lent<u32>,
+        highest: &mut Lent<u32>,
+        state: u32,
+    ) -> Fields;
 }
 
 /// The proved library.
@@ -153,5 +160,16 @@ impl Library for Proved {
         let FirstTouchingFields { number, state } =
             operations::first_touching(machine.body(), register);
         padded(&[number, state])
+    }
+
+    fn bounds(
+        &self,
+        machine: &mut Lent<u32>,
+        lowest: &mut Lent<u32>,
+        highest: &mut Lent<u32>,
+        state: u32,
+    ) -> Fields {
+        let (lowest, highest) = (lowest.body_mut(), highest.body_mut());
+        padded(&[operations::bounds(machine.body(), lowest, highest, state)])
     }
 }

@@ -46,7 +46,8 @@ fn in_full(case: &Case) -> String {
          output buffer: {} bytes\n  machine buffer: {} words; patches: [{}]\n  \
          register buffer: {} words: {:?}\n  \
          start block {}, block budget {}, start state {}, cycle budget {}\n  \
-         {} words: {:?}\n  {} starters: {:?}\n{}  asked about state {}, register {}\n",
+         {} words: {:?}\n  {} starters: {:?}\n{}  asked about state {}, register {}\n  \
+         lowest: {} words: {:?}\n  highest: {} words: {:?}\n",
         case.text.len(),
         case.text.escape_ascii(),
         case.graph_length,
@@ -67,6 +68,10 @@ fn in_full(case: &Case) -> String {
         captures(&case.captures),
         case.asked.state,
         case.asked.register,
+        case.bounds.lowest.len(),
+        case.bounds.lowest,
+        case.bounds.highest.len(),
+        case.bounds.highest,
     )
 }
 

@@ -45,7 +45,7 @@ impl<T: Element> Buffer for Lent<T> {
 fn buffers(operation: Operation) -> usize {
     match operation {
         Operation::RunGraphWithWords => 4,
-        Operation::RunMachineWithWords => 3,
+        Operation::RunMachineWithWords | Operation::Bounds => 3,
         Operation::Touches | Operation::FirstTouching => 1,
         _ => 2,
     }
@@ -162,6 +162,18 @@ impl Library for Changed {
         let answer = operations::first_touching(machine.body(), register);
         self.apply(Operation::FirstTouching, first_touching_fields(answer), &mut [machine])
     }
+
+    fn bounds(
+        &self,
+        machine: &mut Lent<u32>,
+        lowest: &mut Lent<u32>,
+        highest: &mut Lent<u32>,
+        state: u32,
+    ) -> Fields {
+        let (low, high) = (lowest.body_mut(), highest.body_mut());
+        let number = operations::bounds(machine.body(), low, high, state);
+        self.apply(Operation::Bounds, padded(&[number]), &mut [machine, lowest, highest])
+    }
 }
 
 /// P7 with lists and recordings that have a place 15.
@@ -276,6 +288,23 @@ fn places_of_questions_are_printed() {
     );
 }
 
+#[test]
+fn places_of_bounds_are_printed() {
+    assert_eq!(
+        printed(Operation::Bounds, Change::Place(1, 15)),
+        "lowest of length 16, index 15: 4294966576 expected, 3235774464 found"
+    );
+    assert_eq!(
+        printed(Operation::Bounds, Change::Place(2, 2)),
+        "highest of length 16, index 2: 720 expected, 3235774464 found"
+    );
+    assert_eq!(
+        printed(Operation::Bounds, Change::End(2)),
+        "highest of length 16, index 16 in the guard after it: \
+         3235774464 expected, 3235774465 found"
+    );
+}
+
 /// A difference fails the command, with the case in full.
 #[test]
 fn differences_are_reported() {
@@ -285,7 +314,7 @@ fn differences_are_reported() {
     let shown = text.lines().filter(|line| line.starts_with("difference: seed 11, case "));
     assert_eq!(shown.count(), MOST_REPORTS);
     let case = Cases::of(11).get(1);
-    let captures = &case.captures;
+    let (captures, bounds) = (&case.captures, &case.bounds);
     let (first, second) = (&captures.first, &captures.second);
     let parts = [
         String::from(
@@ -305,6 +334,8 @@ fn differences_are_reported() {
         format!("  first recording of {} bytes: \"{}\"\n", first.len(), first.escape_ascii()),
         format!("  second recording of {} bytes: \"{}\"\n", second.len(), second.escape_ascii()),
         format!("  asked about state {}, register {}\n", case.asked.state, case.asked.register),
+        format!("  lowest: {} words: {:?}\n", bounds.lowest.len(), bounds.lowest),
+        format!("  highest: {} words: {:?}\n", bounds.highest.len(), bounds.highest),
     ];
     for part in parts {
         assert!(text.contains(&part), "{part}");
@@ -355,6 +386,17 @@ fn differences_of_questions_are_reported() {
             assert!(text.contains(&format!("  {} differs\n", operation.name())), "{text}");
             assert!(text.contains(&format!(", {name} ")), "{text}");
         }
+    }
+}
+
+/// A library that differs in the bounds alone is found, in the number and in each buffer.
+#[test]
+fn differences_of_bounds_are_reported() {
+    let places = [Change::Field(0, 0), Change::Field(0, 3), Change::End(1), Change::End(2)];
+    for change in places {
+        let text = compare(11, 40, &Changed(Operation::Bounds, change)).expect_err("a difference");
+        assert!(text.ends_with("seed 11: 40 cases, 40 differ\n"), "{text}");
+        assert!(text.contains("  bounds differs\n    second program: number "), "{text}");
     }
 }
 
@@ -418,7 +460,7 @@ fn numbers_that_are_not_hit_are_reported() {
     let same = Changed(Operation::Read, Change::Nothing);
     let mut tally = tally_all(&Cases::of(1), 2_000, &same);
     assert!(outcome(1, 2_000, &tally).is_ok());
-    assert_eq!(named().count(), 56 + 20 + 92);
+    assert_eq!(named().count(), 61 + 20 + 107);
     for hit in named() {
         let cases = tally.counts.remove(&hit).expect("a hit");
         let text = outcome(1, 2_000, &tally).expect_err("one is missing");

@@ -58,6 +58,8 @@ pub struct MachineFacts {
     pub reads_words: bool,
     /// N, whatever it is.
     pub states: Option<u32>,
+    /// R, whatever it is.
+    pub registers: Option<u32>,
 }
 
 impl MachineFacts {
@@ -68,7 +70,8 @@ impl MachineFacts {
             false => machine_table::decode(buffer).is_none(),
         };
         let reads_words = (0..counted(buffer)).any(|state| state_reads(buffer, state));
-        MachineFacts { short, refused, reads_words, states: buffer.first().copied() }
+        let (states, registers) = (buffer.first().copied(), buffer.get(1).copied());
+        MachineFacts { short, refused, reads_words, states, registers }
     }
 }
 

@@ -2,7 +2,7 @@
 
 use super::examples::{self, P12, P7};
 use super::touch_words::mended;
-use super::{capture_cases, sum_cases, touch_cases, word_cases};
+use super::{bound_cases, capture_cases, sum_cases, touch_cases, word_cases};
 use crate::answer::buffers_of;
 use crate::case::{Asked, Case};
 use crate::graph::{Block, Comparison, Ending, Graph, Instruction, MAX_BLOCKS, MAX_REGISTERS};
@@ -162,6 +162,12 @@ fn with_questions(cases: &mut [Case]) {
     }
 }
 
+fn with_bounds(cases: &mut [Case]) {
+    for (case, bounds) in cases.iter_mut().zip(bound_cases::others().iter().cycle()) {
+        case.bounds = bounds.clone();
+    }
+}
+
 /// A pair of recordings for each case, and further cases for those that are left.
 fn with_captures(mut cases: Vec<Case>) -> Vec<Case> {
     let pairs = capture_cases::pairs();
@@ -189,5 +195,7 @@ pub fn cases() -> Vec<Case> {
     cases.extend(sum_cases::cases());
     with_questions(&mut cases);
     cases.extend(touch_cases::cases());
+    with_bounds(&mut cases);
+    cases.extend(bound_cases::cases());
     with_captures(cases)
 }

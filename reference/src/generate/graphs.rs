@@ -241,6 +241,43 @@ pub fn sum_graph(random: &mut Random) -> Graph {
     with_inputs_or_not(random, graph)
 }
 
+/// What bounds have a rule for more often than what makes them full.
+fn bounded_instruction(random: &mut Random, registers: usize) -> Instruction {
+    let d = random.below(registers);
+    let (a, b) = (random.below(registers), random.below(registers));
+    match random.below(12) {
+        0 => Instruction::Set { d, literal: words::literal(random) },
+        1 => Instruction::Set { d, literal: random.between(0, 9) as i32 - 4 },
+        2 => Instruction::Copy { d, a },
+        3 | 4 => Instruction::SignExtend { d, a },
+        5 => any_instruction(random, registers),
+        _ => Instruction::Binary { op: random.pick(&[Binary::Add, Binary::Sub]), d, a, b },
+    }
+}
+
+/// A graph with many instructions to a state, mostly with ways to choose between.
+pub fn bounded_graph(random: &mut Random) -> Graph {
+    let size = Size {
+        blocks: random.pick(&[1, 2, 3, 4, 4, 5, 7, 9]),
+        registers: random.pick(&[2, 3, 4, 5, 6, 8, 16]),
+        instructions: random.pick(&[1, 2, 3, 8]),
+    };
+    let made = match random.percent(60) {
+        true => random.pick(&[shapes::diamonds as Maker, shapes::joins])(random, size.blocks),
+        false => shape(random, size.blocks),
+    };
+    let mut graph = fill(random, &made, size);
+    for block in &mut graph.blocks {
+        let count = random.between(0, size.instructions);
+        block.instructions =
+            (0..count).map(|_| bounded_instruction(random, size.registers)).collect();
+    }
+    match random.percent(20) {
+        true => with_inputs(random, graph),
+        false => graph,
+    }
+}
+
 /// A graph whose text is short.
 pub fn small_graph(random: &mut Random) -> Graph {
     let size = Size {

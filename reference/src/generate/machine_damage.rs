@@ -198,8 +198,9 @@ fn another_code(random: &mut Random, table: &Table) -> Vec<Patch> {
 }
 
 /// Kinds that are always refused, once their touch words are right.
-pub const REFUSED: [Damage; 7] = [
-    state_count, register_count, wire_range, empty_past_the_end, sharing, unknown_code, bad_arrival,
+pub const REFUSED: [Damage; 8] = [
+    state_count, register_count, wire_range, empty_past_the_end, empty_past_the_end, sharing,
+    unknown_code, bad_arrival,
 ];
 
 /// One of those that are refused, for any table whose N and R are right.

@@ -1,6 +1,10 @@
-//! Cases from a seed: which texts, which damage, which buffers, which recordings, which questions.
+//! Cases from a seed: which texts, which damage, which buffers, which recordings, which questions,
+//! which bounds.
 
 pub mod arrival_damage;
+pub mod bound_cases;
+mod bound_damage;
+pub mod bound_words;
 mod capture_cases;
 mod capture_damage;
 mod captures;
@@ -26,7 +30,7 @@ pub mod word_cases;
 pub mod words;
 
 use crate::answer::buffers_of;
-use crate::case::Case;
+use crate::case::{Asked, Case};
 use crate::graph_table::{self, GRAPH_WORDS};
 use crate::machine_table::{self, MACHINE_WORDS};
 use crate::print::print;
@@ -45,21 +49,23 @@ enum Aim {
     Starts,
     Sums,
     Touches,
+    Bounds,
     Several,
 }
 
 fn aim(random: &mut Random) -> Aim {
     match random.below(1_000) {
-        0..=114 => Aim::Valid,
-        115..=264 => Aim::Text,
-        265..=275 => Aim::LongText,
-        276..=374 => Aim::GraphTable,
-        375..=504 => Aim::MachineTable,
-        505..=532 => Aim::BareMachine,
-        533..=552 => Aim::Buffers,
-        553..=599 => Aim::Starts,
-        600..=813 => Aim::Sums,
-        814..=873 => Aim::Touches,
+        0..=79 => Aim::Valid,
+        80..=209 => Aim::Text,
+        210..=220 => Aim::LongText,
+        221..=308 => Aim::GraphTable,
+        309..=421 => Aim::MachineTable,
+        422..=447 => Aim::BareMachine,
+        448..=465 => Aim::Buffers,
+        466..=507 => Aim::Starts,
+        508..=679 => Aim::Sums,
+        680..=733 => Aim::Touches,
+        734..=881 => Aim::Bounds,
         _ => Aim::Several,
     }
 }
@@ -70,6 +76,7 @@ fn text(random: &mut Random, aim: Aim) -> Vec<u8> {
         Aim::LongText => texts::long_text(random),
         Aim::Valid => print(&graphs::graph(random)).into_bytes(),
         Aim::Sums => print(&graphs::sum_graph(random)).into_bytes(),
+        Aim::Bounds => print(&graphs::bounded_graph(random)).into_bytes(),
         _ if random.percent(55) => print(&graphs::small_graph(random)).into_bytes(),
         _ => print(&graphs::graph(random)).into_bytes(),
     }
@@ -141,6 +148,13 @@ fn damage(random: &mut Random, aim: Aim, case: &mut Case) {
     if aim == Aim::Sums && made && random.percent(55) {
         case.machine_patches = arrival_damage::patches(random, &machine);
     }
+    if aim == Aim::Bounds && made {
+        let state = random.below(machine[0] as usize);
+        case.asked.state = state as u32;
+        if random.percent(50) {
+            case.machine_patches = bound_damage::patches(random, &machine, state);
+        }
+    }
     if aim == Aim::BareMachine && !made {
         case.machine_patches = machine_damage::bare_machine(random);
         if random.percent(15) {
@@ -166,7 +180,10 @@ pub fn case(seed: u64, index: u64) -> Case {
         _ => aimed(random, aim),
     };
     case.captures = captures::captures(random, &case);
-    case.asked = questions::question(random, &case);
+    let asked = questions::question(random, &case);
+    let about = aim == Aim::Bounds && random.percent(88);
+    case.asked = if about { Asked { register: asked.register, ..case.asked } } else { asked };
+    case.bounds = bound_words::drawn(random, &case, aim == Aim::Several);
     case
 }
 

@@ -2,6 +2,7 @@
 
 #![allow(dead_code)]
 
+pub mod bounds;
 pub mod flags;
 pub mod recordings;
 pub mod touch;

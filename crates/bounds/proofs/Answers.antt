@@ -2,10 +2,10 @@
 use Prim.Native.Nat.{ℕ, _≤_, _<_}
 use native.Mathlib.Omega.{arith}
 use mathlib.Core.Bool.{Bool, true, false, not, _||_}
-use mathlib.Core.List.{List, _++_}
+use mathlib.Core.List.{List}
 use mathlib.Core.Path.{_≡_, refl, _∙_}
 use lib.Dec.{ltb}
-use lib.ListN.{length, getD, take, drop}
+use lib.ListN.{length, length-map}
 use borrow.Author.Tests.{ltb-true, ltb-false, lt-ltb, le-ltb, not-false}
 use Rattle.runs.proofs.Tests.{or-false}
 use Rattle.word.specs.Word.{choose}
@@ -16,8 +16,8 @@ use Rattle.fsmd.proofs.KeptRegisters.{next-length}
 use Rattle.fsmd.proofs.Machines.{Admitted, admitted-facts}
 use Rattle.bounds.specs.declared.BoundsAnswer.{BoundsAnswer}
 use Rattle.bounds.specs.declared.BoundsAnswer.the-variants.{Refused, Bounded}
-use Rattle.bounds.specs.Bounds.{Bounds, nextBounds}
-use Rattle.bounds.specs.Operation.{ordered, boundsAnswer, boundsAfter, lowestLeft, highestLeft}
+use Rattle.bounds.specs.Bounds.{nextBounds}
+use Rattle.bounds.specs.Operation.{ordered, boundsAnswer, boundsAfter, Cycled, lowestLeft, highestLeft}
 use Rattle.bounds.specs.Values.{Long}
 
 module _ (t ls hs : List ℕ) (k : ℕ) where
@@ -128,13 +128,11 @@ module _ (t ls hs : List ℕ) (k : ℕ) where
   unfolding lowestLeft highestLeft
   refused-left n e = (rw e, rw e)
 
-  pub bounded-left : boundsAnswer t ls hs k ≡ Bounded
-      → (lowestLeft t ls hs k ≡ boundsAfter t ls hs k .lowest ++ drop maxRegisters ls) × (highestLeft t ls hs k ≡ boundsAfter t ls hs k .highest ++ drop maxRegisters hs)
+  pub bounded-left : boundsAnswer t ls hs k ≡ Bounded → Cycled t k ls hs (lowestLeft t ls hs k) (highestLeft t ls hs k)
   unfolding lowestLeft highestLeft
-  bounded-left e = (rw e, rw e)
+  bounded-left e = record { lowest = rw e; highest = rw e }
 
-  -- the bounds that the code's cycle hands back are the next ones
-  pub after-are : {j : ℕ} {ws vs : List ℕ} (f : Bounds) → j ≡ k → ws ≡ take maxRegisters ls → vs ≡ take maxRegisters hs
-      → f ≡ nextBounds (machineRegisterCount t) (stateAt t j) (record { lowest = ws; highest = vs }) → f ≡ boundsAfter t ls hs k
-  unfolding boundsAfter
-  after-are f e el eh eb = eb ∙ rw (e, el, eh)
+  -- there are R new words
+  pub after-count : Accepted → (length (boundsAfter t ls hs k .lowest) ≡ machineRegisterCount t) × (length (boundsAfter t ls hs k .highest) ≡ machineRegisterCount t)
+  unfolding boundsAfter nextBounds
+  after-count a = (length-map (stateAt t k .nextRegisters) _ ∙ next-count a, length-map (stateAt t k .nextRegisters) _ ∙ next-count a)

@@ -17,6 +17,7 @@ use Rattle.bounds.specs.declared.Range.{Range}
 use Rattle.bounds.specs.Range.{exact, rangeOf}
 use Rattle.bounds.proofs.RuleLaws.{range-literal}
 use Rattle.bounds.specs.Bounds.{Bounds, rangeAt, firstBounds, withRange, wireRange, bounded, nextBounds}
+use Rattle.bounds.specs.Operation.{boundsAfter, Cycled}
 
 -- a reference past the first n reads 0
 pub read-past : (l : List ℕ) (n x : ℕ) → n ≤ length l → n ≤ x → getD (take n l) x 0 ≡ 0
@@ -61,11 +62,11 @@ bound-done t first count n e h = rw (wires-end t first count n h)
 
 -- ---- the cycle of state k, from what its references read
 
-pub bounds-are : (t : List ℕ) (k : ℕ) {first count at r : ℕ} → first ≡ firstWireAt t k → count ≡ wireCountAt t k → at ≡ recordOffset k → r ≡ machineRegisterCount t
-    → (e f : Bounds) {low high : List ℕ}
-    → f ≡ bounded e (wiresFrom t first count)
-    → low ≡ map (λ x. getD (f .lowest) x 0) (take r (drop (at + nextRegistersOffset) t)) ++ drop r (e .lowest)
-    → high ≡ map (λ x. getD (f .highest) x 0) (take r (drop (at + nextRegistersOffset) t)) ++ drop r (e .highest)
-    → _≡_ {A = Bounds} (record { lowest = low; highest = high }) (nextBounds (machineRegisterCount t) (stateAt t k) e)
-unfolding nextBounds stateAt
-bounds-are t k ef ec ea er e f eb el eh = rw (el, eh, eb, ef, ec, ea, er)
+pub cycled : (t : List ℕ) (k : ℕ) {first count at r : ℕ} → first ≡ firstWireAt t k → count ≡ wireCountAt t k → at ≡ recordOffset k → r ≡ machineRegisterCount t
+    → (ls hs : List ℕ) (f : Bounds) {low high : List ℕ}
+    → f ≡ bounded (firstBounds maxRegisters ls hs) (wiresFrom t first count)
+    → low ≡ map (λ x. getD (f .lowest) x 0) (take r (drop (at + nextRegistersOffset) t)) ++ drop r ls
+    → high ≡ map (λ x. getD (f .highest) x 0) (take r (drop (at + nextRegistersOffset) t)) ++ drop r hs
+    → Cycled t k ls hs low high
+unfolding boundsAfter nextBounds stateAt
+cycled t k ef ec ea er ls hs f eb el eh = record { lowest = rw (el, eb, ef, ec, ea, er); highest = rw (eh, eb, ef, ec, ea, er) }

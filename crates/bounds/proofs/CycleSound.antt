@@ -124,7 +124,7 @@ known-registers r rs e few a b c f =
 
 -- every cycle of a valid state from registers within bounds ends within its bounds
 pub cycle-holds : (m : FSMD) (q : State) (s : ℕ) (rs : List ℕ) (e : Bounds) → s < 2 ^ 32 → Known (m .registers) 0 rs e → Literals (q .wires) → validState (m .registers) q ≡ true
-    → (i : ℕ) → i < length (q .nextRegisters) → Within (rangeAt (nextBounds (m .registers) q e) i) (getD (clock m s q rs .registers) i 0)
+    → (i : ℕ) → i < length (q .nextRegisters) → Within (rangeAt (nextBounds q e) i) (getD (clock m s q rs .registers) i 0)
 unfolding validState clock nextBounds
 cycle-holds m q s rs e hs known l valid i h =
     let r = m .registers in
@@ -134,10 +134,11 @@ cycle-holds m q s rs e hs known l valid i h =
     let regs = every (validReference r n) (q .nextRegisters) in
     let all = known-all s hs (q .wires) r 0 rs e (and-left ws nx (and-left (ws && nx) regs valid)) l known in
     let v : validReference r (0 + n) (getD (q .nextRegisters) i 0) ≡ true = rw zero-add (every-at (validReference r n) (q .nextRegisters) (and-right (ws && nx) regs valid) i 0 h) in
-    rw (next (bounded e (q .wires) .lowest) (drop r (e .lowest)), next (bounded e (q .wires) .highest) (drop r (e .highest)), next (worked s rs (q .wires)) (drop r rs))
+    rw (next (bounded e (q .wires) .lowest), next (bounded e (q .wires) .highest), next-register (worked s rs (q .wires)) (drop r rs))
     (all .inside (getD (q .nextRegisters) i 0) v)
   where
-    next : (env rest : List ℕ) → getD (map (λ x. getD env x 0) (q .nextRegisters) ++ rest) i 0 ≡ getD env (getD (q .nextRegisters) i 0) 0
-    next env rest =
-        let f : ℕ → ℕ = λ x. getD env x 0 in
-        List·getD-append (map f (q .nextRegisters)) rest 0 i (rw length-map h) ∙ getD-map f (q .nextRegisters) i 0 0 h
+    next : (env : List ℕ) → getD (map (λ x. getD env x 0) (q .nextRegisters)) i 0 ≡ getD env (getD (q .nextRegisters) i 0) 0
+    next env = getD-map (λ x. getD env x 0) (q .nextRegisters) i 0 0 h
+
+    next-register : (env rest : List ℕ) → getD (map (λ x. getD env x 0) (q .nextRegisters) ++ rest) i 0 ≡ getD env (getD (q .nextRegisters) i 0) 0
+    next-register env rest = List·getD-append (map (λ x. getD env x 0) (q .nextRegisters)) rest 0 i (rw length-map h) ∙ next env

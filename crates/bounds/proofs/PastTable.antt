@@ -73,12 +73,12 @@ module _ (t u ls v hs w : List ℕ) (long : Long t ls hs) (k : ℕ) where
   past-after : admittedMachine t ≡ true → k < stateCount t → boundsAfter (t ++ u) (ls ++ v) (hs ++ w) k ≡ boundsAfter t ls hs k
   unfolding boundsAfter
   past-after good h =
-      ap₂ (λ (n : ℕ) (q : State). nextBounds n q (record { lowest = take maxRegisters (ls ++ v); highest = take maxRegisters (hs ++ w) })) (past-register-count t u (long .table)) (past-state t u (long .table) good k h)
+      ap (λ (q : State). nextBounds q (record { lowest = take maxRegisters (ls ++ v); highest = take maxRegisters (hs ++ w) })) (past-state t u (long .table) good k h)
       ∙ rw (take-append-le maxRegisters ls v (long .lowest), take-append-le maxRegisters hs w (long .highest))
 
   -- new words, then the rest of a longer buffer
-  rest : (new l x : List ℕ) → maxRegisters ≤ length l → new ++ drop maxRegisters (l ++ x) ≡ (new ++ drop maxRegisters l) ++ x
-  rest new l x h = ap (λ (r : List ℕ). new ++ r) (drop-append-le maxRegisters l x h) ∙ sym (append-assoc new (drop maxRegisters l) x)
+  rest : (n : ℕ) (new l x : List ℕ) → n ≤ length l → new ++ drop n (l ++ x) ≡ (new ++ drop n l) ++ x
+  rest n new l x h = ap (λ (r : List ℕ). new ++ r) (drop-append-le n l x h) ∙ sym (append-assoc new (drop n l) x)
 
   pub past-left : (lowestLeft (t ++ u) (ls ++ v) (hs ++ w) k ≡ lowestLeft t ls hs k ++ v) × (highestLeft (t ++ u) (ls ++ v) (hs ++ w) k ≡ highestLeft t ls hs k ++ w)
   past-left = go (boundsAnswer t ls hs k) refl
@@ -91,10 +91,13 @@ module _ (t u ls v hs w : List ℕ) (long : Long t ls hs) (k : ℕ) where
           (p .0 ∙ sym (ap (λ (l : List ℕ). l ++ v) (q .0)), p .1 ∙ sym (ap (λ (l : List ℕ). l ++ w) (q .1)))
       go Bounded e =
           let a = accepted t ls hs k e in
+          let few = a .table .few-registers in
+          let r = machineRegisterCount t in
           let s = past-after (a .good) (a .state) in
+          let c = past-register-count t u (long .table) in
           let p = bounded-left (t ++ u) (ls ++ v) (hs ++ w) k (past-bounds ∙ e) in
           let q = bounded-left t ls hs k e in
           let f = boundsAfter t ls hs k in (
-            p .0 ∙ ap (λ (b : Bounds). b .lowest ++ drop maxRegisters (ls ++ v)) s ∙ rest (f .lowest) ls v (long .lowest) ∙ sym (ap (λ (l : List ℕ). l ++ v) (q .0)),
-            p .1 ∙ ap (λ (b : Bounds). b .highest ++ drop maxRegisters (hs ++ w)) s ∙ rest (f .highest) hs w (long .highest) ∙ sym (ap (λ (l : List ℕ). l ++ w) (q .1)),
+            p .lowest ∙ ap₂ (λ (b : Bounds) (n : ℕ). b .lowest ++ drop n (ls ++ v)) s c ∙ rest r (f .lowest) ls v (omega (arith, few, long .lowest)) ∙ sym (ap (λ (l : List ℕ). l ++ v) (q .lowest)),
+            p .highest ∙ ap₂ (λ (b : Bounds) (n : ℕ). b .highest ++ drop n (hs ++ w)) s c ∙ rest r (f .highest) hs w (omega (arith, few, long .highest)) ∙ sym (ap (λ (l : List ℕ). l ++ w) (q .highest)),
           )

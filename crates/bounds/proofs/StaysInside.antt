@@ -3,7 +3,7 @@ use Prim.Native.Nat.{ℕ, _+_, _^_, _≤_, _<_}
 use native.Mathlib.Omega.{arith}
 use mathlib.Core.List.{List, [], _∷_, _++_, map}
 use mathlib.Core.Path.{_≡_, sym, ap, _∙_}
-use lib.ListN.{length, getD, take, drop, length-append, length-map, List·getD-append}
+use lib.ListN.{length, getD, take, drop, List·getD-append}
 use lib.Seq.{getD-take, length-take-le}
 use borrow.Author.Tests.{leb-true, le-leb}
 use Rattle.runs.specs.Lists.{upFrom}
@@ -14,10 +14,10 @@ use Rattle.fsmd.specs.Table.{machineRegisterCount, wireAt, stateAt, machineOf, 
 use Rattle.fsmd.proofs.Machines.{state-is}
 use Rattle.bounds.specs.declared.Range.{Range}
 use Rattle.bounds.specs.declared.BoundsAnswer.the-variants.{Bounded}
-use Rattle.bounds.specs.Bounds.{rangeAt, firstBounds, nextBounds}
+use Rattle.bounds.specs.Bounds.{rangeAt, firstBounds}
 use Rattle.bounds.specs.Operation.{boundsAnswer, boundsAfter, lowestLeft, highestLeft}
 use Rattle.bounds.specs.Sound.{Between, Inside, RegisterWords, CyclesStayInside}
-use Rattle.bounds.proofs.Answers.{Accepted, accepted, next-count, bounded-left}
+use Rattle.bounds.proofs.Answers.{Accepted, accepted, next-count, bounded-left, after-count}
 use Rattle.bounds.proofs.CycleSound.{Literals, known-registers, cycle-holds}
 use Rattle.bounds.proofs.RangeSound.{Within}
 
@@ -78,19 +78,14 @@ module _ (t ls hs : List ℕ) (k : ℕ) (words : AllWords t) (low-words : AllWor
         state-literals (a .table .valid k (a .state)) i (rw (next-count t ls hs k facts) h)
 
   -- what is left at a register below R is the next bound
-  left-at : (l m : List ℕ) (i : ℕ) → machineRegisterCount t ≤ length m → i < machineRegisterCount t → getD (m ++ drop maxRegisters l) i 0 ≡ getD m i 0
-  left-at l m i n h = List·getD-append m (drop maxRegisters l) 0 i (omega arith)
-
-  after-long : (machineRegisterCount t ≤ length (boundsAfter t ls hs k .lowest)) × (machineRegisterCount t ≤ length (boundsAfter t ls hs k .highest))
-  unfolding boundsAfter nextBounds
-  after-long =
-      let n = next-count t ls hs k facts in
-      (simp (length-append, length-map) (omega arith), simp (length-append, length-map) (omega arith))
+  left-at : (l new rest : List ℕ) (i : ℕ) → l ≡ new ++ rest → length new ≡ machineRegisterCount t → i < machineRegisterCount t → getD l i 0 ≡ getD new i 0
+  left-at l new rest i e n h = ap (λ (l : List ℕ). getD l i 0) e ∙ List·getD-append new rest 0 i (omega arith)
 
   pub stays-inside : CyclesStayInside t k ls hs (lowestLeft t ls hs k) (highestLeft t ls hs k)
   stays-inside sampled hs′ rs file start i h =
       let b = bounded-left t ls hs k answer in
       let f = boundsAfter t ls hs k in
-      moved (ap (λ (l : List ℕ). getD l i 0) (b .0) ∙ left-at ls (f .lowest) i (after-long .0) h) (ap (λ (l : List ℕ). getD l i 0) (b .1) ∙ left-at hs (f .highest) i (after-long .1) h)
+      let n = after-count t ls hs k facts in
+      moved (left-at (lowestLeft t ls hs k) (f .lowest) (drop (machineRegisterCount t) ls) i (b .lowest) (n .0) h) (left-at (highestLeft t ls hs k) (f .highest) (drop (machineRegisterCount t) hs) i (b .highest) (n .1) h)
       (ap (λ (q : State). getD (clock (machineOf t) sampled q rs .registers) i 0) (state-is t k (facts .state)))
       (between (rangeAt f i) (getD (clock (machineOf t) sampled (stateAt t k) rs .registers) i 0) (next-within sampled hs′ rs file start i h))

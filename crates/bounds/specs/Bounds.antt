@@ -2,7 +2,7 @@
 use Prim.Native.Nat.{ℕ}
 use mathlib.Core.List.{List, [], _∷_, _++_, map}
 use lib.Dec.{eqb}
-use lib.ListN.{getD, take, drop}
+use lib.ListN.{getD, take}
 use Rattle.word.specs.Word.{choose, setCode}
 use Rattle.fsmd.specs.declared.Wire.{Wire}
 use Rattle.fsmd.specs.Machine.{State}
@@ -35,13 +35,13 @@ unfolding wireRange
 bounded e [] = e
 bounded e (w ∷ ws) = bounded (withRange e (wireRange (rangeAt e) w)) ws
 
--- the next registers below R from their references; registers from R up keep their words
-abbrev pub nextWords : ℕ → State → List ℕ → List ℕ → List ℕ
-nextWords r q env rs = map (λ x. getD env x 0) (q .nextRegisters) ++ drop r rs
+-- what each next register reads
+abbrev pub nextWords : State → List ℕ → List ℕ
+nextWords q env = map (λ x. getD env x 0) (q .nextRegisters)
 
--- the bounds after a cycle of a state
-unfoldable pub nextBounds : ℕ → State → Bounds → Bounds
+-- the bounds after a cycle of a state, of the registers below R
+unfoldable pub nextBounds : State → Bounds → Bounds
 unfolding bounded
-nextBounds r q e =
+nextBounds q e =
     let f = bounded e (q .wires) in
-    record { lowest = nextWords r q (f .lowest) (e .lowest); highest = nextWords r q (f .highest) (e .highest) }
+    record { lowest = nextWords q (f .lowest); highest = nextWords q (f .highest) }

@@ -2,6 +2,7 @@
 use Prim.Native.Nat.{ℕ}
 use mathlib.Core.Bool.{Bool, not, _||_}
 use mathlib.Core.List.{List, _++_}
+use mathlib.Core.Path.{_≡_}
 use lib.Dec.{ltb}
 use lib.ListN.{length, getD, drop}
 use Rattle.word.specs.Word.{choose, compareOf}
@@ -29,20 +30,25 @@ boundsAnswer t ls hs k =
 -- the bounds after a cycle of state k
 unfoldable pub boundsAfter : List ℕ → List ℕ → List ℕ → ℕ → Bounds
 unfolding stateAt nextBounds
-boundsAfter t ls hs k = nextBounds (machineRegisterCount t) (stateAt t k) (firstBounds maxRegisters ls hs)
+boundsAfter t ls hs k = nextBounds (stateAt t k) (firstBounds maxRegisters ls hs)
 
--- a refusal leaves a buffer; else its first sixteen words are the new ones
-abbrev pub left : BoundsAnswer → List ℕ → List ℕ → List ℕ
-left (Refused n) new old = old
-left Bounded new old = new ++ drop maxRegisters old
+-- where they replace those before it: the words from R up stay
+pub record Cycled (t : List ℕ) (k : ℕ) (ls hs ls′ hs′ : List ℕ) : Type 0 where
+  pub lowest : ls′ ≡ boundsAfter t ls hs k .lowest ++ drop (machineRegisterCount t) ls
+  pub highest : hs′ ≡ boundsAfter t ls hs k .highest ++ drop (machineRegisterCount t) hs
+
+-- a refusal leaves a buffer; else its first r words are new, and those from r up stay
+abbrev pub left : BoundsAnswer → ℕ → List ℕ → List ℕ → List ℕ
+left (Refused n) r new old = old
+left Bounded r new old = new ++ drop r old
 
 unfoldable pub lowestLeft : List ℕ → List ℕ → List ℕ → ℕ → List ℕ
 unfolding boundsAnswer boundsAfter
-lowestLeft t ls hs k = left (boundsAnswer t ls hs k) (boundsAfter t ls hs k .lowest) ls
+lowestLeft t ls hs k = left (boundsAnswer t ls hs k) (machineRegisterCount t) (boundsAfter t ls hs k .lowest) ls
 
 unfoldable pub highestLeft : List ℕ → List ℕ → List ℕ → ℕ → List ℕ
 unfolding boundsAnswer boundsAfter
-highestLeft t ls hs k = left (boundsAnswer t ls hs k) (boundsAfter t ls hs k .highest) hs
+highestLeft t ls hs k = left (boundsAnswer t ls hs k) (machineRegisterCount t) (boundsAfter t ls hs k .highest) hs
 
 -- the number of an answer: that of the refusal, or 0
 abbrev pub boundsNumber : BoundsAnswer → ℕ

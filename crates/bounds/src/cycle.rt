@@ -1,47 +1,53 @@
 // One cycle over ranges: the state's wires in order, then all next registers at once. Lowest and highest words stand in two arrays.
 ghost use mathlib.Core.Path.{_≡_};
-ghost use mathlib.Core.List.{map};
+ghost use mathlib.Core.List.{map, _++_};
 ghost use Prim.Native.Nat.{_+_, _≤_};
-ghost use lib.ListN.{length};
+ghost use lib.ListN.{length, getD, take, drop};
 ghost use Rattle.runs.specs.Lists.{upFrom};
-ghost use Rattle.fsmd.specs.Layout.{machineWords, maxRegisters, maxWires, roomWords};
-ghost use Rattle.fsmd.specs.Table.{machineRegisterCount, wireAt, stateAt};
+ghost use Rattle.fsmd.specs.Layout.{machineWords, maxRegisters, maxWires};
+ghost use Rattle.fsmd.specs.Table.{wireAt, wireCountAt};
 ghost use Rattle.fsmd.specs.Clock.{Ready};
-ghost use Rattle.bounds.specs.Range.{exact as exactOf};
-ghost use Rattle.bounds.specs.Bounds.{rangeAt, firstBounds, wireRange, bounded, nextBounds};
+ghost use Rattle.bounds.specs.Bounds.{rangeAt, firstBounds, wireRange, bounded};
+ghost use Rattle.bounds.specs.Operation.{Cycled};
 use super::Range;
 use super::rules::exact;
 use super::rules::range_of;
 use buffers::word_index;
 use fsmd::MachineTable;
 use fsmd::Wire;
-use fsmd::clock::taken;
 use fsmd::table::first_wire;
 use fsmd::table::record;
 use fsmd::table::wire;
 use fsmd::table::wire_count;
 use word::Code;
-use word::Registers;
 
-// The registers' lowest and highest words.
-pub struct Limits {
-    pub lowest: Registers,
-    pub highest: Registers,
+// How many words there is room for in one array: those of few wires, and those of all.
+struct Room;
+
+impl Room {
+    const FEW: usize = 256;
+
+    const ALL: usize = MachineTable::REGISTERS + MachineTable::WIRES;
 }
 
-// The range of reference x among the first n; past them 0, which an admitted machine never reads.
+// What reference x reads among the first n words; past them 0, which an admitted machine never reads.
+fn read(words: &[u32], n: usize, x: u32) -> u32
+    requires { ⌜ n ≤ length (now words) ⌝ }
+    ensures { λ v. ⌜ v ≡ getD (take n (now (words .entry))) x 0 ⌝ }
+{
+    let i = word_index(x);
+    if i < n { words[i] } else { 0 }
+}
+
+// The range of reference x among the first n.
 fn range_at(lows: &[u32], highs: &[u32], n: usize, x: u32) -> Range
     requires { ⌜ n ≤ length (now lows) ⌝ }
     requires { ⌜ n ≤ length (now highs) ⌝ }
     ensures { λ r. ⌜ r ≡ rangeAt (firstBounds n (now (lows .entry)) (now (highs .entry))) x ⌝ }
 {
-    let i = word_index(x);
-    if n <= i {
-        return exact(0);
-    }
     Range {
-        low: lows[i],
-        high: highs[i],
+        low: read(lows, n, x),
+        high: read(highs, n, x),
     }
 }
 
@@ -64,8 +70,8 @@ fn wire_range(lows: &[u32], highs: &[u32], n: usize, w: Wire) -> Range
 fn work(lows: &mut [u32], highs: &mut [u32], table: &[u32], first: usize, count: usize)
     requires { ⌜ machineWords ≤ length (now table) ⌝ }
     requires { ⌜ first + count ≤ maxWires ⌝ }
-    requires { ⌜ length (now lows) ≡ roomWords ⌝ }
-    requires { ⌜ length (now highs) ≡ roomWords ⌝ }
+    requires { ⌜ maxRegisters + count ≤ length (now lows) ⌝ }
+    requires { ⌜ maxRegisters + count ≤ length (now highs) ⌝ }
     ensures { λ _. ⌜ firstBounds (maxRegisters + count) (now (lows .exit)) (now (highs .exit)) ≡ bounded (firstBounds maxRegisters (now (lows .entry)) (now (highs .entry))) (map (wireAt (now (table .entry))) (upFrom first count)) ⌝ }
 {
     let mut n = 0;
@@ -78,24 +84,62 @@ fn work(lows: &mut [u32], highs: &mut [u32], table: &[u32], first: usize, count:
     }
 }
 
-// One cycle of state k.
-pub fn bound_cycle(table: &[u32], k: usize, lowest: Registers, highest: Registers) -> Limits
-    requires { ⌜ Ready (now table) k ⌝ }
-    ensures { λ r. ⌜ record { lowest = r .lowest .words; highest = r .highest .words } ≡ nextBounds (machineRegisterCount (now (table .entry))) (stateAt (now (table .entry)) k) (record { lowest = lowest .words; highest = highest .words }) ⌝ }
+// What the next registers read among the first n words, by the `count` references from `at` on, into the front of `out`.
+fn put_next(out: &mut [u32], words: &[u32], n: usize, table: &[u32], at: usize, count: usize)
+    requires { ⌜ n ≤ length (now words) ⌝ }
+    requires { ⌜ at + count ≤ length (now table) ⌝ }
+    requires { ⌜ count ≤ length (now out) ⌝ }
+    ensures { λ _. ⌜ now (out .exit) ≡ map (λ x. getD (take n (now (words .entry))) x 0) (take count (drop at (now (table .entry)))) ++ drop count (now (out .entry)) ⌝ }
 {
-    let at = record(k);
-    let count = wire_count(table, k);
-    let registers = word_index(table[MachineTable::REGISTER_COUNT]);
-    let mut lows = [0u32; MachineTable::REFERENCES];
-    let mut highs = [0u32; MachineTable::REFERENCES];
-    runs::store(&mut lows, lowest);
-    runs::store(&mut highs, highest);
-    work(&mut lows, &mut highs, table, first_wire(table, k), count);
-    let next = at + MachineTable::NEXT_REGISTERS;
-    let below = taken(&lows, table, next, registers, lowest);
-    let above = taken(&highs, table, next, registers, highest);
-    Limits {
-        lowest: below,
-        highest: above,
+    let mut i = 0;
+    while i < count {
+        out[i] = read(words, n, table[at + i]);
+        i += 1;
     }
+}
+
+// One cycle of state k, in room for its registers and wires.
+fn bound_in(
+    lows: &mut [u32],
+    highs: &mut [u32],
+    table: &[u32],
+    k: usize,
+    lowest: &mut [u32],
+    highest: &mut [u32],
+)
+    requires { ⌜ Ready (now table) k ⌝ }
+    requires { ⌜ maxRegisters + wireCountAt (now table) k ≤ length (now lows) ⌝ }
+    requires { ⌜ maxRegisters + wireCountAt (now table) k ≤ length (now highs) ⌝ }
+    requires { ⌜ maxRegisters ≤ length (now lowest) ⌝ }
+    requires { ⌜ maxRegisters ≤ length (now highest) ⌝ }
+    ensures { λ _. ⌜ Cycled (now (table .entry)) k (now (lowest .entry)) (now (highest .entry)) (now (lowest .exit)) (now (highest .exit)) ⌝ }
+{
+    let registers = word_index(table[MachineTable::REGISTER_COUNT]);
+    let next = record(k) + MachineTable::NEXT_REGISTERS;
+    let count = wire_count(table, k);
+    let n = MachineTable::REGISTERS + count;
+    runs::store(lows, runs::load(lowest));
+    runs::store(highs, runs::load(highest));
+    work(lows, highs, table, first_wire(table, k), count);
+    put_next(lowest, lows, n, table, next, registers);
+    put_next(highest, highs, n, table, next, registers);
+}
+
+// One cycle of state k: the lowest and highest next words of the registers below R, in place of those before it. Most states have few wires,
+// and a small room is soon cleared.
+pub fn bound_cycle(table: &[u32], k: usize, lowest: &mut [u32], highest: &mut [u32])
+    requires { ⌜ Ready (now table) k ⌝ }
+    requires { ⌜ maxRegisters ≤ length (now lowest) ⌝ }
+    requires { ⌜ maxRegisters ≤ length (now highest) ⌝ }
+    ensures { λ _. ⌜ Cycled (now (table .entry)) k (now (lowest .entry)) (now (highest .entry)) (now (lowest .exit)) (now (highest .exit)) ⌝ }
+{
+    if MachineTable::REGISTERS + wire_count(table, k) <= Room::FEW {
+        let mut lows = [0u32; Room::FEW];
+        let mut highs = [0u32; Room::FEW];
+        bound_in(&mut lows, &mut highs, table, k, lowest, highest);
+        return;
+    }
+    let mut lows = [0u32; Room::ALL];
+    let mut highs = [0u32; Room::ALL];
+    bound_in(&mut lows, &mut highs, table, k, lowest, highest);
 }

@@ -66,15 +66,6 @@ pub fn bounds(
     let BoundsAnswer::Bounded = result else {
         return result;
     };
-    let next = bound_cycle(
-        table,
-        word_index(state),
-        runs::load(lowest),
-        runs::load(highest),
-    );
-    let low = next.lowest;
-    let high = next.highest;
-    runs::store(lowest, low);
-    runs::store(highest, high);
+    bound_cycle(table, word_index(state), lowest, highest);
     result
 }

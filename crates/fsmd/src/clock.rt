@@ -109,7 +109,7 @@ fn work(words: &mut [u32], table: &[u32], first: usize, count: usize, sampled: u
 }
 
 // The next registers, by the references from `at` on: the first `count` are taken, the others keep their words.
-pub fn taken(words: &[u32], table: &[u32], at: usize, count: usize, registers: Registers) -> Registers
+fn taken(words: &[u32], table: &[u32], at: usize, count: usize, registers: Registers) -> Registers
     requires { ⌜ length (now words) ≡ roomWords ⌝ }
     requires { ⌜ at + count ≤ length (now table) ⌝ }
     requires { ⌜ count ≤ maxRegisters ⌝ }

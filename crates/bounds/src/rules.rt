@@ -186,10 +186,14 @@ fn all_single(n: u32, a: Range, b: Range, c: Range) -> bool
     (1 <= n) & is_single(a) & ((n < 2) | is_single(b)) & ((n < 3) | is_single(c))
 }
 
-// What a code can give: the exact word where all its inputs are single, else what its rule says.
+// What a code can give: the exact word where all its inputs are single, else what its rule says. That of code 19 gives the exact word too,
+// and most wires are of that code.
 pub fn range_of(code: u32, a: Range, b: Range, c: Range) -> Range
     ensures { λ r. ⌜ r ≡ rangeOf code a b c ⌝ }
 {
+    if code == Code::SELECT {
+        return select(a, b, c);
+    }
     if all_single(word::arity(code), a, b, c) {
         return exact(word::eval(0, code, a.low, b.low, c.low));
     }

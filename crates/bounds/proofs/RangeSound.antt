@@ -40,6 +40,11 @@ single-is r x w e =
     let s = eqb-true (r .low) (r .high) e in
     omega arith
 
+-- of two ranges, the one that a test chooses
+chosen : (t : Bool) {r s : Range} (x : ℕ) → (t ≡ true → Within r x) → (t ≡ false → Within s x) → Within (choose t r s) x
+chosen true x f g = f refl
+chosen false x f g = g refl
+
 -- ---- signed tests, read as levels
 
 module _ (x y : ℕ) (h : x < 2 ^ 32) (k : y < 2 ^ 32) where
@@ -69,32 +74,28 @@ module _ (x y : ℕ) (h : x < 2 ^ 32) (k : y < 2 ^ 32) where
 
 module _ (A B : Range) (a b : ℕ) (p : Within A a) (q : Within B b) where
   sum-holds : addOf a b < 2 ^ 32 → Within (sumRange A B) (addOf a b)
-  sum-holds h = go (overOf addCode (A .low) (B .low) || overOf addCode (A .high) (B .high)) refl
-    where
-      go : (t : Bool) → (overOf addCode (A .low) (B .low) || overOf addCode (A .high) (B .high)) ≡ t → Within (choose t full (span (addOf (A .low) (B .low)) (addOf (A .high) (B .high)))) (addOf a b)
-      go true e = full-holds (addOf a b) h
-      go false e =
-          let f = or-false (overOf addCode (A .low) (B .low)) (overOf addCode (A .high) (B .high)) e in
-          let s = add-stays (A .low) (B .low) (p .low-word) (q .low-word) (f .0) in
-          let t = add-stays (A .high) (B .high) (p .high-word) (q .high-word) (f .1) in
-          let l = add-level (A .low) (B .low) s in
-          let u = add-level (A .high) (B .high) t in
-          let m = add-level a b (record { least = omega arith; most = omega arith }) in
-          record { low-word = omega arith; high-word = omega arith; word = h; above = omega arith; under = omega arith }
+  sum-holds h =
+      chosen _ (addOf a b) (λ e. full-holds (addOf a b) h)
+      (λ e.
+      let f = or-false _ _ e in
+      let s = add-stays (A .low) (B .low) (p .low-word) (q .low-word) (f .0) in
+      let t = add-stays (A .high) (B .high) (p .high-word) (q .high-word) (f .1) in
+      let l = add-level (A .low) (B .low) s in
+      let u = add-level (A .high) (B .high) t in
+      let m = add-level a b (record { least = omega arith; most = omega arith }) in
+      record { low-word = omega arith; high-word = omega arith; word = h; above = omega arith; under = omega arith })
 
   difference-holds : subOf a b < 2 ^ 32 → Within (differenceRange A B) (subOf a b)
-  difference-holds h = go (overOf subCode (A .low) (B .high) || overOf subCode (A .high) (B .low)) refl
-    where
-      go : (t : Bool) → (overOf subCode (A .low) (B .high) || overOf subCode (A .high) (B .low)) ≡ t → Within (choose t full (span (subOf (A .low) (B .high)) (subOf (A .high) (B .low)))) (subOf a b)
-      go true e = full-holds (subOf a b) h
-      go false e =
-          let f = or-false (overOf subCode (A .low) (B .high)) (overOf subCode (A .high) (B .low)) e in
-          let s = sub-stays (A .low) (B .high) (p .low-word) (q .high-word) (f .0) in
-          let t = sub-stays (A .high) (B .low) (p .high-word) (q .low-word) (f .1) in
-          let l = sub-level (A .low) (B .high) (q .high-word) s in
-          let u = sub-level (A .high) (B .low) (q .low-word) t in
-          let m = sub-level a b (q .word) (record { least = omega arith; most = omega arith }) in
-          record { low-word = omega arith; high-word = omega arith; word = h; above = omega arith; under = omega arith }
+  difference-holds h =
+      chosen _ (subOf a b) (λ e. full-holds (subOf a b) h)
+      (λ e.
+      let f = or-false _ _ e in
+      let s = sub-stays (A .low) (B .high) (p .low-word) (q .high-word) (f .0) in
+      let t = sub-stays (A .high) (B .low) (p .high-word) (q .low-word) (f .1) in
+      let l = sub-level (A .low) (B .high) (q .high-word) s in
+      let u = sub-level (A .high) (B .low) (q .low-word) t in
+      let m = sub-level a b (q .word) (record { least = omega arith; most = omega arith }) in
+      record { low-word = omega arith; high-word = omega arith; word = h; above = omega arith; under = omega arith })
 
   all-below : allBelow A B ≡ true → level a < level b
   all-below e = let l = lt-yes (A .high) (B .low) (p .high-word) (q .low-word) e in omega arith
@@ -131,15 +132,14 @@ module _ (A B : Range) (a b : ℕ) (p : Within A a) (q : Within B b) where
   ge-none e = ge-level a b (p .word) (q .word) ∙ lt-leb (level b) (level a) (all-below A B a b p q e)
 
 sx-holds : (A : Range) (a : ℕ) → Within A a → sxOf a < 2 ^ 32 → Within (sxRange A) (sxOf a)
-sx-holds A a p h = go (compareOf Lt (A .low) (sixteenBits .low) || compareOf Lt (sixteenBits .high) (A .high)) refl (sx-level a (p .word))
-  where
-    go : (t : Bool) → (compareOf Lt (A .low) (sixteenBits .low) || compareOf Lt (sixteenBits .high) (A .high)) ≡ t → SixteenBits a → Within (choose t sixteenBits A) (sxOf a)
-    go true e s = record { low-word = lit< tt; high-word = lit< tt; word = h; above = omega arith; under = omega arith }
-    go false e s =
-        let f = or-false (compareOf Lt (A .low) (sixteenBits .low)) (compareOf Lt (sixteenBits .high) (A .high)) e in
-        let l = lt-no (A .low) (sixteenBits .low) (p .low-word) (lit< tt) (f .0) in
-        let u = lt-no (sixteenBits .high) (A .high) (lit< tt) (p .high-word) (f .1) in
-        rw (s .same (omega arith) (omega arith)) p
+sx-holds A a p h =
+    let s = sx-level a (p .word) in
+    chosen _ (sxOf a) (λ e. record { low-word = lit< tt; high-word = lit< tt; word = h; above = omega (arith, s .least); under = omega (arith, s .most) })
+    (λ e.
+    let f = or-false _ _ e in
+    let l = lt-no (A .low) (sixteenBits .low) (p .low-word) (lit< tt) (f .0) in
+    let u = lt-no (sixteenBits .high) (A .high) (lit< tt) (p .high-word) (f .1) in
+    rw (s .same (omega arith) (omega arith)) p)
 
 -- a comparison's value, where its verdict is right
 verdict-holds : (all none t : Bool) → (all ≡ true → t ≡ true) → (none ≡ true → t ≡ false) → Within (verdict all none) (truth t)
@@ -162,29 +162,33 @@ verdict-holds all none t f g = bit (truth all) (truth t) (truth (not none)) (low
     small true = omega arith
     small false = omega arith
 
-select-holds : (A B C : Range) (a b c : ℕ) → Within A a → Within B b → Within C c → Within (selectRange A B C) (choose (eqb a 0) c b)
-select-holds A B C a b c p q r = go (hasZero A) refl
+-- a condition whose range has no 0 is not 0
+not-zero : (A : Range) (a : ℕ) → Within A a → hasZero A ≡ false → eqb a 0 ≡ false
+not-zero A a p e = ne-eqb a 0 (λ s. go s (and-false (compareOf Ge 0 (A .low)) (compareOf Ge (A .high) 0) e))
   where
-    arm : (t : Bool) → Within (hull B C) (choose t c b)
-    arm true = hull-holds B C b c q r .1
-    arm false = hull-holds B C b c q r .0
+    go : a ≡ 0 → (compareOf Ge 0 (A .low) ≡ false) ⊎ (compareOf Ge (A .high) 0 ≡ false) → ⊥
+    go s (inl f) = let l = ge-no 0 (A .low) (lit< tt) (p .low-word) f in omega arith
+    go s (inr f) = let l = ge-no (A .high) 0 (p .high-word) (lit< tt) f in omega arith
 
-    zero-or : (t : Bool) → hasZero A ≡ true → isSingle A ≡ t → Within (choose t C (hull B C)) (choose (eqb a 0) c b)
-    zero-or true e f =
-        let g = ge-yes 0 (A .low) (lit< tt) (p .low-word) (and-left (compareOf Ge 0 (A .low)) (compareOf Ge (A .high) 0) e) in
-        let k = ge-yes (A .high) 0 (p .high-word) (lit< tt) (and-right (compareOf Ge 0 (A .low)) (compareOf Ge (A .high) 0) e) in
-        let s = eqb-true (A .low) (A .high) f in
-        rw (eq-eqb a 0 (omega arith)) r
-    zero-or false e f = arm (eqb a 0)
+-- one that is only 0 is 0
+only-zero : (A : Range) (a : ℕ) → Within A a → hasZero A ≡ true → isSingle A ≡ true → eqb a 0 ≡ true
+only-zero A a p e f =
+    let g = ge-yes 0 (A .low) (lit< tt) (p .low-word) (and-left (compareOf Ge 0 (A .low)) (compareOf Ge (A .high) 0) e) in
+    let k = ge-yes (A .high) 0 (p .high-word) (lit< tt) (and-right (compareOf Ge 0 (A .low)) (compareOf Ge (A .high) 0) e) in
+    let s = eqb-true (A .low) (A .high) f in
+    eq-eqb a 0 (omega arith)
 
-    not-zero : (compareOf Ge 0 (A .low) ≡ false) ⊎ (compareOf Ge (A .high) 0 ≡ false) → a ≡ 0 → ⊥
-    not-zero (inl e) s = let l = ge-no 0 (A .low) (lit< tt) (p .low-word) e in omega arith
-    not-zero (inr e) s = let l = ge-no (A .high) 0 (p .high-word) (lit< tt) e in omega arith
+-- either arm lies in a range that holds both
+either-arm : (r : Range) (b c : ℕ) (t : Bool) → Within r b → Within r c → Within r (choose t c b)
+either-arm r b c true p q = q
+either-arm r b c false p q = p
 
-    go : (t : Bool) → hasZero A ≡ t → Within (choose t (choose (isSingle A) C (hull B C)) B) (choose (eqb a 0) c b)
-    go true e = zero-or (isSingle A) e refl
-    go false e =
-        rw (ne-eqb a 0 (not-zero (and-false (compareOf Ge 0 (A .low)) (compareOf Ge (A .high) 0) e))) q
+select-holds : (A B C : Range) (a b c : ℕ) → Within A a → Within B b → Within C c → Within (selectRange A B C) (choose (eqb a 0) c b)
+select-holds A B C a b c p q r =
+    let both = hull-holds B C b c q r in
+    chosen _ (choose (eqb a 0) c b)
+    (λ e. chosen _ (choose (eqb a 0) c b) (λ f. rw (only-zero A a p e f) r) (λ f. either-arm _ b c (eqb a 0) (both .0) (both .1)))
+    (λ e. rw (not-zero A a p e) q)
 
 -- ---- the table
 

@@ -43,13 +43,13 @@ pub range-select : (a b c : Range) → rangeOf selectCode a b c ≡ selectRange 
 unfolding rangeOf ruleOf evalOf arity
 range-select a b c = go (isSingle a) (isSingle b) (isSingle c) refl refl refl
   where
-    arm : isSingle b ≡ true → isSingle c ≡ true → (x : Range) (t : Bool) → exact (choose t (c .low) (b .low)) ≡ choose t (choose true c x) b
-    arm f g x true = single-exact c g
-    arm f g x false = single-exact b f
+    arm : isSingle a ≡ true → isSingle b ≡ true → isSingle c ≡ true → (t : Bool) → eqb (a .low) 0 ≡ t → exact (choose t (c .low) (b .low)) ≡ selectRange a b c
+    arm e f g true z = rw (single-zero a e, z, e) (single-exact c g)
+    arm e f g false z = rw (single-zero a e, z) (single-exact b f)
 
     go : (s t u : Bool) → isSingle a ≡ s → isSingle b ≡ t → isSingle c ≡ u
         → choose (s && t && u) (exact (choose (eqb (a .low) 0) (c .low) (b .low))) (selectRange a b c) ≡ selectRange a b c
-    go true true true e f g = rw (single-zero a e, e) (arm f g _ (eqb (a .low) 0))
+    go true true true e f g = arm e f g (eqb (a .low) 0) refl
     go true true false e f g = refl
     go true false u e f g = refl
     go false t u e f g = refl

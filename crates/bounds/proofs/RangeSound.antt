@@ -41,9 +41,9 @@ single-is r x w e =
     omega arith
 
 -- of two ranges, the one that a test chooses
-chosen : (t : Bool) {r s : Range} (x : ℕ) → (t ≡ true → Within r x) → (t ≡ false → Within s x) → Within (choose t r s) x
-chosen true x f g = f refl
-chosen false x f g = g refl
+chosen : (t : Bool) (r s : Range) (x : ℕ) → (t ≡ true → Within r x) → (t ≡ false → Within s x) → Within (choose t r s) x
+chosen true r s x f g = f refl
+chosen false r s x f g = g refl
 
 -- ---- signed tests, read as levels
 
@@ -75,7 +75,7 @@ module _ (x y : ℕ) (h : x < 2 ^ 32) (k : y < 2 ^ 32) where
 module _ (A B : Range) (a b : ℕ) (p : Within A a) (q : Within B b) where
   sum-holds : addOf a b < 2 ^ 32 → Within (sumRange A B) (addOf a b)
   sum-holds h =
-      chosen _ (addOf a b) (λ e. full-holds (addOf a b) h)
+      chosen _ full (span (addOf (A .low) (B .low)) (addOf (A .high) (B .high))) (addOf a b) (λ e. full-holds (addOf a b) h)
       (λ e.
       let f = or-false _ _ e in
       let s = add-stays (A .low) (B .low) (p .low-word) (q .low-word) (f .0) in
@@ -87,7 +87,7 @@ module _ (A B : Range) (a b : ℕ) (p : Within A a) (q : Within B b) where
 
   difference-holds : subOf a b < 2 ^ 32 → Within (differenceRange A B) (subOf a b)
   difference-holds h =
-      chosen _ (subOf a b) (λ e. full-holds (subOf a b) h)
+      chosen _ full (span (subOf (A .low) (B .high)) (subOf (A .high) (B .low))) (subOf a b) (λ e. full-holds (subOf a b) h)
       (λ e.
       let f = or-false _ _ e in
       let s = sub-stays (A .low) (B .high) (p .low-word) (q .high-word) (f .0) in
@@ -134,7 +134,7 @@ module _ (A B : Range) (a b : ℕ) (p : Within A a) (q : Within B b) where
 sx-holds : (A : Range) (a : ℕ) → Within A a → sxOf a < 2 ^ 32 → Within (sxRange A) (sxOf a)
 sx-holds A a p h =
     let s = sx-level a (p .word) in
-    chosen _ (sxOf a) (λ e. record { low-word = lit< tt; high-word = lit< tt; word = h; above = omega (arith, s .least); under = omega (arith, s .most) })
+    chosen _ sixteenBits A (sxOf a) (λ e. record { low-word = lit< tt; high-word = lit< tt; word = h; above = omega (arith, s .least); under = omega (arith, s .most) })
     (λ e.
     let f = or-false _ _ e in
     let l = lt-no (A .low) (sixteenBits .low) (p .low-word) (lit< tt) (f .0) in
@@ -186,8 +186,8 @@ either-arm r b c false p q = p
 select-holds : (A B C : Range) (a b c : ℕ) → Within A a → Within B b → Within C c → Within (selectRange A B C) (choose (eqb a 0) c b)
 select-holds A B C a b c p q r =
     let both = hull-holds B C b c q r in
-    chosen _ (choose (eqb a 0) c b)
-    (λ e. chosen _ (choose (eqb a 0) c b) (λ f. rw (only-zero A a p e f) r) (λ f. either-arm _ b c (eqb a 0) (both .0) (both .1)))
+    chosen _ _ B (choose (eqb a 0) c b)
+    (λ e. chosen _ C _ (choose (eqb a 0) c b) (λ f. rw (only-zero A a p e f) r) (λ f. either-arm _ b c (eqb a 0) (both .0) (both .1)))
     (λ e. rw (not-zero A a p e) q)
 
 -- ---- the table
@@ -260,28 +260,28 @@ module _ (s : ℕ) (A B C : Range) (a b c : ℕ) where
   single-operand : (n m : ℕ) (r : Range) (x : ℕ) → (ltb n m || isSingle r) ≡ true → m ≤ n → Within r x → x ≡ r .low
   single-operand n m r x e h w = single-is r x w (rw (le-ltb n m h) at e)
 
+  -- single operands give the exact word, whatever is sampled
+  single-eval : (k : ℕ) → allSingle (arity k) A B C ≡ true → (0 < arity k → Within A a) → (1 < arity k → Within B b) → (2 < arity k → Within C c)
+      → evalOf s k a b c ≡ evalOf 0 k (A .low) (B .low) (C .low)
+  single-eval k e p q r =
+      let n = arity k in
+      let x = leb 1 n && isSingle A in
+      let y = ltb n 2 || isSingle B in
+      let z = ltb n 3 || isSingle C in
+      let f = and-left (x && y) z e in
+      let one = leb-true 1 n (and-left (leb 1 n) (isSingle A) (and-left x y f)) in
+      let g = and-right (leb 1 n) (isSingle A) (and-left x y f) in
+      eval-unsampled s 0 k a b c (omega arith)
+      ∙ eval-uses 0 a b c (A .low) (B .low) (C .low) k
+      (λ h. single-is A a (p h) g)
+      (λ h. single-operand n 2 B b (and-right x y f) (omega arith) (q h))
+      (λ h. single-operand n 3 C c (and-right (x && y) z e) (omega arith) (r h))
+
   -- where the operands that a code reads lie in their ranges, what it gives lies in its range, whatever is sampled
   pub range-holds : s < 2 ^ 32 → (k : ℕ) → (0 < arity k → Within A a) → (1 < arity k → Within B b) → (2 < arity k → Within C c) → Within (rangeOf k A B C) (evalOf s k a b c)
   unfolding rangeOf
-  range-holds hs k p q r = go (allSingle (arity k) A B C) refl
-    where
-      w : evalOf s k a b c < 2 ^ 32
-      w = eval-word s k a b c hs (λ h. p h .word) (λ h. q h .word) (λ h. r h .word)
-
-      go : (t : Bool) → allSingle (arity k) A B C ≡ t → Within (choose t (exact (evalOf 0 k (A .low) (B .low) (C .low))) (ruleOf k A B C)) (evalOf s k a b c)
-      go true e =
-          let n = arity k in
-          let x = leb 1 n && isSingle A in
-          let y = ltb n 2 || isSingle B in
-          let z = ltb n 3 || isSingle C in
-          let f = and-left (x && y) z e in
-          let one = leb-true 1 n (and-left (leb 1 n) (isSingle A) (and-left x y f)) in
-          let g = and-right (leb 1 n) (isSingle A) (and-left x y f) in
-          let same : evalOf s k a b c ≡ evalOf 0 k (A .low) (B .low) (C .low) =
-          eval-unsampled s 0 k a b c (omega arith)
-          ∙ eval-uses 0 a b c (A .low) (B .low) (C .low) k
-          (λ h. single-is A a (p h) g)
-          (λ h. single-operand n 2 B b (and-right x y f) (omega arith) (q h))
-          (λ h. single-operand n 3 C c (and-right (x && y) z e) (omega arith) (r h)) in
-          rw (← same) (exact-holds (evalOf s k a b c) w)
-      go false e = rule-holds k w p q r
+  range-holds hs k p q r =
+      let w = eval-word s k a b c hs (λ h. p h .word) (λ h. q h .word) (λ h. r h .word) in
+      chosen _ (exact (evalOf 0 k (A .low) (B .low) (C .low))) (ruleOf k A B C) (evalOf s k a b c)
+      (λ e. rw (← single-eval k e p q r) (exact-holds (evalOf s k a b c) w))
+      (λ e. rule-holds k w p q r)

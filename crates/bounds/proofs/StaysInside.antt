@@ -1,13 +1,19 @@
--- Every cycle from values inside ends inside what the operation leaves: the promise of R-5, in signed values. Assumes nothing.
+-- Every cycle from values inside ends inside what the operation leaves, in signed values; so no lowest that it leaves is above its highest. Assumes nothing.
 use Prim.Native.Nat.{ℕ, _+_, _^_, _≤_, _<_}
+use native.Mathlib.Nat.{le-trans}
 use native.Mathlib.Omega.{arith}
+use mathlib.Core.Bool.{Bool, true, false}
 use mathlib.Core.List.{List, [], _∷_, _++_, map}
-use mathlib.Core.Path.{_≡_, sym, ap, _∙_}
+use mathlib.Core.Path.{_≡_, refl, sym, ap, _∙_}
+use lib.Dec.{ltb, lit<}
 use lib.ListN.{length, getD, take, drop, List·getD-append}
 use lib.Seq.{getD-take, length-take-le}
-use borrow.Author.Tests.{leb-true, le-leb}
+use borrow.Author.Tests.{leb-true, le-leb, ltb-true, ltb-false}
 use Rattle.runs.specs.Lists.{upFrom}
-use Rattle.word.proofs.Levels.{ge-level}
+use Rattle.runs.proofs.Every.{below-at}
+use Rattle.word.specs.Word.{compareOf}
+use Rattle.word.specs.declared.Comparison.the-variants.{Ge}
+use Rattle.word.proofs.Levels.{level, ge-level}
 use Rattle.fsmd.specs.Layout.{maxRegisters}
 use Rattle.fsmd.specs.Machine.{State, clock}
 use Rattle.fsmd.specs.Table.{machineRegisterCount, wireAt, stateAt, machineOf, firstWireAt, wireCountAt}
@@ -16,8 +22,9 @@ use Rattle.bounds.specs.declared.Range.{Range}
 use Rattle.bounds.specs.declared.BoundsAnswer.the-variants.{Bounded}
 use Rattle.bounds.specs.Bounds.{rangeAt, firstBounds}
 use Rattle.bounds.specs.Operation.{boundsAnswer, boundsAfter, lowestLeft, highestLeft}
-use Rattle.bounds.specs.Sound.{Between, Inside, RegisterWords, CyclesStayInside}
+use Rattle.bounds.specs.Sound.{Between, Inside, RegisterWords, CyclesStayInside, NotCrossed}
 use Rattle.bounds.proofs.Answers.{Accepted, accepted, next-count, bounded-left, after-count}
+use Rattle.bounds.proofs.CycleBounds.{read-past}
 use Rattle.bounds.proofs.CycleSound.{Literals, known-registers, cycle-holds}
 use Rattle.bounds.proofs.RangeSound.{Within}
 
@@ -89,3 +96,33 @@ module _ (t ls hs : List ℕ) (k : ℕ) (words : AllWords t) (low-words : AllWor
       moved (left-at (lowestLeft t ls hs k) (f .lowest) (drop (machineRegisterCount t) ls) i (b .lowest) (n .0) h) (left-at (highestLeft t ls hs k) (f .highest) (drop (machineRegisterCount t) hs) i (b .highest) (n .1) h)
       (ap (λ (q : State). getD (clock (machineOf t) sampled q rs .registers) i 0) (state-is t k (facts .state)))
       (between (rangeAt f i) (getD (clock (machineOf t) sampled (stateAt t k) rs .registers) i 0) (next-within sampled hs′ rs file start i h))
+
+  -- ---- the lowest words of the registers lie inside, so that some registers do
+
+  lowest-file : RegisterWords (take maxRegisters ls)
+  lowest-file =
+      record {
+        count = length-take-le maxRegisters ls (facts .long .lowest);
+        words = λ i. word-at i (ltb i maxRegisters) refl;
+      }
+    where
+      word-at : (i : ℕ) (b : Bool) → ltb i maxRegisters ≡ b → getD (take maxRegisters ls) i 0 < 2 ^ 32
+      word-at i true e = rw (getD-take maxRegisters ls i 0 (ltb-true i maxRegisters e)) (low-words i)
+      word-at i false e = rw (read-past ls maxRegisters i (facts .long .lowest) (ltb-false i maxRegisters e)) (lit< tt)
+
+  lowest-inside : Inside (machineRegisterCount t) ls hs (take maxRegisters ls)
+  lowest-inside i h =
+      rw (first-is ls i h)
+      (record {
+        above = ge-level (getD ls i 0) (getD ls i 0) (low-words i) (low-words i) ∙ le-leb (level (getD ls i 0)) (level (getD ls i 0)) (omega arith);
+        under = below-at (λ j. compareOf Ge (getD hs j 0) (getD ls j 0)) (machineRegisterCount t) i (facts .in-order) h;
+      })
+
+  pub not-crossed : NotCrossed t (lowestLeft t ls hs k) (highestLeft t ls hs k)
+  not-crossed i h =
+      let w = next-within 0 (lit< tt) (take maxRegisters ls) lowest-file lowest-inside i h in
+      let b = bounded-left t ls hs k answer in
+      let f = boundsAfter t ls hs k in
+      let n = after-count t ls hs k facts in
+      rw (left-at (lowestLeft t ls hs k) (f .lowest) (drop (machineRegisterCount t) ls) i (b .lowest) (n .0) h, left-at (highestLeft t ls hs k) (f .highest) (drop (machineRegisterCount t) hs) i (b .highest) (n .1) h)
+      (ge-level (getD (f .highest) i 0) (getD (f .lowest) i 0) (w .high-word) (w .low-word) ∙ le-leb _ _ (le-trans (w .above) (w .under)))

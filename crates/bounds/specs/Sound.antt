@@ -1,4 +1,4 @@
--- "Every cycle from values inside must end inside" (R-5 of paper 02). Assumes nothing.
+-- "Every cycle from values inside must end inside" (R-5 of paper 02), and what is answered may be asked about again. Assumes nothing.
 use Prim.Native.Nat.{ℕ, _^_, _<_}
 use mathlib.Core.Bool.{true}
 use mathlib.Core.List.{List}
@@ -30,3 +30,7 @@ CyclesStayInside t k ls hs ls′ hs′ =
     (sampled : ℕ) → sampled < 2 ^ 32 → (rs : List ℕ) → RegisterWords rs
     → Inside (machineRegisterCount t) ls hs rs
     → Inside (machineRegisterCount t) ls′ hs′ (machineRunner (machineOf t) .unit sampled k rs .registers)
+
+-- bounds that are answered are no reason for 13: each lowest is at most its highest
+abbrev pub NotCrossed : List ℕ → List ℕ → List ℕ → Type 0
+NotCrossed t ls hs = (i : ℕ) → i < machineRegisterCount t → leZ (signedOf (getD ls i 0)) (signedOf (getD hs i 0)) ≡ true

@@ -29,7 +29,7 @@ ghost use Rattle.touching.specs.Touching.{touchesAnswer, firstTouchingAnswer};
 ghost use Rattle.touching.specs.Values.{TouchesValues, FirstTouchingValues};
 ghost use Rattle.bounds.specs.Operation.{boundsAnswer, lowestLeft, highestLeft};
 ghost use Rattle.bounds.specs.Values.{BoundsValues};
-ghost use Rattle.bounds.specs.Sound.{CyclesStayInside};
+ghost use Rattle.bounds.specs.Sound.{CyclesStayInside, NotCrossed};
 ghost use Rattle.bounds.specs.declared.BoundsAnswer.«the-variants».{Bounded};
 ghost use Rattle.compiler.specs.Answers.{ReadValues, WriteValues, SynthesisValues, CaptureValues};
 use bounds::BoundsAnswer;
@@ -147,7 +147,8 @@ pub fn first_touching(machine: &[u32], register: u32) -> FirstTouchingAnswer
 }
 
 // "Registers known within bounds": what one cycle of a state can do to registers from lowest to highest values. Where nothing is refused,
-// every cycle of the state from values inside ends inside what the buffers then hold, whatever the input word.
+// every cycle of the state from values inside ends inside what the buffers then hold, whatever the input word; and these may be asked about
+// again, since no lowest is above its highest.
 pub fn bounds(
     machine: &[u32],
     lowest: &mut [u32],
@@ -159,6 +160,7 @@ pub fn bounds(
     ensures { λ _. ⌜ now (highest .exit) ≡ highestLeft (now (machine .entry)) (now (lowest .entry)) (now (highest .entry)) state ⌝ }
     ensures { λ r. ⌜ BoundsValues (now (machine .entry)) (now (lowest .entry)) (now (highest .entry)) state r ⌝ }
     ensures { λ r. ⌜ (r ≡ Bounded → CyclesStayInside (now (machine .entry)) state (now (lowest .entry)) (now (highest .entry)) (now (lowest .exit)) (now (highest .exit))) ⌝ }
+    ensures { λ r. ⌜ (r ≡ Bounded → NotCrossed (now (machine .entry)) (now (lowest .exit)) (now (highest .exit))) ⌝ }
 {
     bounds::operation::bounds(machine, lowest, highest, state)
 }

@@ -8,4 +8,5 @@ pub mod Kept
 pub mod RunsAhead
 pub mod Flags
 pub mod Touches
+pub mod Ranges
 pub mod Table

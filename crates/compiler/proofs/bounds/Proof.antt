@@ -1,9 +1,9 @@
--- `bounds` passes on what crate `bounds` promises; the numbers and that cycles stay inside follow from it. Assumes nothing.
+-- `bounds` passes on what crate `bounds` promises; its numbers, that cycles stay inside and that no ends cross follow from it. Assumes nothing.
 use mathlib.Core.Path.{sym, subst, _∙_}
 use denote.Ref.{now}
 use borrow.Author.Needs.{needs}
 use Rattle.bounds.specs.Values.{BoundsValues}
-use Rattle.bounds.proofs.StaysInside.{stays-inside}
+use Rattle.bounds.proofs.StaysInside.{AllWords, stays-inside, not-crossed}
 use Rattle.bounds.proofs.Values.{bounds-values}
 use Rattle.compiler.proofs.bounds.Statement.{statement}
 use Rattle.compiler.proofs.bounds.Tie as tie
@@ -19,7 +19,10 @@ returns c =
     let k = a .state in
     let e = b .bounds .ensures .0 in
     let low = b .bounds .ensures .1 .0 in
-    let high = b .bounds .ensures .1 .1 in (
+    let high = b .bounds .ensures .1 .1 in
+    let words : AllWords t = λ i. s .before .before .shared-slice-known .given i .fits in
+    let low-words : AllWords ls = λ i. s .before .slice-known .given i .fits in
+    let high-words : AllWords hs = λ i. s .slice-known2 .given i .fits in (
       e,
       (
         low,
@@ -27,8 +30,10 @@ returns c =
           high,
           (
             subst (BoundsValues t ls hs k) (sym e) (bounds-values t ls hs k),
-            λ q. rw (low, high)
-                (stays-inside t ls hs k (λ i. s .before .before .shared-slice-known .given i .fits) (λ i. s .before .slice-known .given i .fits) (λ i. s .slice-known2 .given i .fits) (sym e ∙ q)),
+            (
+              λ q. rw (low, high) (stays-inside t ls hs k words low-words high-words (sym e ∙ q)),
+              λ q. rw (low, high) (not-crossed t ls hs k words low-words high-words (sym e ∙ q)),
+            ),
           ),
         ),
       ),

@@ -2,7 +2,7 @@
 
 use crate::machine_admission::{self, record, wires};
 use crate::value::{compare, value};
-use crate::{NEXT, REGISTERS, WIRES};
+use crate::{NEXT, REGISTERS};
 use gutkavu::MACHINE_WORDS;
 
 #[derive(Clone, Copy)]
@@ -111,13 +111,13 @@ pub fn bounds(table: &[u32], lowest: &mut [u32], highest: &mut [u32], state: u32
         return number;
     }
     let registers = table[1] as usize;
-    let mut ranges = [one(0); REGISTERS + WIRES];
-    for (range, (&low, &high)) in ranges[..registers].iter_mut().zip(lowest.iter().zip(&*highest)) {
-        *range = Range { low: low as i32, high: high as i32 };
-    }
     let record = record(table, state as usize);
-    for (wire, at) in wires(table, record).chunks_exact(4).zip(REGISTERS..) {
-        ranges[at] = range(&ranges, wire[0], [wire[1], wire[2], wire[3]]);
+    let wires = wires(table, record);
+    let mut ranges = Vec::with_capacity(REGISTERS + wires.len() / 4);
+    let given = lowest.iter().zip(&*highest).take(REGISTERS);
+    ranges.extend(given.map(|(&low, &high)| Range { low: low as i32, high: high as i32 }));
+    for wire in wires.chunks_exact(4) {
+        ranges.push(range(&ranges, wire[0], [wire[1], wire[2], wire[3]]));
     }
     for (register, &reference) in record[NEXT..][..registers].iter().enumerate() {
         let Range { low, high } = ranges[reference as usize];

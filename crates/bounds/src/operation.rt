@@ -45,19 +45,15 @@ fn answer(table: &[u32], lowest: &[u32], highest: &[u32], state: u32) -> BoundsA
     if table[MachineTable::STATE_COUNT] <= state {
         return BoundsAnswer::Refused(9);
     }
-    if !is_ordered(lowest, highest, word_index(table[MachineTable::REGISTER_COUNT])) {
+    let registers = word_index(table[MachineTable::REGISTER_COUNT]);
+    if !is_ordered(lowest, highest, registers) {
         return BoundsAnswer::Refused(13);
     }
     BoundsAnswer::Bounded
 }
 
 // What one cycle of a state can do: the lowest and highest next words, in place of the lowest and highest words before it.
-pub fn bounds(
-    table: &[u32],
-    lowest: &mut [u32],
-    highest: &mut [u32],
-    state: u32,
-) -> BoundsAnswer
+pub fn bounds(table: &[u32], lowest: &mut [u32], highest: &mut [u32], state: u32) -> BoundsAnswer
     ensures { λ r. ⌜ r ≡ boundsAnswer (now (table .entry)) (now (lowest .entry)) (now (highest .entry)) state ⌝ }
     ensures { λ _. ⌜ now (lowest .exit) ≡ lowestLeft (now (table .entry)) (now (lowest .entry)) (now (highest .entry)) state ⌝ }
     ensures { λ _. ⌜ now (highest .exit) ≡ highestLeft (now (table .entry)) (now (lowest .entry)) (now (highest .entry)) state ⌝ }

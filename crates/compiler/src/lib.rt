@@ -149,12 +149,7 @@ pub fn first_touching(machine: &[u32], register: u32) -> FirstTouchingAnswer
 // "Registers known within bounds": what one cycle of a state can do to registers from lowest to highest values. Where nothing is refused,
 // every cycle of the state from values inside ends inside what the buffers then hold, whatever the input word; and these may be asked about
 // again, since no lowest is above its highest.
-pub fn bounds(
-    machine: &[u32],
-    lowest: &mut [u32],
-    highest: &mut [u32],
-    state: u32,
-) -> BoundsAnswer
+pub fn bounds(machine: &[u32], lowest: &mut [u32], highest: &mut [u32], state: u32) -> BoundsAnswer
     ensures { λ r. ⌜ r ≡ boundsAnswer (now (machine .entry)) (now (lowest .entry)) (now (highest .entry)) state ⌝ }
     ensures { λ _. ⌜ now (lowest .exit) ≡ lowestLeft (now (machine .entry)) (now (lowest .entry)) (now (highest .entry)) state ⌝ }
     ensures { λ _. ⌜ now (highest .exit) ≡ highestLeft (now (machine .entry)) (now (lowest .entry)) (now (highest .entry)) state ⌝ }

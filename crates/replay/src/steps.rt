@@ -254,14 +254,7 @@ fn ask_bounds(s: &[u8], c: Case, machine: &[u32], line: &mut [u32])
     let m = high.count as usize;
     let mut lowest = [0u32; 20];
     let mut highest = [0u32; 20];
-    bound(
-        machine,
-        &mut lowest[..n],
-        &mut highest[..m],
-        s,
-        asked,
-        line,
-    );
+    bound(machine, &mut lowest[..n], &mut highest[..m], s, asked, line);
 }
 
 // All questions about the machine.

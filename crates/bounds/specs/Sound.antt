@@ -31,6 +31,6 @@ CyclesStayInside t k ls hs ls′ hs′ =
     → Inside (machineRegisterCount t) ls hs rs
     → Inside (machineRegisterCount t) ls′ hs′ (machineRunner (machineOf t) .unit sampled k rs .registers)
 
--- bounds that are answered are no reason for 13: each lowest is at most its highest
+-- no register below R has its lowest above its highest: so it is of what is answered, which is then no reason for 13
 abbrev pub NotCrossed : List ℕ → List ℕ → List ℕ → Type 0
 NotCrossed t ls hs = (i : ℕ) → i < machineRegisterCount t → leZ (signedOf (getD ls i 0)) (signedOf (getD hs i 0)) ≡ true

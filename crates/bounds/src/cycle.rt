@@ -21,11 +21,13 @@ use fsmd::table::wire;
 use fsmd::table::wire_count;
 use word::Code;
 
-// How many words there is room for in one array: those of few wires, and those of all.
+// How many words there is room for in one array: those of few wires, of more, and of all.
 struct Room;
 
 impl Room {
-    const FEW: usize = 256;
+    const FEW: usize = 64;
+
+    const MORE: usize = 512;
 
     const ALL: usize = MachineTable::REGISTERS + MachineTable::WIRES;
 }
@@ -125,17 +127,24 @@ fn bound_in(
     put_next(highest, highs, n, table, next, registers);
 }
 
-// One cycle of state k: the lowest and highest next words of the registers below R, in place of those before it. Most states have few wires,
-// and a small room is soon cleared.
+// One cycle of state k: the lowest and highest next words of the registers below R, in place of those before it. The room is cleared, so that
+// one which is not much larger than needed saves time.
 pub fn bound_cycle(table: &[u32], k: usize, lowest: &mut [u32], highest: &mut [u32])
     requires { ⌜ Ready (now table) k ⌝ }
     requires { ⌜ maxRegisters ≤ length (now lowest) ⌝ }
     requires { ⌜ maxRegisters ≤ length (now highest) ⌝ }
     ensures { λ _. ⌜ Cycled (now (table .entry)) k (now (lowest .entry)) (now (highest .entry)) (now (lowest .exit)) (now (highest .exit)) ⌝ }
 {
-    if MachineTable::REGISTERS + wire_count(table, k) <= Room::FEW {
+    let n = MachineTable::REGISTERS + wire_count(table, k);
+    if n <= Room::FEW {
         let mut lows = [0u32; Room::FEW];
         let mut highs = [0u32; Room::FEW];
+        bound_in(&mut lows, &mut highs, table, k, lowest, highest);
+        return;
+    }
+    if n <= Room::MORE {
+        let mut lows = [0u32; Room::MORE];
+        let mut highs = [0u32; Room::MORE];
         bound_in(&mut lows, &mut highs, table, k, lowest, highest);
         return;
     }

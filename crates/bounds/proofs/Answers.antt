@@ -17,7 +17,8 @@ use Rattle.fsmd.proofs.Machines.{Admitted, admitted-facts}
 use Rattle.bounds.specs.declared.BoundsAnswer.{BoundsAnswer}
 use Rattle.bounds.specs.declared.BoundsAnswer.the-variants.{Refused, Bounded}
 use Rattle.bounds.specs.Bounds.{nextBounds}
-use Rattle.bounds.specs.Operation.{ordered, boundsAnswer, boundsAfter, Cycled, lowestLeft, highestLeft}
+use Rattle.bounds.specs.Operation.{ordered, boundsAnswer, boundsAfter, lowestLeft, highestLeft}
+use Rattle.bounds.specs.Cycle.{Cycled}
 use Rattle.bounds.specs.Values.{Long}
 
 module _ (t ls hs : List ℕ) (k : ℕ) where

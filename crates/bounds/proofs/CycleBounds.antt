@@ -17,7 +17,8 @@ use Rattle.bounds.specs.declared.Range.{Range}
 use Rattle.bounds.specs.Range.{exact, rangeOf}
 use Rattle.bounds.proofs.RuleLaws.{range-literal}
 use Rattle.bounds.specs.Bounds.{Bounds, rangeAt, firstBounds, withRange, wireRange, bounded, nextBounds}
-use Rattle.bounds.specs.Operation.{boundsAfter, Cycled}
+use Rattle.bounds.specs.Operation.{boundsAfter}
+use Rattle.bounds.specs.Cycle.{Cycled}
 
 -- a reference past the first n reads 0
 pub read-past : (l : List ℕ) (n x : ℕ) → n ≤ length l → n ≤ x → getD (take n l) x 0 ≡ 0

@@ -20,9 +20,9 @@ use Rattle.fsmd.proofs.PastTable.{past-whole, past-admitted, past-count, past-r
 use Rattle.bounds.specs.declared.BoundsAnswer.{BoundsAnswer}
 use Rattle.bounds.specs.declared.BoundsAnswer.the-variants.{Refused, Bounded}
 use Rattle.bounds.specs.Bounds.{Bounds, nextBounds}
-use Rattle.bounds.specs.Operation.{ordered, boundsAnswer, boundsAfter, lowestLeft, highestLeft}
+use Rattle.bounds.specs.Operation.{ordered, boundsAnswer, boundsAfter, left, lowestLeft, highestLeft}
 use Rattle.bounds.specs.Values.{Long}
-use Rattle.bounds.proofs.Answers.{accepted, answer-other, answer-no-state, answer-crossed, answer-bounded, refused-left, bounded-left}
+use Rattle.bounds.proofs.Answers.{accepted, answer-other, answer-no-state, answer-crossed, answer-bounded}
 
 -- registers are the first words of a buffer
 module _ (ls hs v w : List ℕ) (low : maxRegisters ≤ length ls) (high : maxRegisters ≤ length hs) (n : ℕ) (few : n ≤ maxRegisters) where
@@ -37,6 +37,14 @@ module _ (ls hs v w : List ℕ) (low : maxRegisters ≤ length ls) (high : maxRe
       same-test (ordered n (ls ++ v) (hs ++ w)) (ordered n ls hs)
       (λ e. below-of (λ i. compareOf Ge (getD hs i 0) (getD ls i 0)) n (λ i h. sym (test-same i h) ∙ below-at (λ i. compareOf Ge (getD (hs ++ w) i 0) (getD (ls ++ v) i 0)) n i e h))
       (λ e. below-of (λ i. compareOf Ge (getD (hs ++ w) i 0) (getD (ls ++ v) i 0)) n (λ i h. test-same i h ∙ below-at (λ i. compareOf Ge (getD hs i 0) (getD ls i 0)) n i e h))
+
+-- a longer buffer: where nothing is refused, the same new words, as many as before
+past-left : (a : BoundsAnswer) (r n : ℕ) (new words l x : List ℕ) → (a ≡ Bounded → (r ≡ n) × (new ≡ words) × (n ≤ length l)) → left a r new (l ++ x) ≡ left a n words l ++ x
+past-left (Refused m) r n new words l x h = refl
+past-left Bounded r n new words l x h =
+    let p = h refl in
+    ap₂ (λ (ws : List ℕ) (m : ℕ). ws ++ drop m (l ++ x)) (p .1) (p .0)
+    ∙ ap (λ (rest : List ℕ). words ++ rest) (drop-append-le n l x (p .2)) ∙ sym (append-assoc words (drop n l) x)
 
 module _ (t u ls v hs w : List ℕ) (long : Long t ls hs) (k : ℕ) where
   past-long : Long (t ++ u) (ls ++ v) (hs ++ w)
@@ -76,28 +84,27 @@ module _ (t u ls v hs w : List ℕ) (long : Long t ls hs) (k : ℕ) where
       ap (λ (q : State). nextBounds q (record { lowest = take maxRegisters (ls ++ v); highest = take maxRegisters (hs ++ w) })) (past-state t u (long .table) good k h)
       ∙ rw (take-append-le maxRegisters ls v (long .lowest), take-append-le maxRegisters hs w (long .highest))
 
-  -- new words, then the rest of a longer buffer
-  rest : (n : ℕ) (new l x : List ℕ) → n ≤ length l → new ++ drop n (l ++ x) ≡ (new ++ drop n l) ++ x
-  rest n new l x h = ap (λ (r : List ℕ). new ++ r) (drop-append-le n l x h) ∙ sym (append-assoc new (drop n l) x)
+  -- where nothing is refused, the new words do not depend on what is past the lengths, and there are few of them
+  record Same : Type 0 where
+    count : machineRegisterCount (t ++ u) ≡ machineRegisterCount t
+    few : machineRegisterCount t ≤ maxRegisters
+    after : boundsAfter (t ++ u) (ls ++ v) (hs ++ w) k ≡ boundsAfter t ls hs k
 
-  pub past-left : (lowestLeft (t ++ u) (ls ++ v) (hs ++ w) k ≡ lowestLeft t ls hs k ++ v) × (highestLeft (t ++ u) (ls ++ v) (hs ++ w) k ≡ highestLeft t ls hs k ++ w)
-  past-left = go (boundsAnswer t ls hs k) refl
-    where
-      go : (a : BoundsAnswer) → boundsAnswer t ls hs k ≡ a
-          → (lowestLeft (t ++ u) (ls ++ v) (hs ++ w) k ≡ lowestLeft t ls hs k ++ v) × (highestLeft (t ++ u) (ls ++ v) (hs ++ w) k ≡ highestLeft t ls hs k ++ w)
-      go (Refused n) e =
-          let p = refused-left (t ++ u) (ls ++ v) (hs ++ w) k n (past-bounds ∙ e) in
-          let q = refused-left t ls hs k n e in
-          (p .0 ∙ sym (ap (λ (l : List ℕ). l ++ v) (q .0)), p .1 ∙ sym (ap (λ (l : List ℕ). l ++ w) (q .1)))
-      go Bounded e =
-          let a = accepted t ls hs k e in
-          let few = a .table .few-registers in
-          let r = machineRegisterCount t in
-          let s = past-after (a .good) (a .state) in
-          let c = past-register-count t u (long .table) in
-          let p = bounded-left (t ++ u) (ls ++ v) (hs ++ w) k (past-bounds ∙ e) in
-          let q = bounded-left t ls hs k e in
-          let f = boundsAfter t ls hs k in (
-            p .lowest ∙ ap₂ (λ (b : Bounds) (n : ℕ). b .lowest ++ drop n (ls ++ v)) s c ∙ rest r (f .lowest) ls v (omega (arith, few, long .lowest)) ∙ sym (ap (λ (l : List ℕ). l ++ v) (q .lowest)),
-            p .highest ∙ ap₂ (λ (b : Bounds) (n : ℕ). b .highest ++ drop n (hs ++ w)) s c ∙ rest r (f .highest) hs w (omega (arith, few, long .highest)) ∙ sym (ap (λ (l : List ℕ). l ++ w) (q .highest)),
-          )
+  same : boundsAnswer t ls hs k ≡ Bounded → Same
+  same e =
+      let a = accepted t ls hs k e in
+      record { count = past-register-count t u (long .table); few = a .table .few-registers; after = past-after (a .good) (a .state) }
+
+  pub past-lowest : lowestLeft (t ++ u) (ls ++ v) (hs ++ w) k ≡ lowestLeft t ls hs k ++ v
+  unfolding lowestLeft
+  past-lowest =
+      ap (λ (a : BoundsAnswer). left a (machineRegisterCount (t ++ u)) (boundsAfter (t ++ u) (ls ++ v) (hs ++ w) k .lowest) (ls ++ v)) past-bounds
+      ∙ past-left (boundsAnswer t ls hs k) (machineRegisterCount (t ++ u)) (machineRegisterCount t) _ _ ls v
+      (λ e. let s = same e in (s .count, ap (λ (b : Bounds). b .lowest) (s .after), omega (arith, s .few, long .lowest)))
+
+  pub past-highest : highestLeft (t ++ u) (ls ++ v) (hs ++ w) k ≡ highestLeft t ls hs k ++ w
+  unfolding highestLeft
+  past-highest =
+      ap (λ (a : BoundsAnswer). left a (machineRegisterCount (t ++ u)) (boundsAfter (t ++ u) (ls ++ v) (hs ++ w) k .highest) (hs ++ w)) past-bounds
+      ∙ past-left (boundsAnswer t ls hs k) (machineRegisterCount (t ++ u)) (machineRegisterCount t) _ _ hs w
+      (λ e. let s = same e in (s .count, ap (λ (b : Bounds). b .highest) (s .after), omega (arith, s .few, long .highest)))

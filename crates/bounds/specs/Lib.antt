@@ -1,5 +1,6 @@
 pub mod Range
 pub mod Bounds
 pub mod Operation
+pub mod Cycle
 pub mod Sound
 pub mod Values

@@ -2,7 +2,6 @@
 use Prim.Native.Nat.{ℕ}
 use mathlib.Core.Bool.{Bool, not, _||_}
 use mathlib.Core.List.{List, _++_}
-use mathlib.Core.Path.{_≡_}
 use lib.Dec.{ltb}
 use lib.ListN.{length, getD, drop}
 use Rattle.word.specs.Word.{choose, compareOf}
@@ -31,11 +30,6 @@ boundsAnswer t ls hs k =
 unfoldable pub boundsAfter : List ℕ → List ℕ → List ℕ → ℕ → Bounds
 unfolding stateAt nextBounds
 boundsAfter t ls hs k = nextBounds (stateAt t k) (firstBounds maxRegisters ls hs)
-
--- where they replace those before it: the words from R up stay
-pub record Cycled (t : List ℕ) (k : ℕ) (ls hs ls′ hs′ : List ℕ) : Type 0 where
-  pub lowest : ls′ ≡ boundsAfter t ls hs k .lowest ++ drop (machineRegisterCount t) ls
-  pub highest : hs′ ≡ boundsAfter t ls hs k .highest ++ drop (machineRegisterCount t) hs
 
 -- a refusal leaves a buffer; else its first r words are new, and those from r up stay
 abbrev pub left : BoundsAnswer → ℕ → List ℕ → List ℕ → List ℕ

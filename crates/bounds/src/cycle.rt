@@ -8,7 +8,7 @@ ghost use Rattle.fsmd.specs.Layout.{machineWords, maxRegisters, maxWires};
 ghost use Rattle.fsmd.specs.Table.{wireAt, wireCountAt};
 ghost use Rattle.fsmd.specs.Clock.{Ready};
 ghost use Rattle.bounds.specs.Bounds.{rangeAt, firstBounds, wireRange, bounded};
-ghost use Rattle.bounds.specs.Operation.{Cycled};
+ghost use Rattle.bounds.specs.Cycle.{Cycled};
 use super::Range;
 use super::rules::exact;
 use super::rules::range_of;

@@ -6,7 +6,7 @@ use mathlib.Core.Path.{_≡_}
 use lib.ListN.{length}
 use Rattle.bounds.specs.Values.{Long}
 use Rattle.bounds.proofs.KeptWords.{lowest-kept, highest-kept}
-use Rattle.bounds.proofs.PastTable.{past-bounds, past-left}
+use Rattle.bounds.proofs.PastTable.{past-bounds, past-lowest, past-highest}
 use Rattle.cfg.proofs.KeptRegisters.{graph-keeps, graph-words-keep}
 use Rattle.cfg.proofs.PastTable as graph
 use Rattle.cfg_text.proofs.PastTable.{past-read-answer, past-read-words}
@@ -52,6 +52,6 @@ past-lengths = record {
   touches-answer = λ m u h k i. past-touches m u (omega arith) i k;
   first-touching-answer = λ m u h i. past-first m u (omega arith) i;
   bounds-answer = λ m u ls v hs w a b c k. past-bounds m u ls v hs w (long m ls hs a b c) k;
-  bounds-lowest = λ m u ls v hs w a b c k. past-left m u ls v hs w (long m ls hs a b c) k .0;
-  bounds-highest = λ m u ls v hs w a b c k. past-left m u ls v hs w (long m ls hs a b c) k .1;
+  bounds-lowest = λ m u ls v hs w a b c k. past-lowest m u ls v hs w (long m ls hs a b c) k;
+  bounds-highest = λ m u ls v hs w a b c k. past-highest m u ls v hs w (long m ls hs a b c) k;
 }

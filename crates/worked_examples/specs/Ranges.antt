@@ -46,6 +46,10 @@ sum = byHand 1 2 (touching 3 (state 0 2 0 (16 ∷ 17 ∷ []))) (3 ∷ 0 ∷ 1 �
 abbrev swap : List ℕ
 swap = byHand 1 2 (touching 3 (state 0 0 0 (1 ∷ 0 ∷ []))) []
 
+-- the same with a wrong touch word: no machine table
+abbrev wrongTouch : List ℕ
+wrongTouch = byHand 1 2 (touching 2 (state 0 0 0 (1 ∷ 0 ∷ []))) []
+
 -- refused with this number, with both buffers as they were
 abbrev refusedWith : ℕ → List ℕ → List ℕ → List ℕ → ℕ → Bool
 refusedWith n t ls hs k = same (asked t ls hs k) (n ∷ (take 3 ls ++ take 3 hs)) && same (lowestLeft t ls hs k) ls && same (highestLeft t ls hs k) hs
@@ -99,7 +103,7 @@ rangeRows =
     -- 19
     ∷ row "a condition that is only zero" (gives 19 (exact 0) rate (span 3 9) (span 3 9))
     ∷ row "a condition above zero, and below" (gives 19 (span 1 2) rate (exact 9) rate && gives 19 (span (neg 2) (neg 1)) rate (exact 9) rate)
-    ∷ row "a condition that may be zero" (every (λ l. every (λ h. gives 19 (span l h) (span 5 900) (span (neg 3) 7) (span (neg 3) 900)) (0 ∷ 1 ∷ [])) (neg 1 ∷ []) && gives 19 (span 0 1) (span 5 900) (span (neg 3) 7) (span (neg 3) 900))
+    ∷ row "a condition that may be zero" (every (λ (a : Range). gives 19 a (span 5 900) (span (neg 3) 7) (span (neg 3) 900)) (span (neg 1) 0 ∷ span (neg 1) 1 ∷ span 0 1 ∷ []))
     ∷ row "19 of single words" (gives 19 (exact 5) (exact 6) (exact 7) (exact 6) && gives 19 (exact 0) (exact 6) (exact 7) (exact 7))
     -- in, and a code that is none
     ∷ row "in" (gives 20 (exact 1) (exact 1) (exact 1) full)
@@ -114,8 +118,12 @@ rangeRows =
     -- refusals: 7, 10, 9, 13
     ∷ row "7: 13,697 words" (refusedWith 7 (take 13697 gcd) (regs 1 1) (regs 2 2) 0)
     ∷ row "7: 15 lowest words, 15 highest" (refusedWith 7 gcd (take 15 (regs 1 1)) (regs 2 2) 0 && refusedWith 7 gcd (regs 1 1) (take 15 (regs 2 2)) 0)
-    ∷ row "7 before 10, 9 and 13" (refusedWith 7 (take 13697 noMachine) (regs 1 1) (regs 0 0) 0 && refusedWith 7 gcd (regs 1 1) [] 2)
-    ∷ row "10 before 9 and 13" (refusedWith 10 noMachine (regs 1 1) (regs 0 0) 0)
+    ∷ row "7: two are short, and all" (refusedWith 7 (take 13697 gcd) [] (regs 2 2) 0 && refusedWith 7 (take 13697 gcd) (regs 1 1) [] 0 && refusedWith 7 gcd [] [] 0 && refusedWith 7 [] [] [] 0)
+    ∷ row "7 of the table before 10, 9 and 13" (refusedWith 7 (take 13697 noMachine) (regs 1 1) (regs 2 2) 0 && refusedWith 7 (take 13697 gcd) (regs 1 1) (regs 2 2) 2 && refusedWith 7 (take 13697 gcd) (regs 1 1) (regs 0 0) 0)
+    ∷ row "7 of the lowest before 10, 9 and 13" (refusedWith 7 noMachine (take 15 (regs 1 1)) (regs 2 2) 0 && refusedWith 7 gcd (take 15 (regs 1 1)) (regs 2 2) 2 && refusedWith 7 gcd (take 15 (regs 1 1)) (regs 0 0) 0)
+    ∷ row "7 of the highest before 10, 9 and 13" (refusedWith 7 noMachine (regs 1 1) (take 15 (regs 2 2)) 0 && refusedWith 7 gcd (regs 1 1) (take 15 (regs 2 2)) 2 && refusedWith 7 gcd (regs 1 1) (take 15 (regs 0 0)) 0)
+    ∷ row "10 before 9" (refusedWith 10 wrongTouch (regs 1 1) (regs 2 2) 1)
+    ∷ row "10 before 13" (refusedWith 10 wrongTouch (regs 1 1) (regs 0 0) 0)
     ∷ row "9: states from N up, before 13" (every (λ k. refusedWith 9 gcd (regs 1 1) (regs 0 0) k) (2 ∷ 64 ∷ 255 ∷ 4294967295 ∷ []))
     ∷ row "13: of r0, of r1" (refusedWith 13 gcd (regs 1 0) (regs 0 0) 1 && refusedWith 13 gcd (regs 0 1) (regs 0 0) 1)
     ∷ row "13 is signed" (refusedWith 13 gcd (regs 0 0) (regs (neg 1) 0) 1 && same (asked gcd (regs (neg 1) 0) (regs 0 0) 0) (0 ∷ neg 1 ∷ 0 ∷ 0 ∷ 0 ∷ 0 ∷ 0 ∷ []))

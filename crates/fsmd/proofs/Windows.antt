@@ -3,11 +3,11 @@ use Prim.Native.Nat.{ℕ, suc, _+_, _<_, _≤_}
 use native.Mathlib.Numerals.{add-one}
 use native.Mathlib.Omega.{arith}
 use mathlib.Core.Bool.{Bool, true, false}
-use mathlib.Core.List.{List, [], _∷_, map}
+use mathlib.Core.List.{List, [], _∷_, _++_, map}
 use mathlib.Core.Path.{_≡_, refl, sym, ap, _∙_}
-use lib.ListN.{length, getD, take, drop, length-drop, length-map, drop-of-length-le, List·getD-map}
-use lib.Seq.{drop-cons, length-take-le, getD-take, getD-drop}
-use Rattle.runs.proofs.ListLaws.{length-upFrom, getD-upFrom}
+use lib.ListN.{length, getD, take, drop, set, length-drop, length-map, drop-of-length-le, List·getD-map}
+use lib.Seq.{drop-cons, length-take-le, take-all, getD-take, getD-drop}
+use Rattle.runs.proofs.ListLaws.{length-upFrom, getD-upFrom, getD-map, copied-more}
 use Rattle.runs.specs.Lists.{upFrom}
 use Rattle.fsmd.specs.Table.{wireAt, validWire, validWires}
 use Rattle.fsmd.specs.declared.Wire.{Wire}
@@ -20,6 +20,22 @@ module _ (t : List ℕ) (at n : ℕ) where
 
   pub window-at : (i : ℕ) → i < n → getD (take n (drop at t)) i 0 ≡ getD t (at + i) 0
   window-at i h = getD-take n (drop at t) i 0 h ∙ getD-drop at t i 0
+
+-- f of each of these words, put over the front of a list one after another
+module _ (t : List ℕ) (at n : ℕ) (room : at + n ≤ length t) (f : ℕ → ℕ) where
+  put-length : length (map f (take n (drop at t))) ≡ n
+  put-length = length-map (take n (drop at t)) f ∙ window-length t at n room
+
+  pub put-all : (d : List ℕ) (i : ℕ) → i ≡ n → take i (map f (take n (drop at t))) ++ drop i d ≡ map f (take n (drop at t)) ++ drop n d
+  put-all d i e = let m = put-length in rw (e, take-all n (map f (take n (drop at t))) (omega arith))
+
+  pub put-more : (d : List ℕ) (i v : ℕ) → i < n → n ≤ length d → v ≡ f (getD t (at + i) 0)
+      → set (take i (map f (take n (drop at t))) ++ drop i d) i v ≡ take (i + 1) (map f (take n (drop at t))) ++ drop (i + 1) d
+  put-more d i v h k e =
+      let l = window-length t at n room in
+      let m = put-length in
+      ap (set (take i (map f (take n (drop at t))) ++ drop i d) i) (e ∙ ap f (sym (window-at t at n i h)) ∙ sym (getD-map f (take n (drop at t)) i 0 0 (omega arith)))
+      ∙ copied-more d (map f (take n (drop at t))) i (omega arith) (omega arith)
 
 -- ---- the wires from a first one on
 

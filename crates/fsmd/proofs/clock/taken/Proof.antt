@@ -2,14 +2,12 @@
 use Prim.Native.Nat.{ℕ, _-_, _%_, _≤_, _<_}
 use native.Mathlib.Omega.{arith}
 use mathlib.Core.List.{List, _++_, map}
-use mathlib.Core.Path.{_≡_, refl, sym, ap, ap₂, _∙_}
-use lib.ListN.{length, take, drop, getD, set, length-map}
-use lib.Seq.{take-all}
+use mathlib.Core.Path.{_≡_, refl, ap, _∙_}
+use lib.ListN.{length, take, drop, getD, set}
 use denote.Ref.{now}
 use borrow.Author.Needs.{needs}
-use Rattle.runs.proofs.ListLaws.{getD-map, copied-more}
 use Rattle.fsmd.specs.Layout.{maxRegisters, roomWords}
-use Rattle.fsmd.proofs.Windows.{window-length, window-at}
+use Rattle.fsmd.proofs.Windows.{put-more, put-all}
 use Rattle.fsmd.proofs.clock.taken.Statement.{statement}
 use Rattle.fsmd.proofs.clock.taken.Tie as tie
 
@@ -30,40 +28,25 @@ loop-again : tie.Need-loop-again Inv-loop μ-loop
 loop-again c =
     let b = c .before .before .before .before in
     let a = b .before .before .before .args in
-    let t = now (a .table) in
     let i = b .loop .i in
-    let f : ℕ → ℕ = λ x. getD (now (a .words)) (x % roomWords) 0 in
-    let s = take (a .count) (drop (a .at) t) in
     let q : i < a .count = omega arith in
-    let e : length s ≡ a .count = window-length t (a .at) (a .count) (search needs) in
-    let k : length (map f s) ≡ a .count = length-map s f ∙ e in
     let l : length (a .registers .words) ≡ maxRegisters = search needs in (
       omega arith,
-      ap₂ (λ (l : List ℕ) (x : ℕ). set l i x) (b .loop .inv .1) (c .word-at .ensures ∙ ap f (sym (window-at t (a .at) (a .count) i q)) ∙ sym (getD-map f s i 0 0 (omega arith)))
-          ∙ copied-more (a .registers .words) (map f s) i (omega arith) (omega arith),
+      ap (λ (l : List ℕ). set l i (c .word-at .result)) (b .loop .inv .1)
+          ∙ put-more (now (a .table)) (a .at) (a .count) (search needs) (λ x. getD (now (a .words)) (x % roomWords) 0) (a .registers .words) i (c .word-at .result) q (omega arith) (c .word-at .ensures),
     )
 
 returns : tie.Need-returns Inv-loop μ-loop
 returns c =
     let b = c .before .before in
     let a = b .before .before .before .args in
-    let t = now (a .table) in
-    let f : ℕ → ℕ = λ x. getD (now (a .words)) (x % roomWords) 0 in
-    let s = take (a .count) (drop (a .at) t) in
-    let e : length (map f s) ≡ a .count = length-map s f ∙ window-length t (a .at) (a .count) (search needs) in
-    let i : b .loop .i ≡ a .count = omega arith in
-    b .loop .inv .1 ∙ rw (i, take-all (a .count) (map f s) (omega arith))
+    b .loop .inv .1 ∙ put-all (now (a .table)) (a .at) (a .count) (search needs) (λ x. getD (now (a .words)) (x % roomWords) 0) (a .registers .words) (b .loop .i) (omega arith)
 
 returns-2 : tie.Need-returns-2 Inv-loop μ-loop
 returns-2 c =
     let b = c .before in
     let a = b .before .before .before .args in
-    let t = now (a .table) in
-    let f : ℕ → ℕ = λ x. getD (now (a .words)) (x % roomWords) 0 in
-    let s = take (a .count) (drop (a .at) t) in
-    let e : length (map f s) ≡ a .count = length-map s f ∙ window-length t (a .at) (a .count) (search needs) in
-    let i : b .loop .i ≡ a .count = omega arith in
-    b .loop .inv .1 ∙ rw (i, take-all (a .count) (map f s) (omega arith))
+    b .loop .inv .1 ∙ put-all (now (a .table)) (a .at) (a .count) (search needs) (λ x. getD (now (a .words)) (x % roomWords) 0) (a .registers .words) (b .loop .i) (omega arith)
 
 pub taken-spec : {M : Type 1} → statement M
 taken-spec =

@@ -23,9 +23,9 @@ addOf a b = (a + b) % 2 ^ 32
 abbrev pub subOf : ℕ → ℕ → ℕ
 subOf a b = (a + (2 ^ 32 - b)) % 2 ^ 32
 
--- the amount of every shift: the second operand modulo 32
+-- the amount of every shift: the whole second operand; every amount from 32 up does what 32 does
 abbrev pub amountOf : ℕ → ℕ
-amountOf b = b % 32
+amountOf b = choose (ltb b 32) b 32
 
 -- shl drops what passes bit 31
 abbrev pub shlOf : ℕ → ℕ → ℕ

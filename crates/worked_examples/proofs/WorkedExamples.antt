@@ -13,6 +13,7 @@ use Rattle.worked_examples.specs.RunsAhead.{ahead}
 use Rattle.worked_examples.specs.Flags.{flags}
 use Rattle.worked_examples.specs.Touches.{touchRows}
 use Rattle.worked_examples.specs.Ranges.{rangeRows}
+use Rattle.worked_examples.specs.Shifts.{shiftRows}
 use Rattle.worked_examples.proofs.Endless.{graph-endless, machine-endless, run-graph-endless, run-machine-endless}
 
 -- ---- the rows of each file, computed one file at a time
@@ -56,6 +57,10 @@ hold-ranges : Hold rangeRows
 unfolding rangeRows
 hold-ranges = tt
 
+hold-shifts : Hold shiftRows
+unfolding shiftRows
+hold-shifts = tt
+
 -- and so of all together
 both : (rs qs : List Row) → Hold rs → Hold qs → Hold (rs ++ qs)
 both [] qs h k = k
@@ -70,7 +75,7 @@ all =
     both rows _ hold-rows
     (both throughTables _ hold-through-tables
     (both orders _ hold-orders
-    (both admission _ hold-admission (both kept _ hold-kept (both ahead _ hold-ahead (both flags _ hold-flags (both touchRows rangeRows hold-touches hold-ranges)))))))
+    (both admission _ hold-admission (both kept _ hold-kept (both ahead _ hold-ahead (both flags _ hold-flags (both touchRows _ hold-touches (both rangeRows shiftRows hold-ranges hold-shifts))))))))
 
 pub worked-examples : WorkedExamples
 worked-examples =

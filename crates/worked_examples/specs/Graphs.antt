@@ -37,8 +37,11 @@ sampled d = record { code = 20; d = d; a = 0; b = 0 }
 abbrev one : ℕ → Instruction
 one code = record { code = code; d = 2; a = 0; b = 0 }
 
+abbrev twoInto : ℕ → ℕ → Instruction
+twoInto d code = record { code = code; d = d; a = 0; b = 1 }
+
 abbrev two : ℕ → Instruction
-two code = record { code = code; d = 2; a = 0; b = 1 }
+two = twoInto 2
 
 abbrev ite : Comparison → ℕ → ℕ → Ending
 ite c t f = Ite (record { comparison = c; a = 0; b = 1 }) t f
@@ -135,3 +138,14 @@ Codes =
     block (one 2 ∷ two 5 ∷ two 6 ∷ two 7 ∷ two 8 ∷ two 9 ∷ two 10 ∷ one 11 ∷ []) (Goto 1)
     ∷ block (put 0 5 ∷ sampled 1 ∷ two 3 ∷ two 4 ∷ []) Halt
     ∷ [])
+
+-- r0 shifted by r1, each way, in two blocks of one state
+unfoldable pub Shifts : CFG
+Shifts = graph 5 (block (two 8 ∷ []) (Goto 1) ∷ block (twoInto 3 9 ∷ twoInto 4 10 ∷ []) Halt ∷ [])
+
+-- the same by the sampled word, and by a literal
+unfoldable pub SampledShifts : CFG
+SampledShifts = graph 5 (block (sampled 1 ∷ two 8 ∷ twoInto 3 9 ∷ twoInto 4 10 ∷ []) Halt ∷ [])
+
+unfoldable pub ShiftsBy : ℕ → CFG
+ShiftsBy literal = graph 5 (block (put 1 literal ∷ two 8 ∷ twoInto 3 9 ∷ twoInto 4 10 ∷ []) Halt ∷ [])

@@ -9,4 +9,5 @@ pub mod RunsAhead
 pub mod Flags
 pub mod Touches
 pub mod Ranges
+pub mod Shifts
 pub mod Table

@@ -34,6 +34,7 @@ use Rattle.worked_examples.specs.RunsAhead.{ahead}
 use Rattle.worked_examples.specs.Flags.{flags}
 use Rattle.worked_examples.specs.Touches.{touchRows}
 use Rattle.worked_examples.specs.Ranges.{rangeRows}
+use Rattle.worked_examples.specs.Shifts.{shiftRows}
 
 -- wires of each state
 abbrev wireCounts : CFG → List ℕ
@@ -170,7 +171,7 @@ rows =
 
 -- every row of the table
 abbrev pub table : List Row
-table = rows ++ (throughTables ++ (orders ++ (admission ++ (kept ++ (ahead ++ (flags ++ (touchRows ++ rangeRows)))))))
+table = rows ++ (throughTables ++ (orders ++ (admission ++ (kept ++ (ahead ++ (flags ++ (touchRows ++ (rangeRows ++ shiftRows))))))))
 
 -- The worked examples, as one statement: proofs/WorkedExamples proves it.
 pub record WorkedExamples : Type 0 where

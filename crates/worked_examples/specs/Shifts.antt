@@ -1,0 +1,82 @@
+-- R-6 of paper 02: shifts by the whole amount, in graph, machine and bounds, a row an amount. Assumes nothing.
+use Prim.Native.Nat.{ℕ, _^_, _-_}
+use mathlib.Core.Bool.{Bool, _&&_}
+use mathlib.Core.List.{List, [], _∷_, _++_}
+use lib.ListN.{replicate}
+use Rattle.word.specs.Word.{evalOf, overOf, arity}
+use Rattle.runs.specs.Lists.{same, concatMap}
+use Rattle.runs.specs.Operations.{answered, registersLeft}
+use Rattle.cfg.specs.Graph.{CFG, runBlock}
+use Rattle.cfg.specs.Table.{graphTableOf, graphOf, admittedGraph}
+use Rattle.cfg.specs.Run.{graphRefusal, graphRegisters, graphWordsRefusal, graphWordsRegisters}
+use Rattle.fsmd.specs.Machine.{clock}
+use Rattle.fsmd.specs.Table.{machineTableOf, machineOf, admittedMachine}
+use Rattle.fsmd.specs.Run.{machineRefusal, machineRegisters, machineWordsRefusal, machineWordsRegisters}
+use Rattle.grouping.specs.Grouping.{groups}
+use Rattle.synthesis.specs.Synthesis.{machine}
+use Rattle.bounds.specs.Range.{ruleOf, rangeOf}
+use Rattle.bounds.specs.Operation.{boundsAnswer, boundsAfter, lowestLeft, highestLeft}
+use Rattle.worked_examples.specs.Graphs.{Shifts, SampledShifts, ShiftsBy}
+use Rattle.worked_examples.specs.Rows.{Row, row, regs}
+
+-- r0, r1, and what shl, shr and sar made of them
+abbrev shifted : ℕ → ℕ → ℕ → ℕ → ℕ → List ℕ
+shifted a b l r s = (a ∷ b ∷ l ∷ r ∷ s ∷ []) ++ replicate 11 0
+
+-- a by b gives these in the graph, in its machine, and as bounds of its cycle
+abbrev shifts : ℕ → ℕ → ℕ → ℕ → ℕ → Bool
+shifts a b l r s =
+    let made = machineTableOf (machine Shifts) in
+    let end = shifted a b l r s in
+    same (graphRegisters (graphTableOf Shifts) (regs a b) 0 2) end
+    && same (machineRegisters made (regs a b) 0 1) end
+    && same (lowestLeft made (regs a b) (regs a b) 0) end
+    && same (highestLeft made (regs a b) (regs a b) 0) end
+
+-- likewise where b is sampled
+abbrev bySample : ℕ → ℕ → ℕ → ℕ → ℕ → Bool
+bySample a b l r s =
+    same (graphWordsRegisters (graphTableOf SampledShifts) (regs a 7) 0 1 (b ∷ []) (0 ∷ [])) (shifted a b l r s)
+    && same (machineWordsRegisters (machineTableOf (machine SampledShifts)) (regs a 7) 0 1 (b ∷ [])) (shifted a b l r s)
+
+-- and where it is a literal
+abbrev byLiteral : ℕ → ℕ → ℕ → ℕ → ℕ → Bool
+byLiteral a b l r s =
+    let made = machineTableOf (machine (ShiftsBy b)) in
+    same (graphRegisters (graphTableOf (ShiftsBy b)) (regs a 7) 0 1) (shifted a b l r s)
+    && same (machineRegisters made (regs a 7) 0 1) (shifted a b l r s)
+    && same (lowestLeft made (regs a 7) (regs a 7) 0) (shifted a b l r s)
+
+unfoldable pub shiftRows : List Row
+unfolding concatMap evalOf overOf arity ruleOf rangeOf groups machine answered registersLeft graphRefusal graphWordsRefusal graphOf runBlock machineRefusal machineWordsRefusal machineOf clock graphTableOf machineTableOf admittedGraph admittedMachine boundsAnswer boundsAfter lowestLeft highestLeft Shifts SampledShifts ShiftsBy
+shiftRows =
+    -- of a word whose sign bit is set
+    row "2684354561 by 0" (shifts 2684354561 0 2684354561 2684354561 2684354561)
+    ∷ row "2684354561 by 1" (shifts 2684354561 1 1073741826 1342177280 3489660928)
+    ∷ row "2684354561 by 31" (shifts 2684354561 31 2147483648 1 4294967295)
+    ∷ row "2684354561 by 32" (shifts 2684354561 32 0 0 4294967295)
+    ∷ row "2684354561 by 33" (shifts 2684354561 33 0 0 4294967295)
+    ∷ row "2684354561 by 63" (shifts 2684354561 63 0 0 4294967295)
+    ∷ row "2684354561 by 64" (shifts 2684354561 64 0 0 4294967295)
+    ∷ row "2684354561 by 2 ^ 31" (shifts 2684354561 2147483648 0 0 4294967295)
+    ∷ row "2684354561 by 4294967295" (shifts 2684354561 4294967295 0 0 4294967295)
+    -- and of one whose sign bit is not
+    ∷ row "1610612737 by 0" (shifts 1610612737 0 1610612737 1610612737 1610612737)
+    ∷ row "1610612737 by 1" (shifts 1610612737 1 3221225474 805306368 805306368)
+    ∷ row "1610612737 by 31" (shifts 1610612737 31 2147483648 0 0)
+    ∷ row "1610612737 by 32" (shifts 1610612737 32 0 0 0)
+    ∷ row "1610612737 by 33" (shifts 1610612737 33 0 0 0)
+    ∷ row "1610612737 by 63" (shifts 1610612737 63 0 0 0)
+    ∷ row "1610612737 by 64" (shifts 1610612737 64 0 0 0)
+    ∷ row "1610612737 by 2 ^ 31" (shifts 1610612737 2147483648 0 0 0)
+    ∷ row "1610612737 by 4294967295" (shifts 1610612737 4294967295 0 0 0)
+    -- by a sampled word, and by a literal
+    ∷ row "2684354561 by 31, sampled" (bySample 2684354561 31 2147483648 1 4294967295)
+    ∷ row "2684354561 by 32, sampled" (bySample 2684354561 32 0 0 4294967295)
+    ∷ row "2684354561 by 2 ^ 31, sampled" (bySample 2684354561 2147483648 0 0 4294967295)
+    ∷ row "2684354561 by 4294967295, sampled" (bySample 2684354561 4294967295 0 0 4294967295)
+    ∷ row "2684354561 by 31, a literal" (byLiteral 2684354561 31 2147483648 1 4294967295)
+    ∷ row "2684354561 by 32, a literal" (byLiteral 2684354561 32 0 0 4294967295)
+    ∷ row "2684354561 by 2 ^ 31, a literal" (byLiteral 2684354561 2147483648 0 0 4294967295)
+    ∷ row "2684354561 by 4294967295, a literal" (byLiteral 2684354561 4294967295 0 0 4294967295)
+    ∷ []

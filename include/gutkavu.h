@@ -27,6 +27,9 @@
  * the sum or difference of its signed operands is not in -2147483648 to 2147483647; its value is taken modulo 2^32 all
  * the same. The flag is clear when a run starts and stays set once raised, so a host that runs a machine piece by piece
  * joins the flags itself.
+ *
+ * shl, shr and sar shift by the whole second operand, read as unsigned, as IEEE 1800 has it: from 32 up shl and shr give
+ * 0, and sar gives 32 copies of the sign bit.
  */
 #ifndef GUTKAVU_H
 #define GUTKAVU_H

@@ -125,9 +125,10 @@ impl Binary {
         row(&BINARIES, |entry| entry.0 == self).map_or("", |entry| entry.2)
     }
 
-    /// Works in 64 bits and cuts the result, so no step can overflow.
+    /// Works in 64 bits and cuts the result, so no step can overflow. A shift by 32 moves every bit
+    /// out of the word, so a larger amount is taken as 32.
     pub fn apply(self, x: u32, y: u32) -> u32 {
-        let (wide, amount) = (u64::from(x), y % 32);
+        let (wide, amount) = (u64::from(x), y.min(32));
         let result = match self {
             Binary::Add => wide + u64::from(y),
             Binary::Sub => (1u64 << 32) + wide - u64::from(y),

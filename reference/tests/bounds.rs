@@ -212,8 +212,9 @@ fn other_codes() {
             assert_eq!(rule(code, &[a, b]), FULL, "{code}");
         }
     }
-    assert_eq!(rule(10, &[one(-200), one(33)]), one(-100));
-    assert_eq!(rule(9, &[one(-1), one(32)]), one(-1));
+    assert_eq!(rule(10, &[one(-200), one(1)]), one(-100));
+    assert_eq!(rule(10, &[one(-200), one(33)]), one(-1));
+    assert_eq!(rule(9, &[one(-1), one(32)]), one(0));
 }
 
 #[test]

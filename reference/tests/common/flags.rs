@@ -96,7 +96,7 @@ fn outside(result: i128) -> bool {
 fn goes_over(reading: Reading, event: &Event) -> bool {
     let Event { op, x, y, .. } = *event;
     if op == Binary::Shl && reading == ShiftsToo {
-        return x.leading_zeros() < y % 32;
+        return x != 0 && x.leading_zeros() < y;
     }
     if !matches!(op, Binary::Add | Binary::Sub) {
         return false;

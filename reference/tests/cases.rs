@@ -4,9 +4,9 @@ mod common;
 
 use reference::answer::{answer, digest, Answer};
 use reference::case::{read_cases, Asked, Bounds, Captures, Case};
-use reference::generate::cases;
 use reference::generate::sum_cases::one;
 use reference::generate::touch_cases::FOUR;
+use reference::generate::{cases, fixed};
 use reference::grouping::group;
 use reference::machine_table::WIRES_AT;
 use reference::operation::Operation;
@@ -154,6 +154,14 @@ fn many_cases_go_dry_together() {
         }
     }
     assert!(together > 100, "{together}");
+}
+
+/// Each fourth case is a fixed one, so that all of them are stored.
+#[test]
+fn all_fixed_cases_are_stored() {
+    let fixed = fixed::cases();
+    assert!(4 * fixed.len() <= stored().len(), "{} of {}", fixed.len(), stored().len());
+    assert!(fixed.iter().zip(stored().iter().step_by(4)).all(|(one, (stored, _))| one == stored));
 }
 
 #[test]

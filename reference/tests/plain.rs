@@ -121,7 +121,7 @@ fn bounds_agree(case: &Case, machine: &[u32], seen: &mut Seen) {
 #[test]
 fn the_plain_program_gives_what_the_second_gives() {
     let mut seen = Seen::new();
-    for case in generate::cases(31, 5_200) {
+    for case in generate::cases(31, 5_500) {
         let (graph, machine) = buffers_of(&case);
         texts_agree(&case, &graph, &mut seen);
         machines_agree(&case, &graph, &mut seen);

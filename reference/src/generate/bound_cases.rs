@@ -15,20 +15,23 @@ pub const SWING: &str = "graph,7,6\nblock,0\nsx,1,0\nset,2,0\nset,3,0\nset,5,0\n
 block,1\nite,lt,1,2,2,3\nblock,2\nset,3,1\nsub,4,2,1\ngoto,4\nblock,3\nset,3,2\ncopy,4,1\ngoto,4\n\
 block,4\nset,2,300\nite,ltu,4,2,6,5\nblock,5\nset,5,1\ngoto,6\nblock,6\nhalt\n";
 
+/// One state: these instructions, in blocks of eight, the last of which halts.
+pub fn chained(registers: usize, lines: &[String]) -> String {
+    let blocks: Vec<String> = lines.chunks(8).map(|lines| lines.join("\n")).collect();
+    let mut text = format!("graph,{},{registers}\n", blocks.len());
+    for (block, lines) in blocks.iter().enumerate() {
+        let next = block + 1;
+        let ending = if next == blocks.len() { "halt".into() } else { format!("goto,{next}") };
+        text += &format!("block,{block}\n{lines}\n{ending}\n");
+    }
+    text
+}
+
 /// One state: so many instructions over r0 and r1, into r3 and the registers behind it. Wire 0 is
 /// the arrival, and wire 1 + i is instruction i.
 pub fn panel_text(instructions: usize) -> String {
-    let blocks = instructions.div_ceil(8);
-    let mut text = format!("graph,{blocks},{}\n", 3 + instructions);
-    for block in 0..blocks {
-        text += &format!("block,{block}\n");
-        for at in 8 * block..instructions.min(8 * block + 8) {
-            text += &format!("add,{},0,1\n", 3 + at);
-        }
-        text +=
-            &if block + 1 == blocks { "halt\n".into() } else { format!("goto,{}\n", block + 1) };
-    }
-    text
+    let lines: Vec<String> = (3..3 + instructions).map(|d| format!("add,{d},0,1")).collect();
+    chained(3 + instructions, &lines)
 }
 
 fn case(text: &str, ends: &[Ends]) -> Case {

@@ -1,6 +1,6 @@
 //! Bounds of registers: single values, narrow ranges, and ends at which a rule changes its course.
 
-use super::words;
+use super::{words, Aim};
 use crate::answer::buffers_of;
 use crate::case::{Bounds, Case, MAX_REGISTER_BUFFER};
 use crate::graph::signed;
@@ -34,7 +34,7 @@ const ABOUT_ZERO: [Ends; 9] =
     [(0, 0), (0, 0), (-1, 0), (0, 1), (1, 1), (-1, 1), (-1, -1), (-5, -1), (1, 9)];
 
 /// About the ends of 16 bits, signed and unsigned.
-const ABOUT_HALF: [Ends; 15] = [
+const ABOUT_HALF: [Ends; 17] = [
     (-32_768, 32_767),
     (-32_769, 32_767),
     (-32_768, 32_768),
@@ -50,6 +50,8 @@ const ABOUT_HALF: [Ends; 15] = [
     (32_700, 32_767),
     (-32_768, -32_700),
     (33_000, 34_000),
+    (-32_769, -5),
+    (5, 32_768),
 ];
 
 fn clamped((low, high): Ends) -> Ends {
@@ -131,6 +133,22 @@ pub fn ranges(random: &mut Random, length: usize) -> Vec<Ends> {
     all.split_off(1)
 }
 
+/// About the amounts at which a shift changes its course.
+const ABOUT_32: [Ends; 8] =
+    [(0, 31), (31, 32), (32, 33), (33, 64), (32, MOST), (-1, 0), (LEAST, -1), (-33, -32)];
+
+/// Single words that are shifted, or that others are shifted by; some amounts are ranges.
+fn ranges_of_shifts(random: &mut Random, length: usize) -> Vec<Ends> {
+    let words = words::registers_of_shifts(random, length);
+    let single = |word| Ends::from([signed(word); 2]);
+    let some = random.percent(40);
+    let mut ends = |word| match some && random.percent(25) {
+        true => random.pick(&ABOUT_32),
+        false => single(word),
+    };
+    words.into_iter().map(&mut ends).collect()
+}
+
 /// Chances in a hundred of what is wrong with the buffers.
 #[derive(Clone, Copy)]
 struct Chances {
@@ -160,14 +178,17 @@ fn shorten(random: &mut Random, chances: Chances, buffer: &mut Vec<u32>) {
 }
 
 /// Bounds for the machine of a case; where several faults are wished for, mostly wrong ones.
-pub fn drawn(random: &mut Random, case: &Case, several: bool) -> Bounds {
+pub(super) fn drawn(random: &mut Random, case: &Case, aim: Aim) -> Bounds {
     let (_, table) = buffers_of(case);
     let registers = table.get(1).copied().unwrap_or(1).clamp(1, 16) as usize;
-    let chances = match several {
-        true => Chances { short: 25, reversed: 50 },
-        false => Chances { short: 2, reversed: 10 },
+    let chances = match aim {
+        Aim::Several => Chances { short: 25, reversed: 50 },
+        _ => Chances { short: 2, reversed: 10 },
     };
-    let mut ends = ranges(random, MAX_REGISTER_BUFFER);
+    let mut ends = match aim {
+        Aim::Shifts => ranges_of_shifts(random, MAX_REGISTER_BUFFER),
+        _ => ranges(random, MAX_REGISTER_BUFFER),
+    };
     reverse(random, chances, &mut ends, registers);
     let mut bounds = buffers(&ends);
     shorten(random, chances, &mut bounds.lowest);

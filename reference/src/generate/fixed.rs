@@ -2,7 +2,7 @@
 
 use super::examples::{self, P12, P7};
 use super::touch_words::mended;
-use super::{bound_cases, capture_cases, sum_cases, touch_cases, word_cases};
+use super::{bound_cases, capture_cases, shift_cases, sum_cases, touch_cases, word_cases};
 use crate::answer::buffers_of;
 use crate::case::{Asked, Case};
 use crate::graph::{Block, Comparison, Ending, Graph, Instruction, MAX_BLOCKS, MAX_REGISTERS};
@@ -197,5 +197,6 @@ pub fn cases() -> Vec<Case> {
     cases.extend(touch_cases::cases());
     with_bounds(&mut cases);
     cases.extend(bound_cases::cases());
+    cases.extend(shift_cases::cases());
     with_captures(cases)
 }

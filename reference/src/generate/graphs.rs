@@ -89,17 +89,48 @@ fn sum_instruction(random: &mut Random, registers: usize) -> Instruction {
     }
 }
 
-/// One of the sums that go over, or just do not, behind its operands; of two registers at least.
+/// An instruction behind the operands that it is to have; of two registers at least.
+fn on_words(
+    random: &mut Random,
+    registers: usize,
+    op: Binary,
+    [x, y]: [u32; 2],
+) -> [Instruction; 3] {
+    let a = random.below(registers);
+    let b = (a + random.between(1, registers - 1)) % registers;
+    let set = |d, word: u32| Instruction::Set { d, literal: word as i32 };
+    [set(a, x), set(b, y), Instruction::Binary { op, d: random.below(registers), a, b }]
+}
+
+/// One of the sums that go over, or just do not.
 fn sum_at_an_end(random: &mut Random, registers: usize) -> [Instruction; 3] {
     let (name, x, y) = match random.percent(40) {
         true => random.pick(&OVER),
         false => random.pick(&WITHIN),
     };
     let op = if name == "add" { Binary::Add } else { Binary::Sub };
-    let a = random.below(registers);
-    let b = (a + random.between(1, registers - 1)) % registers;
-    let set = |d, word: u32| Instruction::Set { d, literal: word as i32 };
-    [set(a, x), set(b, y), Instruction::Binary { op, d: random.below(registers), a, b }]
+    on_words(random, registers, op, [x, y])
+}
+
+const SHIFTS: [Binary; 3] = [Binary::Shl, Binary::Shr, Binary::Sar];
+
+/// Mostly a shift, and words to shift and to shift by.
+fn shift_instruction(random: &mut Random, registers: usize) -> Instruction {
+    let d = random.below(registers);
+    let (a, b) = (random.below(registers), random.below(registers));
+    match random.below(12) {
+        0 | 1 => Instruction::Set { d, literal: words::amount(random) as i32 },
+        2 => Instruction::Set { d, literal: random.pick(&words::SHIFTED) as i32 },
+        3 | 4 => any_instruction(random, registers),
+        _ => Instruction::Binary { op: random.pick(&SHIFTS), d, a, b },
+    }
+}
+
+/// A word with bits at its ends, shifted by one of the amounts.
+fn shift_by_an_amount(random: &mut Random, registers: usize) -> [Instruction; 3] {
+    let operands = [random.pick(&words::SHIFTED), words::amount(random)];
+    let op = random.pick(&SHIFTS);
+    on_words(random, registers, op, operands)
 }
 
 fn any_ending(random: &mut Random, registers: usize, successors: &[usize]) -> Ending {
@@ -213,8 +244,15 @@ pub fn graph(random: &mut Random) -> Graph {
     with_inputs_or_not(random, graph)
 }
 
-/// A graph with many adds and subs, often several blocks to a state.
-pub fn sum_graph(random: &mut Random) -> Graph {
+/// What fills the blocks of a graph: an instruction, or one behind its operands.
+#[derive(Clone, Copy)]
+struct Filling {
+    instruction: fn(&mut Random, usize) -> Instruction,
+    on_words: fn(&mut Random, usize) -> [Instruction; 3],
+}
+
+/// A graph of one filling, often with several blocks to a state.
+fn filled(random: &mut Random, filling: Filling) -> Graph {
     let branching = random.percent(60);
     let size = Size {
         blocks: random.between(if branching { 4 } else { 1 }, 9),
@@ -228,10 +266,10 @@ pub fn sum_graph(random: &mut Random) -> Graph {
     let mut graph = fill(random, &made, size);
     for block in &mut graph.blocks {
         block.instructions = match random.percent(45) {
-            true => sum_at_an_end(random, size.registers).to_vec(),
+            true => (filling.on_words)(random, size.registers).to_vec(),
             false => {
                 let count = random.between(0, size.instructions);
-                (0..count).map(|_| sum_instruction(random, size.registers)).collect()
+                (0..count).map(|_| (filling.instruction)(random, size.registers)).collect()
             }
         };
     }
@@ -239,6 +277,16 @@ pub fn sum_graph(random: &mut Random) -> Graph {
         tame(random, &mut graph);
     }
     with_inputs_or_not(random, graph)
+}
+
+/// A graph with many adds and subs.
+pub fn sum_graph(random: &mut Random) -> Graph {
+    filled(random, Filling { instruction: sum_instruction, on_words: sum_at_an_end })
+}
+
+/// A graph with many shifts.
+pub fn shift_graph(random: &mut Random) -> Graph {
+    filled(random, Filling { instruction: shift_instruction, on_words: shift_by_an_amount })
 }
 
 /// What bounds have a rule for more often than what makes them full.

@@ -21,6 +21,7 @@ mod row;
 mod runs;
 mod several;
 pub mod shapes;
+pub mod shift_cases;
 pub mod sum_cases;
 pub mod texts;
 pub mod touch_cases;
@@ -30,7 +31,7 @@ pub mod word_cases;
 pub mod words;
 
 use crate::answer::buffers_of;
-use crate::case::{Asked, Case};
+use crate::case::{Asked, Case, MAX_WORDS};
 use crate::graph_table::{self, GRAPH_WORDS};
 use crate::machine_table::{self, MACHINE_WORDS};
 use crate::print::print;
@@ -51,10 +52,11 @@ enum Aim {
     Touches,
     Bounds,
     Several,
+    Shifts,
 }
 
 fn aim(random: &mut Random) -> Aim {
-    match random.below(1_000) {
+    match random.below(1_064) {
         0..=79 => Aim::Valid,
         80..=209 => Aim::Text,
         210..=220 => Aim::LongText,
@@ -66,7 +68,8 @@ fn aim(random: &mut Random) -> Aim {
         508..=679 => Aim::Sums,
         680..=733 => Aim::Touches,
         734..=881 => Aim::Bounds,
-        _ => Aim::Several,
+        882..=999 => Aim::Several,
+        _ => Aim::Shifts,
     }
 }
 
@@ -77,6 +80,7 @@ fn text(random: &mut Random, aim: Aim) -> Vec<u8> {
         Aim::Valid => print(&graphs::graph(random)).into_bytes(),
         Aim::Sums => print(&graphs::sum_graph(random)).into_bytes(),
         Aim::Bounds => print(&graphs::bounded_graph(random)).into_bytes(),
+        Aim::Shifts => print(&graphs::shift_graph(random)).into_bytes(),
         _ if random.percent(55) => print(&graphs::small_graph(random)).into_bytes(),
         _ => print(&graphs::graph(random)).into_bytes(),
     }
@@ -89,6 +93,20 @@ fn output_length(random: &mut Random, text: usize) -> u32 {
     random.pick(&choices) as u32
 }
 
+/// Words for registers, and words to be read.
+fn words_for(random: &mut Random, aim: Aim, case: &mut Case) {
+    let length = random.pick(&[16, 16, 16, 16, 17, 20]);
+    case.registers = match aim {
+        Aim::Sums => words::registers_near_ends(random, length),
+        Aim::Shifts => words::registers_of_shifts(random, length),
+        _ => words::registers(random, length),
+    };
+    case.words = match aim {
+        Aim::Shifts => words::registers_of_shifts(random, MAX_WORDS),
+        _ => words::registers(random, MAX_WORDS),
+    };
+}
+
 fn buffers(random: &mut Random, aim: Aim, case: &mut Case) {
     case.output_length = match random.percent(40) {
         true => output_length(random, case.text.len()),
@@ -98,11 +116,6 @@ fn buffers(random: &mut Random, aim: Aim, case: &mut Case) {
         case.graph_length = random.pick(&[2_563, 2_570, 2_600]);
         case.machine_length = random.pick(&[13_699, 13_698, 13_764]);
     }
-    let length = random.pick(&[16, 16, 16, 16, 17, 20]);
-    case.registers = match aim {
-        Aim::Sums => words::registers_near_ends(random, length),
-        _ => words::registers(random, length),
-    };
     if aim == Aim::Buffers {
         short_buffers(random, case);
     }
@@ -131,6 +144,11 @@ fn short_buffers(random: &mut Random, case: &mut Case) {
     }
 }
 
+/// Whether the bounds are asked for a state that there is.
+fn about_a_state(aim: Aim) -> bool {
+    matches!(aim, Aim::Bounds | Aim::Shifts)
+}
+
 fn damage(random: &mut Random, aim: Aim, case: &mut Case) {
     let (graph, _) = buffers_of(case);
     let whole = graph.len() >= GRAPH_WORDS && graph_table::decode(&graph).is_some();
@@ -148,10 +166,10 @@ fn damage(random: &mut Random, aim: Aim, case: &mut Case) {
     if aim == Aim::Sums && made && random.percent(55) {
         case.machine_patches = arrival_damage::patches(random, &machine);
     }
-    if aim == Aim::Bounds && made {
+    if about_a_state(aim) && made {
         let state = random.below(machine[0] as usize);
         case.asked.state = state as u32;
-        if random.percent(50) {
+        if aim == Aim::Bounds && random.percent(50) {
             case.machine_patches = bound_damage::patches(random, &machine, state);
         }
     }
@@ -165,6 +183,7 @@ fn damage(random: &mut Random, aim: Aim, case: &mut Case) {
 
 fn aimed(random: &mut Random, aim: Aim) -> Case {
     let mut case = Case::plain(&text(random, aim));
+    words_for(random, aim, &mut case);
     buffers(random, aim, &mut case);
     damage(random, aim, &mut case);
     runs::choose(random, aim == Aim::Starts, &mut case);
@@ -181,9 +200,9 @@ pub fn case(seed: u64, index: u64) -> Case {
     };
     case.captures = captures::captures(random, &case);
     let asked = questions::question(random, &case);
-    let about = aim == Aim::Bounds && random.percent(88);
+    let about = about_a_state(aim) && random.percent(88);
     case.asked = if about { Asked { register: asked.register, ..case.asked } } else { asked };
-    case.bounds = bound_words::drawn(random, &case, aim == Aim::Several);
+    case.bounds = bound_words::drawn(random, &case, aim);
     case
 }
 

@@ -1,9 +1,9 @@
 //! What a case's runs get: starts, budgets, words and starters.
 
-use super::{lists, words};
+use super::lists;
 use crate::answer::buffers_of;
 use crate::block_set::BlockSet;
-use crate::case::{Case, MAX_WORDS};
+use crate::case::Case;
 use crate::graph::Graph;
 use crate::graph_table::{self, GRAPH_WORDS};
 use crate::grouping::group;
@@ -142,6 +142,7 @@ pub fn started_machine(case: &Case) -> Option<Machine> {
     Found::of(case).started(case).machine
 }
 
+/// Of the words that the case has, it keeps as many as its runs need, or more, or fewer.
 pub fn choose(random: &mut Random, about_starts: bool, case: &mut Case) {
     let found = Found::of(case);
     let own = found.graph.as_ref().map_or(vec![0], |graph| group(graph).starters);
@@ -155,7 +156,6 @@ pub fn choose(random: &mut Random, about_starts: bool, case: &mut Case) {
         (case.start_block, case.start_state) = (own[state] as u32, state as u32);
     }
     case.starters = lists::starters(random, &own, blocks, case.start_block);
-    case.words = words::registers(random, MAX_WORDS);
     let Found { graph, machine } = found.started(case);
     let mut needed = Vec::new();
     case.block_budget = random.pick(&[0, 1, 7, 50]);

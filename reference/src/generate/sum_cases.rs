@@ -104,7 +104,8 @@ pub const TWO_SUMS: [&str; 4] = [
 /// Nothing reaches the block that adds; a graph's run may start there.
 pub const LOST: &str = "graph,3,4\nblock,0\ngoto,1\nblock,1\nhalt\nblock,2\nadd,2,0,1\ngoto,1\n";
 
-fn case(text: &str, registers: &[u32], budget: u32) -> Case {
+/// A case with the machine's own starters on these registers.
+pub fn case(text: &str, registers: &[u32], budget: u32) -> Case {
     let mut case = Case::plain(text.as_bytes());
     case.starters = own_starters(text.as_bytes());
     case.registers[..registers.len()].copy_from_slice(registers);

@@ -21,11 +21,11 @@ fn all_registers(table: &Table) -> u32 {
     (1 << table.registers()) - 1
 }
 
-/// Mostly below R, else R's own or one past it.
+/// As often below R as R's own or one past it.
 fn some_bit(random: &mut Random, table: &Table) -> usize {
     let (r, own) = (table.registers(), random.below(table.registers()));
     let (unused, high) = (random.between(r, 31), random.between(16, 31));
-    random.pick(&[own, own, own, r - 1, r, unused, high, 31])
+    random.pick(&[own, own, own, own, r - 1, r, unused, high, 31, 31])
 }
 
 pub fn one_bit(random: &mut Random, table: &Table) -> Vec<Patch> {

@@ -51,3 +51,38 @@ pub fn registers(random: &mut Random, length: usize) -> Vec<u32> {
 pub fn registers_near_ends(random: &mut Random, length: usize) -> Vec<u32> {
     (0..length).map(|_| near_end(random)).collect()
 }
+
+/// Amounts of shifts: about 32 and its multiples, and such as are another amount with fewer bits or
+/// with a sign.
+pub const AMOUNTS: [u32; 30] = [
+    0, 1, 30, 31, 32, 33, 62, 63, 64, 65, 95, 96, 127, 128, 255, 256, 257, 287, 65_535, 65_536,
+    65_567, 2_147_483_647, 2_147_483_648, 2_147_483_649, 2_147_483_679, 2_147_483_680,
+    4_294_967_264, 4_294_967_265, 4_294_967_294, 4_294_967_295,
+];
+
+/// Words on which shifts show: bits at both ends, alone and not, and every second bit.
+pub const SHIFTED: [u32; 8] = [
+    1, 2_147_483_647, 2_147_483_648, 4_294_967_295, 2_863_311_530, 1_431_655_765, 0, 2_147_483_649,
+];
+
+/// An amount to shift by, those about 32 more often.
+pub fn amount(random: &mut Random) -> u32 {
+    match random.percent(35) {
+        true => random.pick(&[31, 31, 32, 32, 33]),
+        false => random.pick(&AMOUNTS),
+    }
+}
+
+/// A word to shift, or an amount.
+fn of_shifts(random: &mut Random) -> u32 {
+    match random.below(10) {
+        0..=5 => amount(random),
+        6..=8 => random.pick(&SHIFTED),
+        _ => random.word(),
+    }
+}
+
+/// A register buffer, or a list of words, for graphs that shift.
+pub fn registers_of_shifts(random: &mut Random, length: usize) -> Vec<u32> {
+    (0..length).map(|_| of_shifts(random)).collect()
+}

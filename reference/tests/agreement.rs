@@ -200,6 +200,20 @@ fn flags_agree_from_every_starter() {
     assert!(flags.iter().all(|&moments| moments > 4_000), "{flags:?}");
 }
 
+/// Shifts by amounts below 32 and from there up, in graphs of several blocks to a state.
+#[test]
+fn shifts_agree_from_every_starter() {
+    let mut random = Random::new(33);
+    for made in many_shift_graphs(34, 800).into_iter().map(Made::of) {
+        for state in 0..made.starters.len() {
+            let registers = words::registers_of_shifts(&mut random, 16);
+            let words = words::registers_of_shifts(&mut random, 40);
+            let begin = Begin { state, registers: &registers, words: &words };
+            made.check(&begin, &[0, 1, 2, 3, 5, 8, 13, 40, 41]);
+        }
+    }
+}
+
 #[test]
 fn first_cycles_agree_from_every_starter() {
     let mut random = Random::new(21);

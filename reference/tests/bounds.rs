@@ -314,9 +314,10 @@ fn some_ranges(random: &mut Random, registers: usize) -> Vec<Range> {
 fn machines(seed: u64, count: usize) -> impl Iterator<Item = (Machine, Vec<Range>, Random)> {
     (0..count as u64).map(move |index| {
         let mut random = Random::at(seed, index);
-        let graph = match random.below(3) {
+        let graph = match random.below(4) {
             0 => graphs::graph(&mut random),
             1 => graphs::sum_graph(&mut random),
+            2 => graphs::shift_graph(&mut random),
             _ => graphs::bounded_graph(&mut random),
         };
         let machine = decode(&machine_table_of(&print(&graph))).expect("a machine");
@@ -405,7 +406,7 @@ fn every_rate_of_the_swing_ends_inside() {
 #[test]
 fn single_values_give_the_cycle() {
     let mut seen = 0;
-    for (machine, ranges, mut random) in machines(74, 1_500).filter(|(one, ..)| !one.reads_words())
+    for (machine, ranges, mut random) in machines(74, 1_800).filter(|(one, ..)| !one.reads_words())
     {
         let words: Vec<u32> = ranges.iter().map(|&one| inside(&mut random, one)).collect();
         let single: Vec<Range> = words.iter().map(|&word| Range::single(signed(word))).collect();

@@ -1,5 +1,6 @@
 //! R-5 of paper 02 over the words of machine tables, and what wrong readings of it do otherwise.
 
+use super::shifts::{self, is_shift, shifted, Place};
 use reference::graph::{sign_extend, signed, Binary, Comparison};
 use reference::machine_table::{MACHINE_WORDS, RECORDS_AT, RECORD_WORDS, WIRES_AT};
 
@@ -129,6 +130,8 @@ pub enum Reading {
     TurnedOnThirteen,
     /// What would be answered is written before the state or the ends are judged.
     WrittenOnRefusal,
+    // Of R-6.
+    OfShifts(shifts::Reading),
 }
 
 use Reading::*;
@@ -291,9 +294,18 @@ fn comparison(reading: Reading, code: u32, a: Ends, b: Ends) -> Ends {
     }
 }
 
+/// How shifts are read.
+fn of_shifts(reading: Reading) -> shifts::Reading {
+    match reading {
+        OfShifts(reading) => reading.at(Place::Bounds),
+        _ => shifts::Reading::Right,
+    }
+}
+
 /// The value of a code on single inputs.
-fn value(code: u32, [a, b, c]: [u32; 3]) -> u32 {
+fn value(reading: Reading, code: u32, [a, b, c]: [u32; 3]) -> u32 {
     match (Binary::from_code(code), Comparison::from_code(code)) {
+        (Some(op), _) if is_shift(op) => shifted(of_shifts(reading), op, a, b),
         (Some(op), _) => op.apply(a, b),
         (_, Some(comparison)) => comparison.holds(a, b).into(),
         _ => match code {
@@ -333,6 +345,9 @@ fn rule(reading: Reading, code: u32, [a, b, c]: [Ends; 3]) -> Ends {
         2 => a,
         3 | 4 => sum(reading, code, a, b),
         5 if reading == AndNarrow && a.0 >= 0 && b.0 >= 0 => (0, a.1.min(b.1)),
+        8..=10 => Binary::from_code(code)
+            .and_then(|op| shifts::range(of_shifts(reading), op, a, b))
+            .unwrap_or(FULL),
         11 => extended(reading, a),
         12..=17 => comparison(reading, code, a, b),
         19 => choice(reading, a, b, c),
@@ -353,7 +368,7 @@ fn wire(reading: Reading, words: &[u32], at: impl Fn(u32) -> Option<Ends>) -> En
         (20, InKept) => return at(0).unwrap_or(FULL),
         (20, _) => return FULL,
         (4 | 12..=17, OneReference) if words[1] == words[2] => {
-            let exact = signed(value(code, [0; 3]));
+            let exact = signed(value(reading, code, [0; 3]));
             return (exact, exact);
         }
         _ => (),
@@ -361,7 +376,7 @@ fn wire(reading: Reading, words: &[u32], at: impl Fn(u32) -> Option<Ends>) -> En
     let inputs = [1, 2, 3].map(|slot| at(words[slot]).unwrap_or(FULL));
     match is_exact(reading, code, inputs.map(single)) {
         true => {
-            let exact = signed(value(code, inputs.map(|(low, _)| word(low))));
+            let exact = signed(value(reading, code, inputs.map(|(low, _)| word(low))));
             (exact, exact)
         }
         false => rule(reading, code, inputs),

@@ -5,6 +5,8 @@
 pub mod bounds;
 pub mod flags;
 pub mod recordings;
+pub mod shifted_runs;
+pub mod shifts;
 pub mod touch;
 pub mod traces;
 
@@ -157,6 +159,12 @@ pub fn many_silent_graphs(seed: u64, count: usize) -> Vec<Graph> {
 pub fn many_sum_graphs(seed: u64, count: usize) -> Vec<Graph> {
     let mut random = Random::new(seed);
     (0..count).map(|_| graphs::sum_graph(&mut random)).collect()
+}
+
+/// Random valid graphs with many shifts.
+pub fn many_shift_graphs(seed: u64, count: usize) -> Vec<Graph> {
+    let mut random = Random::new(seed);
+    (0..count).map(|_| graphs::shift_graph(&mut random)).collect()
 }
 
 /// All endings of a block among so many: halt, goto, ite.

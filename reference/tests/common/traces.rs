@@ -48,10 +48,10 @@ pub struct Trace {
 }
 
 /// The words of a run, or None for a run without words.
-type Words<'a> = Option<&'a [u32]>;
+pub type Words<'a> = Option<&'a [u32]>;
 
 /// Whether there is a word for an arrival, and which.
-fn sampled(words: Words, arrival: usize) -> Option<u32> {
+pub fn sampled(words: Words, arrival: usize) -> Option<u32> {
     words.map_or(Some(0), |list| list.get(arrival).copied())
 }
 

@@ -1,9 +1,11 @@
-//! The commands: cases, answers, list, stats, text, pieces, compare, fit, bench, texts, draw.
+//! The commands: cases, answers, list, stats, text, pieces, compare, fit, simulate, bench, texts,
+//! draw.
 
 mod bench;
 mod compare;
 mod draw;
 mod fit_check;
+mod simulate;
 mod tally;
 
 use reference::answer::answer;
@@ -24,6 +26,7 @@ const USAGE: &str = "usage: reference cases SEED COUNT > cases
        reference pieces BYTES < text
        reference compare SEED COUNT
        reference fit SEED COUNT
+       reference simulate SEED COUNT
        reference bench
        reference texts FOLDER
        reference draw [--touching R] < text
@@ -98,6 +101,7 @@ fn command(arguments: &[&str]) -> Result<Vec<u8>, String> {
         ["pieces", length] => pieces(length),
         ["compare", seed, count] => seeded(seed, count, compare::command),
         ["fit", seed, count] => seeded(seed, count, fit_check::command),
+        ["simulate", seed, count] => seeded(seed, count, simulate::command),
         ["bench"] => bench::bench(),
         ["texts", folder] => bench::texts::texts(folder),
         ["draw"] => draw::draw(&input()?, None),

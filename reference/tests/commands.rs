@@ -139,3 +139,27 @@ fn fit() {
     assert!(text.starts_with("graphs,500\n"), "{text}");
     assert_eq!(passes(&["fit", "3", "500"]), text);
 }
+
+/// The simulator agrees with the proved library, and every count is above 0.
+#[test]
+fn simulate() {
+    let text = passes(&["simulate", "3", "200"]);
+    assert!(text.ends_with("seed 3: 200 graphs, 0 differ\n"), "{text}");
+    assert!(text.starts_with("Icarus Verilog version "), "{text}");
+    assert!(text.contains("\nsar worked out, amount from 2^31 up,"), "{text}");
+    assert_eq!(passes(&["simulate", "3", "200"]), text);
+}
+
+/// Without the simulator nothing passes, and the message says what is missing.
+#[test]
+fn simulate_without_a_simulator() {
+    let output = Command::new(env!("CARGO_BIN_EXE_reference"))
+        .args(["simulate", "3", "1"])
+        .env("PATH", "/nowhere")
+        .output()
+        .expect("the binary ends");
+    assert!(!output.status.success() && output.stdout.is_empty());
+    let message = String::from_utf8_lossy(&output.stderr).into_owned();
+    assert!(message.starts_with("iverilog does not start ("), "{message}");
+    assert!(message.contains("tools/install-packages"), "{message}");
+}

@@ -130,7 +130,7 @@ fn telling(subjects: &[Subject], wrong: Wrong, enough: usize) -> usize {
 
 /// Of machines that are not large, so that it is quick.
 fn each_is_told_apart(wrong: &[Wrong]) {
-    let drawn = (0..300).map(|index| Subject::at(7, index).expect("a graph"));
+    let drawn = (0..600).map(|index| Subject::at(7, index).expect("a graph"));
     let subjects: Vec<Subject> = drawn.filter(|subject| subject.codes().len() < 150).collect();
     for (number, &one) in wrong.iter().enumerate() {
         let found = telling(&subjects, one, 3);

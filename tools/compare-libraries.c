@@ -20,6 +20,9 @@ SAME_FORM(gutkavu_run_graph);
 SAME_FORM(gutkavu_run_machine);
 SAME_FORM(gutkavu_run_graph_with_words);
 SAME_FORM(gutkavu_run_machine_with_words);
+SAME_FORM(gutkavu_touches);
+SAME_FORM(gutkavu_first_touching);
+SAME_FORM(gutkavu_bounds);
 
 #define SAME_NUMBER(name) _Static_assert((int)name == (int)EARLIER_##name, #name " is another in the earlier library")
 SAME_NUMBER(GUTKAVU_TEXT_BYTES);
@@ -45,6 +48,9 @@ struct library {
     __typeof__(gutkavu_run_machine) *run_machine;
     __typeof__(gutkavu_run_graph_with_words) *run_graph_with_words;
     __typeof__(gutkavu_run_machine_with_words) *run_machine_with_words;
+    __typeof__(gutkavu_touches) *touches;
+    __typeof__(gutkavu_first_touching) *first_touching;
+    __typeof__(gutkavu_bounds) *bounds;
     size_t machine_words;
     /* Within their pages the tables of both libraries stand at the same places. */
     _Alignas(PAGE) uint32_t graph[GUTKAVU_GRAPH_WORDS];
@@ -60,15 +66,29 @@ struct library {
      .run_machine = before##gutkavu_run_machine,                                                                       \
      .run_graph_with_words = before##gutkavu_run_graph_with_words,                                                     \
      .run_machine_with_words = before##gutkavu_run_machine_with_words,                                                 \
+     .touches = before##gutkavu_touches,                                                                               \
+     .first_touching = before##gutkavu_first_touching,                                                                 \
+     .bounds = before##gutkavu_bounds,                                                                                 \
      .machine_words = BEFORE##GUTKAVU_MACHINE_WORDS}
 static struct library now = LIBRARY(, ), earlier = LIBRARY(earlier_, EARLIER_);
 
-enum operation { READ, WRITE, SYNTHESISE, GRAPH, MACHINE, GRAPH_WITH_WORDS, MACHINE_WITH_WORDS };
+enum operation {
+    READ,
+    WRITE,
+    SYNTHESISE,
+    GRAPH,
+    MACHINE,
+    GRAPH_WITH_WORDS,
+    MACHINE_WITH_WORDS,
+    TOUCHES,
+    FIRST_TOUCHING,
+    BOUNDS
+};
 
 struct row {
     const char *name;
     enum operation operation;
-    uint32_t budget;
+    uint32_t budget; /* of bounds: every register is between its negative and it */
 };
 
 static const struct row rows[] = {
@@ -83,12 +103,30 @@ static const struct row rows[] = {
     {"run machine, 1", MACHINE, 1},
     {"run machine with words, 1000", MACHINE_WITH_WORDS, 1000},
     {"run machine with words, 1", MACHINE_WITH_WORDS, 1},
+    {"touches", TOUCHES, 0},
+    {"first touching", FIRST_TOUCHING, 0},
+    {"bounds, single", BOUNDS, 0},
+    {"bounds, -720 to 720", BOUNDS, 720},
 };
 
 static uint8_t text[GUTKAVU_TEXT_BYTES + 1];
 static size_t text_length;
 static uint32_t file[GUTKAVU_REGISTER_WORDS], words[WORDS];
 static volatile uint32_t kept; /* what calls leave, so that the compiler drops none */
+
+/* Of the last state. */
+static uint32_t call_bounds(struct library *of, uint32_t most)
+{
+    uint32_t lowest[GUTKAVU_REGISTER_WORDS], highest[GUTKAVU_REGISTER_WORDS];
+    for (int i = 0; i < GUTKAVU_REGISTER_WORDS; i++) {
+        lowest[i] = -most;
+        highest[i] = most;
+    }
+    uint32_t number = of->bounds(of->machine, of->machine_words, lowest, GUTKAVU_REGISTER_WORDS, highest,
+                                 GUTKAVU_REGISTER_WORDS, of->machine[0] - 1);
+    kept += lowest[0] + highest[0];
+    return number;
+}
 
 static uint32_t call(struct library *of, const struct row *row)
 {
@@ -120,6 +158,14 @@ static uint32_t call(struct library *of, const struct row *row)
         number = of->run_machine_with_words(of->machine, m, r, f, 0, budget, words, WORDS, &outcome, &count, &next,
                                             &flag);
         break;
+    case TOUCHES:
+        number = of->touches(of->machine, m, of->machine[0] - 1, 0, &count);
+        break;
+    case FIRST_TOUCHING:
+        number = of->first_touching(of->machine, m, of->machine[1] - 1, &count);
+        break;
+    case BOUNDS:
+        return call_bounds(of, budget);
     }
     kept += r[0] + outcome + count + next + flag;
     return number;

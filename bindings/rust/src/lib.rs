@@ -33,6 +33,9 @@
 //! # Ok::<(), Box<dyn std::error::Error>>(())
 //! ```
 //!
+//! `shl`, `shr` and `sar` shift by the whole second operand, read as unsigned: from 32 up `shl` and
+//! `shr` give 0, and `sar` gives 32 copies of the sign bit.
+//!
 //! A graph that reads input words (`in,d`) is run with a list of them, one for each arrival at a
 //! starter. Without a word for an arrival the run is dry.
 //!

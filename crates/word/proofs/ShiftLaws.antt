@@ -5,7 +5,7 @@ use native.Mathlib.Nat.{lt-of-lt-of-le, div-eq-of-lt, mod-eq-of-lt, mul-assoc, m
 use native.Mathlib.Omega.{arith}
 use mathlib.Core.Path.{_≡_, refl, sym, ap, _∙_}
 use mathlib.Core.Bool.{Bool, true, false}
-use lib.IntN.{ℤ, pos, negsuc}
+use lib.IntN.{pos, negsuc}
 use lib.Signed.{shrZ}
 use lib.Dec.{ltb}
 use lib.Pow.{pow-add, pow-mono}

@@ -147,5 +147,5 @@ Shifts = graph 5 (block (two 8 ∷ []) (Goto 1) ∷ block (twoInto 3 9 ∷ twoIn
 unfoldable pub SampledShifts : CFG
 SampledShifts = graph 5 (block (sampled 1 ∷ two 8 ∷ twoInto 3 9 ∷ twoInto 4 10 ∷ []) Halt ∷ [])
 
-unfoldable pub ShiftsBy : ℕ → CFG
-ShiftsBy literal = graph 5 (block (put 1 literal ∷ two 8 ∷ twoInto 3 9 ∷ twoInto 4 10 ∷ []) Halt ∷ [])
+unfoldable pub LiteralShifts : ℕ → CFG
+LiteralShifts literal = graph 5 (block (put 1 literal ∷ two 8 ∷ twoInto 3 9 ∷ twoInto 4 10 ∷ []) Halt ∷ [])

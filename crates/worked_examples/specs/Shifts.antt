@@ -1,5 +1,5 @@
 -- R-6 of paper 02: shifts by the whole amount, in graph, machine and bounds, a row an amount. Assumes nothing.
-use Prim.Native.Nat.{ℕ, _^_, _-_}
+use Prim.Native.Nat.{ℕ}
 use mathlib.Core.Bool.{Bool, _&&_}
 use mathlib.Core.List.{List, [], _∷_, _++_}
 use lib.ListN.{replicate}
@@ -16,39 +16,38 @@ use Rattle.grouping.specs.Grouping.{groups}
 use Rattle.synthesis.specs.Synthesis.{machine}
 use Rattle.bounds.specs.Range.{ruleOf, rangeOf}
 use Rattle.bounds.specs.Operation.{boundsAnswer, boundsAfter, lowestLeft, highestLeft}
-use Rattle.worked_examples.specs.Graphs.{Shifts, SampledShifts, ShiftsBy}
+use Rattle.worked_examples.specs.Graphs.{Shifts, SampledShifts, LiteralShifts}
 use Rattle.worked_examples.specs.Rows.{Row, row, regs}
 
 -- r0, r1, and what shl, shr and sar made of them
 abbrev shifted : ℕ → ℕ → ℕ → ℕ → ℕ → List ℕ
 shifted a b l r s = (a ∷ b ∷ l ∷ r ∷ s ∷ []) ++ replicate 11 0
 
--- a by b gives these in the graph, in its machine, and as bounds of its cycle
-abbrev shifts : ℕ → ℕ → ℕ → ℕ → ℕ → Bool
-shifts a b l r s =
-    let made = machineTableOf (machine Shifts) in
-    let end = shifted a b l r s in
-    same (graphRegisters (graphTableOf Shifts) (regs a b) 0 2) end
-    && same (machineRegisters made (regs a b) 0 1) end
-    && same (lowestLeft made (regs a b) (regs a b) 0) end
-    && same (highestLeft made (regs a b) (regs a b) 0) end
+-- from registers rs a graph, its machine, and the bounds of its one cycle end in these
+abbrev allEnd : CFG → List ℕ → List ℕ → Bool
+allEnd g rs end =
+    let made = machineTableOf (machine g) in
+    same (graphRegisters (graphTableOf g) rs 0 2) end
+    && same (machineRegisters made rs 0 1) end
+    && same (lowestLeft made rs rs 0) end
+    && same (highestLeft made rs rs 0) end
 
--- likewise where b is sampled
+-- a by b, where b is in a register
+abbrev shifts : ℕ → ℕ → ℕ → ℕ → ℕ → Bool
+shifts a b l r s = allEnd Shifts (regs a b) (shifted a b l r s)
+
+-- where it is a literal
+abbrev byLiteral : ℕ → ℕ → ℕ → ℕ → ℕ → Bool
+byLiteral a b l r s = allEnd (LiteralShifts b) (regs a 7) (shifted a b l r s)
+
+-- where it is sampled, and bounds do not know it
 abbrev bySample : ℕ → ℕ → ℕ → ℕ → ℕ → Bool
 bySample a b l r s =
     same (graphWordsRegisters (graphTableOf SampledShifts) (regs a 7) 0 1 (b ∷ []) (0 ∷ [])) (shifted a b l r s)
     && same (machineWordsRegisters (machineTableOf (machine SampledShifts)) (regs a 7) 0 1 (b ∷ [])) (shifted a b l r s)
 
--- and where it is a literal
-abbrev byLiteral : ℕ → ℕ → ℕ → ℕ → ℕ → Bool
-byLiteral a b l r s =
-    let made = machineTableOf (machine (ShiftsBy b)) in
-    same (graphRegisters (graphTableOf (ShiftsBy b)) (regs a 7) 0 1) (shifted a b l r s)
-    && same (machineRegisters made (regs a 7) 0 1) (shifted a b l r s)
-    && same (lowestLeft made (regs a 7) (regs a 7) 0) (shifted a b l r s)
-
 unfoldable pub shiftRows : List Row
-unfolding concatMap evalOf overOf arity ruleOf rangeOf groups machine answered registersLeft graphRefusal graphWordsRefusal graphOf runBlock machineRefusal machineWordsRefusal machineOf clock graphTableOf machineTableOf admittedGraph admittedMachine boundsAnswer boundsAfter lowestLeft highestLeft Shifts SampledShifts ShiftsBy
+unfolding concatMap evalOf overOf arity ruleOf rangeOf groups machine answered registersLeft graphRefusal graphWordsRefusal graphOf runBlock machineRefusal machineWordsRefusal machineOf clock graphTableOf machineTableOf admittedGraph admittedMachine boundsAnswer boundsAfter lowestLeft highestLeft Shifts SampledShifts LiteralShifts
 shiftRows =
     -- of a word whose sign bit is set
     row "2684354561 by 0" (shifts 2684354561 0 2684354561 2684354561 2684354561)

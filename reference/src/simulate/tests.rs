@@ -220,10 +220,10 @@ fn another_code_differs() {
     }
 }
 
-type Lie = fn(&mut RunWithWordsFields, &mut [u32]);
+type Fault = fn(&mut RunWithWordsFields, &mut [u32]);
 
 /// What a library may get wrong.
-const LIES: [Lie; 13] = [
+const FAULTS: [Fault; 13] = [
     |_, registers| registers[0] ^= 1,
     |_, registers| registers[7] ^= LEAST,
     |_, registers| registers[8] += 1,
@@ -242,12 +242,12 @@ const LIES: [Lie; 13] = [
 /// Each is found in each run of so many cycles, and in no other.
 #[test]
 fn other_libraries_differ() {
-    for (number, lie) in LIES.iter().enumerate() {
+    for (number, fault) in FAULTS.iter().enumerate() {
         for cycle in 1..=7 {
             let library = |table: &[u32], registers: &mut [u32], state, budget, words: &[u32]| {
                 let mut fields = LIBRARY(table, registers, state, budget, words);
                 if budget == cycle {
-                    lie(&mut fields, registers);
+                    fault(&mut fields, registers);
                 }
                 fields
             };
@@ -257,7 +257,7 @@ fn other_libraries_differ() {
                 3..=6 => &[0, 1],
                 _ => &[1],
             };
-            assert_eq!(runs, expected, "lie {number} of budget {cycle}\n{text}");
+            assert_eq!(runs, expected, "fault {number} of budget {cycle}\n{text}");
         }
     }
 }

@@ -6,6 +6,7 @@ pub mod RunLaws
 pub mod FlagLaws
 pub mod Every
 pub mod SupplyLaws
+pub mod TotalLaws
 pub mod OperationLaws
 pub mod KeptRegisters
 pub mod Fronts

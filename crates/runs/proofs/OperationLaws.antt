@@ -9,12 +9,13 @@ use lib.Dec.{ltb}
 use borrow.Author.Tests.{ne-eqb}
 use Rattle.word.specs.Word.{truth}
 use Rattle.word.specs.RegisterFile.{fileWords}
-use Rattle.runs.specs.Runs.{Place, standing, halted, Configuration, startAt, Supply, Runner, times, stepsRun, outcome, answer, registersAfter, runNumber, runOutcome, runCount, runNext, runFlag}
-use Rattle.runs.specs.Operations.{answered, registersLeft, nextAt, outcomeAt, RunValues}
+use Rattle.runs.specs.Runs.{Place, standing, halted, Configuration, startAt, Supply, Runner, times, stepsRun, total, outcome, answer, registersAfter, runNumber, runOutcome, runCount, runNext, runFlag}
+use Rattle.runs.specs.Operations.{answered, registersLeft, totalOf, nextAt, outcomeAt, RunValues}
 use Rattle.runs.specs.declared.RunAnswer.{RunAnswer}
 use Rattle.runs.specs.declared.RunAnswer.the-variants.{Refused}
 use Rattle.runs.proofs.FlagLaws.{flag-exactly, truth-one}
 use Rattle.runs.proofs.SupplyLaws.{Alike, answer-alike, registers-alike}
+use Rattle.runs.proofs.TotalLaws.{total-alike}
 
 module _ (r : Runner) (ws : Supply) (buffer : List ℕ) (start budget : ℕ) (n : ℕ) where
   module _ (m : ℕ) (e : n ≡ suc m) where
@@ -51,6 +52,22 @@ module _ (r : Runner) (ws : Supply) (buffer : List ℕ) (start budget : ℕ) (n 
         ∙ ap (λ (l : List ℕ). l ++ drop fileWords buffer) (registers-alike r a ws budget h start (take fileWords buffer))
         ∙ sym (accepted-left e),
   )
+
+-- ---- what is counted
+
+module _ (f : ℕ → ℕ → List ℕ → ℕ) (r : Runner) (ws : Supply) (buffer : List ℕ) (start budget : ℕ) (n : ℕ) where
+  pub refused-total : (m : ℕ) → n ≡ suc m → totalOf f n r ws buffer start budget ≡ 0
+  unfolding totalOf
+  refused-total m e = rw (e, ne-eqb (suc m) 0 (λ h. absurd (omega arith)))
+
+  pub accepted-total : n ≡ 0 → totalOf f n r ws buffer start budget ≡ total r ws f budget (startAt start (take fileWords buffer))
+  unfolding totalOf
+  accepted-total e = rw e
+
+  -- from a run on other words that are alike as far as the budget goes
+  pub accepts-total : (a : Supply) → Alike budget a ws → n ≡ 0
+      → total r a f budget (startAt start (take fileWords buffer)) ≡ totalOf f n r ws buffer start budget
+  accepts-total a h e = total-alike r a ws f budget h start (take fileWords buffer) ∙ sym (accepted-total e)
 
 -- ---- the fields of an answer
 

@@ -26,7 +26,7 @@ pub record Alike (n : ℕ) (a b : Supply) : Type 0 where
   pub lasts : (j : ℕ) → j < n → a .lasts j ≡ b .lasts j
 
 module _ (r : Runner) (a b : Supply) where
-  step-next : (c : Configuration) → step r a c .arrivals ≤ suc (c .arrivals)
+  pub step-next : (c : Configuration) → step r a c .arrivals ≤ suc (c .arrivals)
   step-next c = go (goes a c) refl
     where
       go : (t : Bool) → goes a c ≡ t → step r a c .arrivals ≤ suc (c .arrivals)
@@ -37,10 +37,10 @@ module _ (r : Runner) (a b : Supply) where
       go false e = rw (step-ended r a c e) (omega arith)
 
   module _ (n : ℕ) (alike : Alike n a b) where
-    goes-alike : (c : Configuration) → c .arrivals < n → goes a c ≡ goes b c
+    pub goes-alike : (c : Configuration) → c .arrivals < n → goes a c ≡ goes b c
     goes-alike c l = ap (λ (w : Bool). onward (c .place) w false (λ n. true)) (alike .lasts (c .arrivals) l)
 
-    step-alike : (c : Configuration) → c .arrivals < n → step r a c ≡ step r b c
+    pub step-alike : (c : Configuration) → c .arrivals < n → step r a c ≡ step r b c
     unfolding step
     step-alike c l = rw (alike .lasts (c .arrivals) l, alike .word (c .arrivals) l)
 

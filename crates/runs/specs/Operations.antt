@@ -8,7 +8,7 @@ use lib.ListN.{take, drop}
 use lib.Dec.{eqb, ltb}
 use Rattle.word.specs.Word.{choose, truth}
 use Rattle.word.specs.RegisterFile.{fileWords}
-use Rattle.runs.specs.Runs.{Place, standing, halted, noPlace, Configuration, startAt, Supply, Runner, times, stepsRun, SomeOver, answer, registersAfter, runNumber, runOutcome, runCount, runNext, runFlag}
+use Rattle.runs.specs.Runs.{Place, standing, halted, noPlace, Configuration, startAt, Supply, Runner, times, stepsRun, total, SomeOver, answer, registersAfter, runNumber, runOutcome, runCount, runNext, runFlag}
 use Rattle.runs.specs.declared.RunAnswer.{RunAnswer}
 use Rattle.runs.specs.declared.RunAnswer.the-variants.{Refused}
 
@@ -23,6 +23,11 @@ unfoldable pub registersLeft : ℕ → Runner → Supply → List ℕ → ℕ �
 unfolding registersAfter
 registersLeft n r ws buffer start budget =
     choose (eqb n 0) (registersAfter r ws budget (startAt start (take fileWords buffer)) ++ drop fileWords buffer) buffer
+
+-- what f counts in the run, added up; 0 of a refused operation
+unfoldable pub totalOf : (ℕ → ℕ → List ℕ → ℕ) → ℕ → Runner → Supply → List ℕ → ℕ → ℕ → ℕ
+unfolding total
+totalOf f n r ws buffer start budget = choose (eqb n 0) (total r ws f budget (startAt start (take fileWords buffer))) 0
 
 -- ---- the papers' fields of the answer, from the run itself
 

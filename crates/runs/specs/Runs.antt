@@ -1,5 +1,5 @@
--- Runs ("Runs" of paper 01, R-1 and R-2 of paper 02), for graphs and machines alike. Assumes nothing.
-use Prim.Native.Nat.{ℕ, zero, suc, _<_}
+-- Runs ("Runs" of paper 01, R-1, R-2 and R-7 of paper 02), for graphs and machines alike. Assumes nothing.
+use Prim.Native.Nat.{ℕ, zero, suc, _+_, _<_}
 use mathlib.Core.Bool.{Bool, true, false, _||_}
 use mathlib.Core.List.{List}
 use mathlib.Core.Path.{_≡_}
@@ -124,6 +124,13 @@ module _ (r : Runner) (ws : Supply) where
   unfolding step
   stepsRun zero c = zero
   stepsRun (suc k) c = onward (c .place) (ws .lasts (c .arrivals)) zero (λ n. suc (stepsRun k (step c)))
+
+  -- what f counts at each of k steps that is run, added up: f is of the sampled word, the block or state, and the registers
+  unfoldable pub total : (ℕ → ℕ → List ℕ → ℕ) → ℕ → Configuration → ℕ
+  unfolding step
+  total f zero c = 0
+  total f (suc k) c =
+      onward (c .place) (ws .lasts (c .arrivals)) 0 (λ n. f (ws .word (c .arrivals)) n (c .contents .registers) + total f k (step c))
 
   -- whether the step from c goes over; none is run where c has halted or is dry
   abbrev pub stepOver : Configuration → Bool

@@ -13,9 +13,9 @@ use Rattle.cfg.specs.Graph.{instructionsOf}
 use Rattle.cfg.specs.Table.{blockAt}
 use Rattle.fsmd.specs.declared.Wire.{Wire}
 use Rattle.grouping.specs.Grouping.{Groups}
-use Rattle.state.specs.Wires.{Edge, StateBuild, BlockBuild, fresh, leaves, nextStateOf, closeState, set-wire, join, joins, arrive, startBlock, enter, assigns, after, leadsTo, towards}
+use Rattle.state.specs.Wires.{Edge, StateBuild, BlockBuild, nothing, fresh, leaves, nextStateOf, closeState, set-wire, join, joins, arrive, startBlock, enter, assigns, after, leadsTo, towards}
 use Rattle.state.specs.Making.{wiresIn, pending, edgesIn, stored, Room, Held, groupsIn, stateBuildIn, Built, putBlock}
-use Rattle.state.specs.BlocksMaking.{buildBlocks, nothing, stateBlocks}
+use Rattle.state.specs.BlocksMaking.{buildBlocks, stateBlocks}
 use Rattle.state.proofs.StoredWires.{length-wiresIn, stored-again, stored-none}
 use Rattle.state.proofs.JoinLaws.{grow-join}
 use Rattle.state.proofs.AssignLaws.{grow-assigns}

@@ -157,6 +157,23 @@ unfolding put
 build g s [] b = b
 build g s (x ∷ xs) b = build g s xs (put g s x b)
 
+-- no block placed
+abbrev pub nothing : StateBuild
+nothing = record { wires = []; edges = [] }
+
+-- the references of the arrivals of the blocks xs, placed one after another
+unfoldable pub arrivalsIn : CFG → Groups → List ℕ → StateBuild → List ℕ
+unfolding enter put
+arrivalsIn g s [] b = []
+arrivalsIn g s (x ∷ xs) b = enter (g .registers) (mem x (s .starters)) x b .arrival ∷ arrivalsIn g s xs (put g s x b)
+
+-- that of block x; 0 where it is none of them
+unfoldable pub arrivalIn : CFG → Groups → ℕ → List ℕ → StateBuild → ℕ
+unfolding enter put
+arrivalIn g s x [] b = 0
+arrivalIn g s x (y ∷ ys) b =
+    choose (eqb y x) (enter (g .registers) (mem y (s .starters)) y b .arrival) (arrivalIn g s x ys (put g s y b))
+
 -- ---- the exits: edges to starters and halts
 
 abbrev pub leaves : Groups → Place → Bool
@@ -195,6 +212,13 @@ closeState s (e ∷ es) ws =
 unfoldable pub stateMade : CFG → Groups → ℕ → State
 unfolding order build closeState
 stateMade g s k =
-    let b = build g s (order g s k) (record { wires = []; edges = [] }) in
+    let b = build g s (order g s k) nothing in
     let p = closeState s (towards (leaves s) (b .edges)) (b .wires) in
     record { wires = p .wires; next = p .arrival; nextRegisters = p .values }
+
+-- the reference of block x's arrival in its state; 0 of an absent block
+unfoldable pub arrivalMade : CFG → Groups → ℕ → ℕ
+unfolding order arrivalIn
+arrivalMade g s x =
+    let k = getD (s .states) x absent in
+    choose (eqb k absent) 0 (arrivalIn g s x (order g s k) nothing)

@@ -12,8 +12,9 @@ ghost use mathlib.Core.Path.{_≡_};
 ghost use Prim.Native.Nat.{_*_, _≤_};
 ghost use lib.ListN.{length, take};
 ghost use Rattle.fsmd.specs.Layout.{maxRegisters};
+ghost use Rattle.state.specs.Wires.{nothing};
 ghost use Rattle.state.specs.Making.{maxEdges, Room, Held, Edged, Built, GroupedBytes};
-ghost use Rattle.state.specs.BlocksMaking.{buildBlocks, nothing, AllPlaceable, stateBlocks};
+ghost use Rattle.state.specs.BlocksMaking.{buildBlocks, AllPlaceable, stateBlocks};
 
 // A block in the making: the reference of its arrival, and how many wires its state has so far.
 pub struct BlockProgress {

@@ -19,7 +19,7 @@ use Rattle.fsmd.specs.Layout.{maxRegisters}
 use Rattle.fsmd.specs.Machine.{State, worked, wiresOver}
 use Rattle.grouping.specs.Grouping.{Groups}
 use Rattle.placement.specs.Placement.{order}
-use Rattle.state.specs.Wires.{towards, leadsTo, StateBuild, arrive, startBlock, enter, after, put, build, leaves, nextStateOf, closeState, stateMade}
+use Rattle.state.specs.Wires.{towards, leadsTo, StateBuild, arrive, startBlock, enter, after, put, nothing, build, leaves, nextStateOf, closeState, stateMade}
 use Rattle.synthesis.proofs.GraphFacts.{GraphFits}
 use Rattle.placement.proofs.StateOrder.{Ahead, Ordered, StateOrder}
 use Rattle.synthesis.proofs.Readings.{Reads, start-reads}
@@ -95,15 +95,12 @@ module _ (g : CFG) (s : Groups) where
   unfolding put enter
   put-starter x b h = rw h
 
-abbrev none-built : StateBuild
-none-built = record { wires = []; edges = [] }
-
 module _ (g : CFG) (s : Groups) (sampled : ℕ) (rs : List ℕ) (size : length rs ≡ maxRegisters) (f : GraphFits g) (b₀ : ℕ) where
-  first-edge : (xs : List ℕ) → mem b₀ (s .starters) ≡ true → Ahead (s .starters) xs (successors g b₀) → TakenEdge g s sampled rs b₀ xs (put g s b₀ none-built) 1
+  first-edge : (xs : List ℕ) → mem b₀ (s .starters) ≡ true → Ahead (s .starters) xs (successors g b₀) → TakenEdge g s sampled rs b₀ xs (put g s b₀ nothing) 1
   unfolding startBlock runBlock
   first-edge xs h a =
       let R = g .registers in
-      rw (put-starter g s b₀ none-built h) (record {
+      rw (put-starter g s b₀ nothing h) (record {
         reached = runBlock sampled (blockOf g b₀) rs;
         raised = block-over sampled rs size R [] (blockOf g b₀) (startBlock R []) true (f .block b₀ .body) (start-reads sampled rs size R [] 1 (f .fewRegisters))
             ∙ ap (λ (o : Bool). o || instructionsOver sampled (instructionsOf (blockOf g b₀)) rs) (start-over sampled rs R);
@@ -199,7 +196,7 @@ pub record CycleAgrees (g : CFG) (s : Groups) (sampled : ℕ) (rs : List ℕ) (k
   pub raised : wiresOver sampled rs (stateMade g s k .wires) ≡ reached .over
 
 state-is : (g : CFG) (s : Groups) (k : ℕ) (xs : List ℕ) → order g s k ≡ xs
-    → let z = build g s xs none-built in
+    → let z = build g s xs nothing in
     let p = closeState s (towards (leaves s) (z .edges)) (z .wires) in
     stateMade g s k ≡ record { wires = p .wires; next = p .arrival; nextRegisters = p .values }
 unfolding stateMade
@@ -210,8 +207,8 @@ unfolding build
 cycle-agrees g s sampled rs size f k b h =
     let R = g .registers in
     let xs = h .others in
-    let t = build-edge g s sampled rs size f b xs (put g s b none-built) 1 (h .ordered) (first-edge g s sampled rs size f b xs (h .starter) (h .ahead)) in
-    let z = build g s xs (put g s b none-built) in
+    let t = build-edge g s sampled rs size f b xs (put g s b nothing) 1 (h .ordered) (first-edge g s sampled rs size f b xs (h .starter) (h .ahead)) in
+    let z = build g s xs (put g s b nothing) in
     let l = towards-none s (t .reached .place) (t .onward) in
     let m = t .few in
     record {

@@ -21,9 +21,9 @@ use Rattle.grouping.specs.Grouping.{Groups}
 use Rattle.grouping.proofs.Reach.{Closed, admitted-closed}
 use Rattle.grouping.proofs.GroupingLaws.{Grouped}
 use Rattle.placement.specs.Placement.{order}
-use Rattle.state.specs.Wires.{StateBuild, BlockBuild, put, build, stateMade}
+use Rattle.state.specs.Wires.{StateBuild, BlockBuild, nothing, put, build, stateMade}
 use Rattle.state.specs.Making.{Aims, Placeable, putBlock}
-use Rattle.state.specs.BlocksMaking.{buildBlocks, nothing, AllPlaceable, stateBlocks}
+use Rattle.state.specs.BlocksMaking.{buildBlocks, AllPlaceable, stateBlocks}
 use Rattle.placement.proofs.PlacementLaws.{order-length, placed}
 use Rattle.placement.proofs.PlacedOrder.{members-few}
 

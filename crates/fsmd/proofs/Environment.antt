@@ -161,3 +161,9 @@ clocked s t k first count at r ef ec ea em rs env next state over e eo es er =
     (er ∙ ap₂ (λ (i m : ℕ). map (λ x. getD env x 0) (take m (drop (i + nextRegistersOffset) t)) ++ drop m rs) ea em
     ∙ ap (λ (v : List ℕ). map (λ x. getD v x 0) (take (getD t 1 0) (drop (recordOffset k + nextRegistersOffset) t)) ++ drop (getD t 1 0) rs) w)
     o)
+
+-- what the state's wires have in a cycle, by its first wire and their number
+pub environment : (sampled : ℕ) (t : List ℕ) (k first count : ℕ) → first ≡ firstWireAt t k → count ≡ wireCountAt t k → (rs : List ℕ)
+    → worked sampled rs (wiresFrom t first count) ≡ worked sampled rs (stateAt t k .wires)
+unfolding stateAt
+environment sampled t k first count ef ec rs = ap₂ (λ (f n : ℕ). worked sampled rs (wiresFrom t f n)) ef ec

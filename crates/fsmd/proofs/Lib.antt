@@ -6,6 +6,8 @@ pub mod Apart
 pub mod Machines
 pub mod Steps
 pub mod WrittenTable
+pub mod BlockLaws
+pub mod ChainLaws
 pub mod ReadBack
 pub mod Unrefused
 pub mod KeptRegisters

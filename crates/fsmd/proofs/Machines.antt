@@ -9,9 +9,9 @@ use borrow.Author.Tests.{leb-true, le-leb, eqb-true, eq-eqb}
 use Rattle.runs.proofs.Every.{below-at, below-of}
 use Rattle.runs.proofs.ListLaws.{and-left, and-right, and-both, every-map, length-upFrom, getD-map-upFrom}
 use Rattle.runs.specs.Lists.{upFrom, every}
-use Rattle.fsmd.specs.Layout.{maxStates, maxRegisters, maxWires, recordOffset, nextStateOffset, nextRegistersOffset}
+use Rattle.fsmd.specs.Layout.{maxStates, maxBlocks, maxRegisters, maxWires, recordOffset, nextStateOffset, nextRegistersOffset}
 use Rattle.fsmd.specs.Machine.{stateOf, emptyState, wordlessMachine}
-use Rattle.fsmd.specs.Table.{firstWireAt, wireCountAt, stateAt, machineOf, validReference, validWires, validState, within, apart, touchAt, rightTouch, admittedMachine}
+use Rattle.fsmd.specs.Table.{firstWireAt, wireCountAt, stateAt, machineOf, validReference, validWires, validState, within, apart, touchAt, rightTouch, rightBlock, rightBlocks, admittedMachine}
 use Rattle.fsmd.specs.Touch.{touchWord}
 use Rattle.fsmd.proofs.Windows.{wiresFrom, wires-length}
 
@@ -81,12 +81,14 @@ pub admitted-is : (t : List ℕ) (n r : ℕ) → n ≡ getD t 0 0 → r ≡ getD
     → admittedMachine t
     ≡ (leb 1 n && leb n maxStates && leb 1 r && leb r maxRegisters && every (within t) (upFrom 0 n)
     && every (λ k. every (λ j. apart t j k) (upFrom 0 k)) (upFrom 0 n)
-    && every (λ k. validState r (stateAt t k) && rightTouch t k) (upFrom 0 n))
+    && every (λ k. validState r (stateAt t k) && rightTouch t k) (upFrom 0 n)
+    && rightBlocks t)
 unfolding admittedMachine
 admitted-is t n r en er =
     sym (ap₂ (λ (n r : ℕ). leb 1 n && leb n maxStates && leb 1 r && leb r maxRegisters && every (within t) (upFrom 0 n)
     && every (λ k. every (λ j. apart t j k) (upFrom 0 k)) (upFrom 0 n)
-    && every (λ k. validState r (stateAt t k) && rightTouch t k) (upFrom 0 n)) en er)
+    && every (λ k. validState r (stateAt t k) && rightTouch t k) (upFrom 0 n)
+    && rightBlocks t) en er)
 
 pub record Admitted (t : List ℕ) : Type 0 where
   pub some-states : 1 ≤ getD t 0 0
@@ -97,6 +99,7 @@ pub record Admitted (t : List ℕ) : Type 0 where
   pub separate : (j k : ℕ) → j < k → k < getD t 0 0 → apart t j k ≡ true
   pub valid : (k : ℕ) → k < getD t 0 0 → validState (getD t 1 0) (stateAt t k) ≡ true
   pub touch : (k : ℕ) → k < getD t 0 0 → touchAt t k ≡ touchWord (stateAt t k .nextRegisters)
+  pub blocks : (b : ℕ) → b < maxBlocks → rightBlock t b ≡ true
 
 pub admitted-facts : (t : List ℕ) → admittedMachine t ≡ true → Admitted t
 unfolding admittedMachine
@@ -111,7 +114,9 @@ admitted-facts t e =
     let g = every (λ k. every (λ j. apart t j k) (upFrom 0 k)) (upFrom 0 n) in
     let p : ℕ → Bool = λ k. validState r (stateAt t k) && rightTouch t k in
     let h = every p (upFrom 0 n) in
-    let e6 = and-left (a && b && c && d && f && g) h e in
+    let i = rightBlocks t in
+    let e7 = and-left (a && b && c && d && f && g && h) i e in
+    let e6 = and-left (a && b && c && d && f && g) h e7 in
     let e5 = and-left (a && b && c && d && f) g e6 in
     let e4 = and-left (a && b && c && d) f e5 in
     let e3 = and-left (a && b && c) d e4 in
@@ -123,9 +128,10 @@ admitted-facts t e =
       few-registers = leb-true r maxRegisters (and-right (a && b && c) d e4);
       in-space = λ k q. leb-true (firstWireAt t k + wireCountAt t k) maxWires (below-at (within t) n k (and-right (a && b && c && d) f e5) q);
       separate = λ j k q p. below-at (λ i. apart t i k) k j (below-at (λ i. every (λ j. apart t j i) (upFrom 0 i)) n k (and-right (a && b && c && d && f) g e6) p) q;
-      valid = λ k q. and-left (validState r (stateAt t k)) (rightTouch t k) (below-at p n k (and-right (a && b && c && d && f && g) h e) q);
+      valid = λ k q. and-left (validState r (stateAt t k)) (rightTouch t k) (below-at p n k (and-right (a && b && c && d && f && g) h e7) q);
       touch = λ k q.
-          eqb-true (touchAt t k) (touchWord (stateAt t k .nextRegisters)) (and-right (validState r (stateAt t k)) (rightTouch t k) (below-at p n k (and-right (a && b && c && d && f && g) h e) q));
+          eqb-true (touchAt t k) (touchWord (stateAt t k .nextRegisters)) (and-right (validState r (stateAt t k)) (rightTouch t k) (below-at p n k (and-right (a && b && c && d && f && g) h e7) q));
+      blocks = λ x q. below-at (rightBlock t) maxBlocks x (and-right (a && b && c && d && f && g && h) i e) q;
     }
 
 pub facts-admitted : (t : List ℕ) → Admitted t → admittedMachine t ≡ true
@@ -140,4 +146,5 @@ facts-admitted t m =
     let p : ℕ → Bool = λ k. validState r (stateAt t k) && rightTouch t k in
     let h : every p (upFrom 0 n) ≡ true =
     below-of p n (λ k q. and-both (validState r (stateAt t k)) (rightTouch t k) (m .valid k q) (eq-eqb (touchAt t k) (touchWord (stateAt t k .nextRegisters)) (m .touch k q))) in
-    rw (le-leb 1 n (m .some-states), le-leb n maxStates (m .few-states), le-leb 1 r (m .some-registers), le-leb r maxRegisters (m .few-registers), f, g) h
+    rw (le-leb 1 n (m .some-states), le-leb n maxStates (m .few-states), le-leb 1 r (m .some-registers), le-leb r maxRegisters (m .few-registers), f, g, h)
+    (below-of (rightBlock t) maxBlocks (m .blocks))

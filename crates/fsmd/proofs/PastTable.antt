@@ -1,24 +1,24 @@
 -- Machine tables with words past their length: the same are admitted, with the same machine, and run alike. Assumes nothing.
 use Prim.Native.Nat.{ℕ, _+_, _≤_, _<_}
 use native.Mathlib.Omega.{arith}
-use mathlib.Core.Bool.{Bool, true, false, not}
+use mathlib.Core.Bool.{Bool, true, false, not, _&&_}
 use mathlib.Core.List.{List, _++_, map}
 use mathlib.Core.Path.{_≡_, refl, sym, ap, ap₂, _∙_}
-use lib.Dec.{ltb}
+use lib.Dec.{eqb, leb, ltb}
 use lib.ListN.{length, getD, take, drop, length-append}
-use borrow.Author.Tests.{le-ltb}
+use borrow.Author.Tests.{le-ltb, ltb-true}
 use Rattle.word.specs.Word.{choose}
 use Rattle.runs.specs.Lists.{upFrom}
 use Rattle.runs.specs.Runs.{listed, unread}
 use Rattle.runs.proofs.ListLaws.{same-test}
 use Rattle.runs.proofs.Fronts.{SameFront, front-past, front-sym, map-same}
-use Rattle.runs.proofs.PastRegisters.{past-answered, past-left}
+use Rattle.runs.proofs.PastRegisters.{past-answered, past-left, past-total}
 use Rattle.fsmd.specs.declared.Wire.{Wire}
-use Rattle.fsmd.specs.Layout.{maxStates, maxBlocks, maxRegisters, maxWires, startersOffset, blockStatesOffset, recordOffset, nextStateOffset, nextRegistersOffset, touchOffset, wireOffset, machineWords}
-use Rattle.fsmd.specs.Machine.{State, FSMD, machineRunner, wordlessMachine}
+use Rattle.fsmd.specs.Layout.{maxStates, maxBlocks, maxRegisters, maxWires, startersOffset, blockStatesOffset, recordOffset, nextStateOffset, nextRegistersOffset, touchOffset, wireOffset, arrivalsOffset, absent, machineWords}
+use Rattle.fsmd.specs.Machine.{State, FSMD, machineRunner, blocksRun, wordlessMachine}
 use Rattle.fsmd.specs.Touch.{touchWord}
-use Rattle.fsmd.specs.Table.{wireAt, firstWireAt, wireCountAt, stateAt, machineOf, admittedMachine}
-use Rattle.fsmd.specs.Run.{machineRefusal, machineAnswer, machineRegisters, machineWordsRefusal, machineWordsAnswer, machineWordsRegisters}
+use Rattle.fsmd.specs.Table.{wireAt, firstWireAt, wireCountAt, stateAt, blockStateAt, arrivalAt, machineOf, rightBlock, admittedMachine}
+use Rattle.fsmd.specs.Run.{machineRefusal, machineAnswer, machineRegisters, machineBlocks, machineWordsRefusal, machineWordsAnswer, machineWordsRegisters, machineWordsBlocks}
 use Rattle.fsmd.proofs.Machines.{Admitted, admitted-facts, facts-admitted}
 use Rattle.fsmd.proofs.Steps.{refuse-machine}
 use Rattle.fsmd.proofs.Unrefused.{unrefused, words-unrefused}
@@ -28,6 +28,10 @@ use Rattle.fsmd.proofs.Unrefused.{unrefused, words-unrefused}
 four-same : (p q r s p′ q′ r′ s′ : ℕ) → p ≡ p′ → q ≡ q′ → r ≡ r′ → s ≡ s′
     → _≡_ {A = Wire} (record { code = p; a = q; b = r; c = s }) (record { code = p′; a = q′; b = r′; c = s′ })
 four-same p q r s p′ q′ r′ s′ e₁ e₂ e₃ e₄ = cc
+
+five-same : {r r′ : ℕ} {s s′ b b′ a a′ : List ℕ} {q q′ : List State} → r ≡ r′ → s ≡ s′ → b ≡ b′ → a ≡ a′ → q ≡ q′
+    → _≡_ {A = FSMD} (record { registers = r; starters = s; blockStates = b; arrivals = a; states = q }) (record { registers = r′; starters = s′; blockStates = b′; arrivals = a′; states = q′ })
+five-same er es eb ea eq = λ i. record { registers = er i; starters = es i; blockStates = eb i; arrivals = ea i; states = eq i }
 
 module _ {t t′ : List ℕ} (f : SameFront machineWords t t′) where
   first-same : (k : ℕ) → k < maxStates → firstWireAt t k ≡ firstWireAt t′ k
@@ -60,9 +64,21 @@ module _ {t t′ : List ℕ} (f : SameFront machineWords t t′) where
       let states = map-same (stateAt t) (stateAt t′) 0 (getD t 0 0) (λ k lo hi. state-same k (omega arith) (a .few-registers) (a .in-space k (omega arith)))
       ∙ ap (λ (n : ℕ). map (stateAt t′) (upFrom 0 n)) (f .word 0 (omega arith)) in
       let starters = f .words startersOffset (getD t 0 0) (omega arith) ∙ ap (λ (n : ℕ). take n (drop startersOffset t′)) (f .word 0 (omega arith)) in
-      ap₂ {C = FSMD} (λ (x : ℕ × List ℕ) (y : List ℕ × List State). record { registers = x .0; starters = x .1; blockStates = y .0; states = y .1 })
-      (ap₂ {C = ℕ × List ℕ} (λ (r : ℕ) (l : List ℕ). (r, l)) (f .word 1 (omega arith)) starters)
-      (ap₂ {C = List ℕ × List State} (λ (l : List ℕ) (q : List State). (l, q)) (f .words blockStatesOffset maxBlocks (omega arith)) states)
+      five-same (f .word 1 (omega arith)) starters (f .words blockStatesOffset maxBlocks (omega arith)) (f .words arrivalsOffset maxBlocks (omega arith)) states
+
+  -- a block whose state is none of the machine's is not right, whatever words stand where its record would be
+  block-same : getD t 0 0 ≤ maxStates → (b : ℕ) → b < maxBlocks → rightBlock t b ≡ rightBlock t′ b
+  block-same few b h =
+      let k = blockStateAt t b in
+      let n = getD t 0 0 in
+      let e : rightBlock t′ b ≡ choose (eqb k absent) (eqb (arrivalAt t b) 0) (ltb k n && leb maxRegisters (arrivalAt t b) && ltb (arrivalAt t b) (maxRegisters + wireCountAt t′ k)) =
+      rw (f .word (blockStatesOffset + b) (omega arith), f .word (arrivalsOffset + b) (omega arith), f .word 0 (omega arith)) refl in
+      go (ltb k n) refl ∙ sym e
+    where
+      go : (c : Bool) → ltb (blockStateAt t b) (getD t 0 0) ≡ c
+          → rightBlock t b ≡ choose (eqb (blockStateAt t b) absent) (eqb (arrivalAt t b) 0) (ltb (blockStateAt t b) (getD t 0 0) && leb maxRegisters (arrivalAt t b) && ltb (arrivalAt t b) (maxRegisters + wireCountAt t′ (blockStateAt t b)))
+      go true c = rw (count-same (blockStateAt t b) (omega (arith, ltb-true (blockStateAt t b) (getD t 0 0) c)))
+      go false c = rw c
 
   carried : Admitted t → Admitted t′
   carried a =
@@ -80,6 +96,7 @@ module _ {t t′ : List ℕ} (f : SameFront machineWords t t′) where
         touch = λ k h.
             sym (f .word (recordOffset k + touchOffset) (omega arith)) ∙ a .touch k (omega arith)
             ∙ ap (λ (q : State). touchWord (q .nextRegisters)) (state-same k (omega arith) (a .few-registers) (a .in-space k (omega arith)));
+        blocks = λ b h. sym (block-same (a .few-states) b h) ∙ a .blocks b h;
       }
 
 admitted-same : {t t′ : List ℕ} → SameFront machineWords t t′ → admittedMachine t ≡ admittedMachine t′
@@ -142,6 +159,9 @@ module _ (t u : List ℕ) (whole : machineWords ≤ length t) where
     past-runner : admittedMachine t ≡ true → machineRunner (machineOf (t ++ u)) ≡ machineRunner (machineOf t)
     past-runner h = ap machineRunner (past-machine h)
 
+    past-counts : admittedMachine t ≡ true → blocksRun (machineOf (t ++ u)) ≡ blocksRun (machineOf t)
+    past-counts h = ap blocksRun (past-machine h)
+
     module _ (budget : ℕ) where
       pub past-run-answer : machineAnswer (t ++ u) (rs ++ v) start budget ≡ machineAnswer t rs start budget
       past-run-answer =
@@ -153,6 +173,11 @@ module _ (t u : List ℕ) (whole : machineWords ≤ length t) where
           past-left (machineRefusal (t ++ u) (rs ++ v) start) (machineRefusal t rs start) past-refusal (machineRunner (machineOf (t ++ u))) (machineRunner (machineOf t))
           (λ h. past-runner (unrefused t rs start h .good)) unread rs v long start budget
 
+      pub past-run-blocks : machineBlocks (t ++ u) (rs ++ v) start budget ≡ machineBlocks t rs start budget
+      past-run-blocks =
+          past-total (machineRefusal (t ++ u) (rs ++ v) start) (machineRefusal t rs start) past-refusal (machineRunner (machineOf (t ++ u))) (machineRunner (machineOf t))
+          (λ h. past-runner (unrefused t rs start h .good)) unread rs v long start budget (blocksRun (machineOf (t ++ u))) (blocksRun (machineOf t)) (λ h. past-counts (unrefused t rs start h .good))
+
       module _ (words : List ℕ) where
         pub past-words-answer : machineWordsAnswer (t ++ u) (rs ++ v) start budget words ≡ machineWordsAnswer t rs start budget words
         past-words-answer =
@@ -163,3 +188,9 @@ module _ (t u : List ℕ) (whole : machineWords ≤ length t) where
         past-words-registers =
             past-left (machineWordsRefusal (t ++ u) (rs ++ v) start) (machineWordsRefusal t rs start) past-words-refusal (machineRunner (machineOf (t ++ u))) (machineRunner (machineOf t))
             (λ h. past-runner (words-unrefused t rs start h .good)) (listed words) rs v long start budget
+
+        pub past-words-blocks : machineWordsBlocks (t ++ u) (rs ++ v) start budget words ≡ machineWordsBlocks t rs start budget words
+        past-words-blocks =
+            past-total (machineWordsRefusal (t ++ u) (rs ++ v) start) (machineWordsRefusal t rs start) past-words-refusal (machineRunner (machineOf (t ++ u))) (machineRunner (machineOf t))
+            (λ h. past-runner (words-unrefused t rs start h .good)) (listed words) rs v long start budget (blocksRun (machineOf (t ++ u))) (blocksRun (machineOf t))
+            (λ h. past-counts (words-unrefused t rs start h .good))

@@ -8,6 +8,7 @@ use mathlib.Core.Path.{_≡_, refl, sym, ap, _∙_}
 use lib.ListN.{length, getD, take, drop, set, length-drop, length-map, drop-of-length-le, List·getD-map}
 use lib.Seq.{drop-cons, length-take-le, take-all, getD-take, getD-drop}
 use Rattle.runs.proofs.ListLaws.{length-upFrom, getD-upFrom, getD-map, copied-more}
+use Rattle.runs.proofs.Sets.{getD-any}
 use Rattle.runs.specs.Lists.{upFrom}
 use Rattle.fsmd.specs.Table.{wireAt, validWire, validWires}
 use Rattle.fsmd.specs.declared.Wire.{Wire}
@@ -20,6 +21,10 @@ module _ (t : List ℕ) (at n : ℕ) where
 
   pub window-at : (i : ℕ) → i < n → getD (take n (drop at t)) i 0 ≡ getD t (at + i) 0
   window-at i h = getD-take n (drop at t) i 0 h ∙ getD-drop at t i 0
+
+  -- with any other word for what is past the end
+  pub window-any : (i d : ℕ) → i < n → at + n ≤ length t → getD (take n (drop at t)) i d ≡ getD t (at + i) 0
+  window-any i d h room = getD-any (take n (drop at t)) i d 0 (rw (window-length room) h) ∙ window-at i h
 
 -- f of each of these words, put over the front of a list one after another
 module _ (t : List ℕ) (at n : ℕ) (room : at + n ≤ length t) (f : ℕ → ℕ) where

@@ -8,7 +8,7 @@ use lib.ListN.{length, getD, take, drop, replicate, length-append}
 use lib.Seq.{drop-append-add, drop-drop, take-at, getD-at, getD-drop}
 use Rattle.runs.proofs.ListLaws.{padded-append, length-padded}
 use Rattle.runs.specs.Lists.{upFrom, padded, concatMap}
-use Rattle.fsmd.specs.Layout.{maxStates, maxBlocks, maxRegisters, maxWires, wireWords, recordWords, allRecordWords, allWireWords, startersOffset, blockStatesOffset, recordsOffset, wiresOffset, machineWords, recordOffset, nextStateOffset, nextRegistersOffset, touchOffset, wireOffset, absent}
+use Rattle.fsmd.specs.Layout.{maxStates, maxBlocks, maxRegisters, maxWires, wireWords, recordWords, allRecordWords, allWireWords, startersOffset, blockStatesOffset, recordsOffset, wiresOffset, machineWords, recordOffset, nextStateOffset, nextRegistersOffset, touchOffset, wireOffset, arrivalsOffset, absent}
 use Rattle.fsmd.specs.Machine.{State, wireCount, FSMD, emptyState, stateOf}
 use Rattle.fsmd.specs.Table.{wireWordsOf, recordOf, recordsOf, wiresOf, machineTableOf, wireAt, firstWireAt, wireCountAt, stateAt, touchAt}
 use Rattle.fsmd.specs.Touch.{touchWord}
@@ -150,6 +150,13 @@ module _ (m : FSMD) (rest : List ℕ) where
   abbrev wireSpace : List ℕ
   wireSpace = padded allWireWords 0 (wiresOf (m .states))
 
+  abbrev arrivalWords : List ℕ
+  arrivalWords = padded maxBlocks 0 (m .arrivals)
+
+  -- what follows the wires
+  abbrev after : List ℕ
+  after = arrivalWords ++ rest
+
   pub count-is : getD table 0 0 ≡ length (m .states)
   unfolding machineTableOf
   count-is = refl
@@ -158,43 +165,58 @@ module _ (m : FSMD) (rest : List ℕ) where
   unfolding machineTableOf
   registers-are = refl
 
-  from-starters : (i : ℕ) → drop (startersOffset + i) table ≡ drop i (starterWords ++ (blockWords ++ (recordSpace ++ (wireSpace ++ rest))))
-  unfolding machineTableOf wiresOf
+  from-starters : (i : ℕ) → drop (startersOffset + i) table ≡ drop i (starterWords ++ (blockWords ++ (recordSpace ++ (wireSpace ++ after))))
+  unfolding machineTableOf
   from-starters i =
       let e : startersOffset + i ≡ suc (suc i) = omega arith in
-      ap (λ (j : ℕ). drop j table) e ∙ ap (drop i) (simp append-assoc)
+      let wires = wireSpace ++ arrivalWords in
+      let records = recordSpace ++ wires in
+      let blocks = blockWords ++ records in
+      ap (λ (j : ℕ). drop j table) e
+      ∙ ap (drop i) (append-assoc starterWords blocks rest
+      ∙ ap (λ (l : List ℕ). starterWords ++ l) (append-assoc blockWords records rest
+      ∙ ap (λ (l : List ℕ). blockWords ++ l) (append-assoc recordSpace wires rest
+      ∙ ap (λ (l : List ℕ). recordSpace ++ l) (append-assoc wireSpace arrivalWords rest))))
 
-  from-blocks : (i : ℕ) → drop (blockStatesOffset + i) table ≡ drop i (blockWords ++ (recordSpace ++ (wireSpace ++ rest)))
+  from-blocks : (i : ℕ) → drop (blockStatesOffset + i) table ≡ drop i (blockWords ++ (recordSpace ++ (wireSpace ++ after)))
   from-blocks i =
       let e : blockStatesOffset + i ≡ startersOffset + (maxStates + i) = omega arith in
       ap (λ (j : ℕ). drop j table) e ∙ from-starters (maxStates + i)
-      ∙ drop-past starterWords (blockWords ++ (recordSpace ++ (wireSpace ++ rest))) maxStates i (length-padded maxStates 0 (m .starters))
+      ∙ drop-past starterWords (blockWords ++ (recordSpace ++ (wireSpace ++ after))) maxStates i (length-padded maxStates 0 (m .starters))
 
-  from-records : (i : ℕ) → drop (recordsOffset + i) table ≡ drop i (recordSpace ++ (wireSpace ++ rest))
+  from-records : (i : ℕ) → drop (recordsOffset + i) table ≡ drop i (recordSpace ++ (wireSpace ++ after))
   from-records i =
       let e : recordsOffset + i ≡ blockStatesOffset + (maxBlocks + i) = omega arith in
       ap (λ (j : ℕ). drop j table) e ∙ from-blocks (maxBlocks + i)
-      ∙ drop-past blockWords (recordSpace ++ (wireSpace ++ rest)) maxBlocks i (length-padded maxBlocks absent (m .blockStates))
+      ∙ drop-past blockWords (recordSpace ++ (wireSpace ++ after)) maxBlocks i (length-padded maxBlocks absent (m .blockStates))
 
-  from-wires : (i : ℕ) → drop (wiresOffset + i) table ≡ drop i (wireSpace ++ rest)
+  from-wires : (i : ℕ) → drop (wiresOffset + i) table ≡ drop i (wireSpace ++ after)
   from-wires i =
       let e : wiresOffset + i ≡ recordsOffset + (allRecordWords + i) = omega arith in
       ap (λ (j : ℕ). drop j table) e ∙ from-records (allRecordWords + i)
-      ∙ drop-past recordSpace (wireSpace ++ rest) allRecordWords i (length-padded allRecordWords 0 (recordsOf 0 (m .states)))
+      ∙ drop-past recordSpace (wireSpace ++ after) allRecordWords i (length-padded allRecordWords 0 (recordsOf 0 (m .states)))
+
+  from-arrivals : drop arrivalsOffset table ≡ after
+  from-arrivals =
+      from-wires allWireWords
+      ∙ drop-past wireSpace after allWireWords 0 (length-padded allWireWords 0 (wiresOf (m .states)))
 
   pub back-starters : length (m .starters) ≡ length (m .states) → length (m .states) ≤ maxStates → take (getD table 0 0) (drop startersOffset table) ≡ m .starters
   back-starters e few =
       let l = m .starters in
-      let after = blockWords ++ (recordSpace ++ (wireSpace ++ rest)) in
+      let behind = blockWords ++ (recordSpace ++ (wireSpace ++ after)) in
       let pad = replicate {A = ℕ} (maxStates - length l) 0 in
       let p : starterWords ≡ l ++ pad = padded-append maxStates 0 l (omega arith) in
       ap₂ (λ (n : ℕ) (d : List ℕ). take n d) count-is (from-starters 0)
-      ∙ ap (λ (d : List ℕ). take (length (m .states)) (d ++ after)) p
-      ∙ ap (take (length (m .states))) (append-assoc l pad after)
-      ∙ take-at l (pad ++ after) (length (m .states)) e
+      ∙ ap (λ (d : List ℕ). take (length (m .states)) (d ++ behind)) p
+      ∙ ap (take (length (m .states))) (append-assoc l pad behind)
+      ∙ take-at l (pad ++ behind) (length (m .states)) e
 
   pub back-blocks : take maxBlocks (drop blockStatesOffset table) ≡ padded maxBlocks absent (m .blockStates)
-  back-blocks = ap (take maxBlocks) (from-blocks 0) ∙ take-at blockWords (recordSpace ++ (wireSpace ++ rest)) maxBlocks (length-padded maxBlocks absent (m .blockStates))
+  back-blocks = ap (take maxBlocks) (from-blocks 0) ∙ take-at blockWords (recordSpace ++ (wireSpace ++ after)) maxBlocks (length-padded maxBlocks absent (m .blockStates))
+
+  pub back-arrivals : take maxBlocks (drop arrivalsOffset table) ≡ padded maxBlocks 0 (m .arrivals)
+  back-arrivals = ap (take maxBlocks) from-arrivals ∙ take-at arrivalWords rest maxBlocks (length-padded maxBlocks 0 (m .arrivals))
 
   module _ (few : length (m .states) ≤ maxStates) (room : wireCount (m .states) ≤ maxWires) (k : ℕ) (h : k < length (m .states)) where
     -- the words from state k's record on
@@ -203,12 +225,12 @@ module _ (m : FSMD) (rest : List ℕ) where
         let recs = recordsOf 0 (m .states) in
         let pad = replicate {A = ℕ} (allRecordWords - length recs) 0 in
         let p : recordSpace ≡ recs ++ pad = padded-append allRecordWords 0 recs (omega (arith, length-recordsOf 0 (m .states))) in
-        let d = records-drop (m .states) 0 k (pad ++ (wireSpace ++ rest)) h in
+        let d = records-drop (m .states) 0 k (pad ++ (wireSpace ++ after)) h in
         let z : 0 + wiresBefore (m .states) k ≡ wiresBefore (m .states) k = omega arith in (
           d .0,
           from-records (recordWords * k)
-              ∙ ap (λ (l : List ℕ). drop (recordWords * k) (l ++ (wireSpace ++ rest))) p
-              ∙ ap (drop (recordWords * k)) (append-assoc recs pad (wireSpace ++ rest))
+              ∙ ap (λ (l : List ℕ). drop (recordWords * k) (l ++ (wireSpace ++ after))) p
+              ∙ ap (drop (recordWords * k)) (append-assoc recs pad (wireSpace ++ after))
               ∙ d .1 ∙ ap (λ (n : ℕ). recordOf n (at (m .states) k) ++ d .0) z,
         )
 
@@ -219,9 +241,9 @@ module _ (m : FSMD) (rest : List ℕ) where
         let pad = replicate {A = ℕ} (allWireWords - length all) 0 in
         let p : wireSpace ≡ all ++ pad = padded-append allWireWords 0 all (omega (arith, length-wiresOf (m .states))) in
         let i = wireWords * wiresBefore (m .states) k in
-        let d = wires-drop (m .states) k (pad ++ rest) h in (
+        let d = wires-drop (m .states) k (pad ++ after) h in (
           d .0,
-          from-wires i ∙ ap (λ (l : List ℕ). drop i (l ++ rest)) p ∙ ap (drop i) (append-assoc all pad rest) ∙ d .1,
+          from-wires i ∙ ap (λ (l : List ℕ). drop i (l ++ after)) p ∙ ap (drop i) (append-assoc all pad after) ∙ d .1,
         )
 
     pub back-first : firstWireAt table k ≡ wiresBefore (m .states) k
@@ -267,12 +289,15 @@ module _ (m : FSMD) (rest : List ℕ) where
 
 -- ---- the length of a machine's table
 
+lengths : (a b c d e : List ℕ) (i j k l n : ℕ) → length a ≡ i → length b ≡ j → length c ≡ k → length d ≡ l → length e ≡ n
+    → length (a ++ (b ++ (c ++ (d ++ e)))) ≡ i + (j + (k + (l + n)))
+lengths a b c d e i j k l n ea eb ec ed ee =
+    omega (arith, length-append a (b ++ (c ++ (d ++ e))), length-append b (c ++ (d ++ e)), length-append c (d ++ e), length-append d e)
+
 pub table-length : (m : FSMD) → length (machineTableOf m) ≡ machineWords
 unfolding machineTableOf
 table-length m =
-    let s = padded maxStates 0 (m .starters) in
-    let b = padded maxBlocks absent (m .blockStates) in
-    let r = padded allRecordWords 0 (recordsOf 0 (m .states)) in
-    let ws = wiresOf (m .states) in
-    let w = padded allWireWords 0 ws in
-    omega (arith, length-append s (b ++ (r ++ w)), length-append b (r ++ w), length-append r w, length-padded maxStates 0 (m .starters), length-padded maxBlocks absent (m .blockStates), length-padded allRecordWords 0 (recordsOf 0 (m .states)), length-padded allWireWords 0 ws)
+    ap (λ (n : ℕ). suc (suc n))
+    (lengths (starterWords m []) (blockWords m []) (recordSpace m []) (wireSpace m []) (arrivalWords m []) maxStates maxBlocks allRecordWords allWireWords maxBlocks
+    (length-padded maxStates 0 (m .starters)) (length-padded maxBlocks absent (m .blockStates)) (length-padded allRecordWords 0 (recordsOf 0 (m .states)))
+    (length-padded allWireWords 0 (wiresOf (m .states))) (length-padded maxBlocks 0 (m .arrivals)))

@@ -6,9 +6,9 @@ use mathlib.Core.Path.{_≡_}
 use lib.ListN.{length}
 use Rattle.runs.specs.Runs.{Moved}
 use Rattle.fsmd.specs.declared.clock.Next.{Next}
-use Rattle.fsmd.specs.Layout.{maxStates, maxRegisters, maxWires, machineWords}
+use Rattle.fsmd.specs.Layout.{maxStates, maxBlocks, maxRegisters, maxWires, machineWords}
 use Rattle.fsmd.specs.Machine.{toState}
-use Rattle.fsmd.specs.Table.{stateCount, machineRegisterCount, firstWireAt, wireCountAt, stateAt, validState}
+use Rattle.fsmd.specs.Table.{stateCount, machineRegisterCount, firstWireAt, wireCountAt, stateAt, blockStateAt, arrivalAt, validState}
 
 -- the table is whole, state k's record and wires lie in it, and its references are valid
 pub record Ready (t : List ℕ) (k : ℕ) : Type 0 where
@@ -17,6 +17,10 @@ pub record Ready (t : List ℕ) (k : ℕ) : Type 0 where
   pub wires : firstWireAt t k + wireCountAt t k ≤ maxWires
   pub registers : machineRegisterCount t ≤ maxRegisters
   pub valid : validState (machineRegisterCount t) (stateAt t k) ≡ true
+
+-- the arrivals of state k's blocks are among its wires
+abbrev pub Arriving : List ℕ → ℕ → Type 0
+Arriving t k = (b : ℕ) → b < maxBlocks → blockStateAt t b ≡ k → arrivalAt t b < maxRegisters + wireCountAt t k
 
 -- what a cycle hands back
 abbrev pub afterCycle : List ℕ → Next → Moved

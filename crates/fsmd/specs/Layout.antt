@@ -1,4 +1,4 @@
--- Limits of a machine, and the numbers of its table (paper 01, with the records of R-4 of paper 02): no other definition writes them. Assumes nothing.
+-- Limits of a machine, and the numbers of its table (paper 01, with the records of R-4 and the arrivals of R-7 of paper 02): no other definition writes them. Assumes nothing.
 use Prim.Native.Nat.{ℕ, _+_, _*_}
 use Rattle.word.specs.RegisterFile.{fileWords}
 use Rattle.runs.specs.Runs.{maxPlaces, noPlace}
@@ -61,7 +61,7 @@ stateCountOffset = 0
 abbrev pub registerCountOffset : ℕ
 registerCountOffset = 1
 
--- where the starters, the block states, the records and the wires begin: 2, 66, 130 and 1,410
+-- where the starters, the block states, the records, the wires and the arrivals begin: 2, 66, 130, 1,410 and 13,698
 abbrev pub startersOffset : ℕ
 startersOffset = registerCountOffset + 1
 
@@ -74,9 +74,12 @@ recordsOffset = blockStatesOffset + maxBlocks
 abbrev pub wiresOffset : ℕ
 wiresOffset = recordsOffset + allRecordWords
 
--- "the table 13,698"
+abbrev pub arrivalsOffset : ℕ
+arrivalsOffset = wiresOffset + allWireWords
+
+-- "it now has 13,762 words"
 abbrev pub machineWords : ℕ
-machineWords = wiresOffset + allWireWords
+machineWords = arrivalsOffset + maxBlocks
 
 -- where the record of state k begins
 abbrev pub recordOffset : ℕ → ℕ

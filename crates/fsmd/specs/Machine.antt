@@ -1,13 +1,14 @@
--- A machine and what it does ("Wires" and "Runs" of paper 01, R-2 of paper 02). Assumes nothing.
+-- A machine and what it does ("Wires" and "Runs" of paper 01, R-2 and R-7 of paper 02). Assumes nothing.
 use Prim.Native.Nat.{ℕ, _+_}
 use mathlib.Core.Bool.{Bool, true, false, not, _&&_, _||_}
 use mathlib.Core.List.{List, [], _∷_, _++_, map}
 use lib.ListN.{length, getD, take, drop}
 use lib.Dec.{eqb, ltb}
 use Rattle.word.specs.Word.{choose, evalOf, overOf, arity, setCode, addCode, subCode, inCode}
-use Rattle.runs.specs.Lists.{every}
+use Rattle.runs.specs.Lists.{upFrom, only, every}
 use Rattle.runs.specs.Runs.{Place, standing, halted, Moved, Runner}
 use Rattle.fsmd.specs.declared.Wire.{Wire}
+use Rattle.fsmd.specs.Layout.{maxBlocks, absent}
 
 -- a state: its wires, and the references of the next state and of the next registers
 pub record State : Type 0 where
@@ -20,11 +21,12 @@ unfoldable pub wireCount : List State → ℕ
 wireCount [] = 0
 wireCount (q ∷ qs) = length (q .wires) + wireCount qs
 
--- a machine: R, each state's starter, each block's state, and the states
+-- a machine: R, each state's starter, each block's state and the reference of its arrival, and the states
 pub record FSMD : Type 0 where
   pub registers : ℕ
   pub starters : List ℕ
   pub blockStates : List ℕ
+  pub arrivals : List ℕ
   pub states : List State
 
 unfoldable pub emptyState : State
@@ -88,6 +90,19 @@ clock m sampled q rs =
 -- one step is a cycle of the state stood in, and each makes the next arrival
 abbrev pub machineRunner : FSMD → Runner
 machineRunner m = record { unit = λ sampled k rs. clock m sampled (stateOf m k) rs; arrives = λ k. true }
+
+-- the blocks of state k, in rising order
+unfoldable pub blocksOf : FSMD → ℕ → List ℕ
+blocksOf m k = only (λ b. eqb (getD (m .blockStates) b absent) k) (upFrom 0 maxBlocks)
+
+-- how many of these references read nonzero, each counted by itself
+abbrev pub nonzero : List ℕ → List ℕ → ℕ
+nonzero env refs = length (only (λ x. not (eqb (getD env x 0) 0)) refs)
+
+-- how many blocks a cycle of state k runs: those of the state whose arrival is nonzero
+unfoldable pub blocksRun : FSMD → ℕ → ℕ → List ℕ → ℕ
+unfolding worked blocksOf
+blocksRun m sampled k rs = nonzero (worked sampled rs (stateOf m k .wires)) (map (λ b. getD (m .arrivals) b 0) (blocksOf m k))
 
 -- no wire reads the sampled word
 unfoldable pub wordlessMachine : FSMD → Bool

@@ -1,4 +1,4 @@
--- "Run machine" of paper 01, and with words as R-1 of paper 02 adds it: answers, and registers left, on all inputs. Assumes nothing.
+-- "Run machine" of paper 01, and with words as R-1 of paper 02 adds it: answers, registers left and blocks counted (R-7), on all inputs. Assumes nothing.
 use Prim.Native.Nat.{ℕ}
 use mathlib.Core.Bool.{Bool, not, _||_}
 use mathlib.Core.List.{List}
@@ -6,10 +6,10 @@ use lib.ListN.{length}
 use lib.Dec.{ltb}
 use Rattle.word.specs.Word.{choose}
 use Rattle.runs.specs.Runs.{listed, unread}
-use Rattle.runs.specs.Operations.{answered, registersLeft}
+use Rattle.runs.specs.Operations.{answered, registersLeft, totalOf}
 use Rattle.runs.specs.declared.RunAnswer.{RunAnswer}
 use Rattle.fsmd.specs.Layout.{maxRegisters, machineWords}
-use Rattle.fsmd.specs.Machine.{machineRunner, wordlessMachine}
+use Rattle.fsmd.specs.Machine.{machineRunner, blocksRun, wordlessMachine}
 use Rattle.fsmd.specs.Table.{stateCount, machineOf, admittedMachine}
 
 abbrev pub machineShort : List ℕ → List ℕ → Bool
@@ -32,6 +32,10 @@ machineAnswer t rs start budget = answered (machineRefusal t rs start) (machineR
 abbrev pub machineRegisters : List ℕ → List ℕ → ℕ → ℕ → List ℕ
 machineRegisters t rs start budget = registersLeft (machineRefusal t rs start) (machineRunner (machineOf t)) unread rs start budget
 
+abbrev pub machineBlocks : List ℕ → List ℕ → ℕ → ℕ → ℕ
+machineBlocks t rs start budget =
+    totalOf (blocksRun (machineOf t)) (machineRefusal t rs start) (machineRunner (machineOf t)) unread rs start budget
+
 -- ---- with words
 
 -- 7, 10 and 9 as above
@@ -49,3 +53,7 @@ machineWordsAnswer t rs start budget words =
 abbrev pub machineWordsRegisters : List ℕ → List ℕ → ℕ → ℕ → List ℕ → List ℕ
 machineWordsRegisters t rs start budget words =
     registersLeft (machineWordsRefusal t rs start) (machineRunner (machineOf t)) (listed words) rs start budget
+
+abbrev pub machineWordsBlocks : List ℕ → List ℕ → ℕ → ℕ → List ℕ → ℕ
+machineWordsBlocks t rs start budget words =
+    totalOf (blocksRun (machineOf t)) (machineWordsRefusal t rs start) (machineRunner (machineOf t)) (listed words) rs start budget

@@ -1,13 +1,13 @@
--- The machine table ("Machine table" of paper 01, touch words of R-4 of paper 02): the words of a machine, the machine of some words, and which words are admitted. Assumes nothing.
+-- The machine table ("Machine table" of paper 01, touch words of R-4 and arrivals of R-7 of paper 02): the words of a machine, the machine of some words, and which words are admitted. Assumes nothing.
 use Prim.Native.Nat.{ℕ, suc, _+_}
 use mathlib.Core.Bool.{Bool, true, _&&_, _||_}
 use mathlib.Core.List.{List, [], _∷_, _++_, map}
 use lib.ListN.{length, getD, take, drop}
 use lib.Dec.{eqb, leb, ltb}
-use Rattle.word.specs.Word.{firstCode, lastCode}
+use Rattle.word.specs.Word.{choose, firstCode, lastCode}
 use Rattle.runs.specs.Lists.{upFrom, every, padded, concatMap}
 use Rattle.fsmd.specs.declared.Wire.{Wire}
-use Rattle.fsmd.specs.Layout.{maxStates, maxBlocks, maxRegisters, maxWires, wireAOffset, wireBOffset, wireCOffset, wireCountOffset, stateCountOffset, registerCountOffset, allRecordWords, allWireWords, startersOffset, blockStatesOffset, recordOffset, nextStateOffset, nextRegistersOffset, touchOffset, wireOffset, absent}
+use Rattle.fsmd.specs.Layout.{maxStates, maxBlocks, maxRegisters, maxWires, wireAOffset, wireBOffset, wireCOffset, wireCountOffset, stateCountOffset, registerCountOffset, allRecordWords, allWireWords, startersOffset, blockStatesOffset, recordOffset, nextStateOffset, nextRegistersOffset, touchOffset, wireOffset, arrivalsOffset, absent}
 use Rattle.fsmd.specs.Machine.{State, FSMD, reads}
 use Rattle.fsmd.specs.Touch.{touchWord}
 
@@ -30,7 +30,7 @@ unfoldable pub wiresOf : List State → List ℕ
 unfolding concatMap
 wiresOf qs = concatMap (λ q. concatMap wireWordsOf (q .wires)) qs
 
--- counts, starters, block states, records, wires in state order; unused words are 0, but an absent block's state is 255
+-- counts, starters, block states, records, wires in state order, arrivals; unused words are 0, but an absent block's state is 255
 unfoldable pub machineTableOf : FSMD → List ℕ
 unfolding recordsOf wiresOf
 machineTableOf m =
@@ -38,7 +38,8 @@ machineTableOf m =
     ∷ (padded maxStates 0 (m .starters)
     ++ (padded maxBlocks absent (m .blockStates)
     ++ (padded allRecordWords 0 (recordsOf 0 (m .states))
-    ++ padded allWireWords 0 (wiresOf (m .states)))))
+    ++ (padded allWireWords 0 (wiresOf (m .states))
+    ++ padded maxBlocks 0 (m .arrivals)))))
 
 -- ---- the machine of a table
 
@@ -74,6 +75,13 @@ stateAt t k =
 abbrev pub touchAt : List ℕ → ℕ → ℕ
 touchAt t k = getD t (recordOffset k + touchOffset) 0
 
+-- the state of block b, and the reference of its arrival
+abbrev pub blockStateAt : List ℕ → ℕ → ℕ
+blockStateAt t b = getD t (blockStatesOffset + b) 0
+
+abbrev pub arrivalAt : List ℕ → ℕ → ℕ
+arrivalAt t b = getD t (arrivalsOffset + b) 0
+
 unfoldable pub machineOf : List ℕ → FSMD
 unfolding stateAt
 machineOf t =
@@ -81,6 +89,7 @@ machineOf t =
       registers = machineRegisterCount t;
       starters = take (stateCount t) (drop startersOffset t);
       blockStates = take maxBlocks (drop blockStatesOffset t);
+      arrivals = take maxBlocks (drop arrivalsOffset t);
       states = map (stateAt t) (upFrom 0 (stateCount t));
     }
 
@@ -120,8 +129,18 @@ within t k = leb (firstWireAt t k + wireCountAt t k) maxWires
 abbrev pub rightTouch : List ℕ → ℕ → Bool
 rightTouch t k = eqb (touchAt t k) (touchWord (stateAt t k .nextRegisters))
 
+-- block b is absent, and the reference of its arrival is 0; or its state is one of the machine's, and the reference a wire of it
+abbrev pub rightBlock : List ℕ → ℕ → Bool
+rightBlock t b =
+    let k = blockStateAt t b in
+    let x = arrivalAt t b in
+    choose (eqb k absent) (eqb x 0) (ltb k (stateCount t) && leb maxRegisters x && ltb x (maxRegisters + wireCountAt t k))
+
+unfoldable pub rightBlocks : List ℕ → Bool
+rightBlocks t = every (rightBlock t) (upFrom 0 maxBlocks)
+
 unfoldable pub admittedMachine : List ℕ → Bool
-unfolding stateAt validState touchWord
+unfolding stateAt validState touchWord rightBlocks
 admittedMachine t =
     let n = stateCount t in
     let r = machineRegisterCount t in
@@ -129,3 +148,4 @@ admittedMachine t =
     && every (within t) (upFrom 0 n)
     && every (λ k. every (λ j. apart t j k) (upFrom 0 k)) (upFrom 0 n)
     && every (λ k. validState r (stateAt t k) && rightTouch t k) (upFrom 0 n)
+    && rightBlocks t

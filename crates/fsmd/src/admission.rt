@@ -7,9 +7,9 @@ ghost use Prim.Native.Nat.{_+_, _<_, _≤_};
 ghost use lib.ListN.{length, take, drop};
 ghost use Rattle.word.specs.Word.{setCode};
 ghost use Rattle.runs.specs.Lists.{upFrom, every};
-ghost use Rattle.fsmd.specs.Layout.{machineWords, maxStates, maxRegisters, maxWires};
+ghost use Rattle.fsmd.specs.Layout.{machineWords, maxStates, maxBlocks, maxRegisters, maxWires};
 ghost use Rattle.fsmd.specs.Touch.{touchWord};
-ghost use Rattle.fsmd.specs.Table.{machineRegisterCount, wireAt, stateAt, firstWireAt, wireCountAt, validReference, validWire, validWires, validState, within as withinOf, apart as apartOf, rightTouch, admittedMachine};
+ghost use Rattle.fsmd.specs.Table.{stateCount, machineRegisterCount, wireAt, stateAt, firstWireAt, wireCountAt, validReference, validWire, validWires, validState, within as withinOf, apart as apartOf, rightTouch, rightBlock, rightBlocks, admittedMachine};
 use super::MachineTable;
 use super::Wire;
 use super::table::first_wire;
@@ -276,6 +276,45 @@ fn all_valid(table: &[u32], registers: usize, states: usize) -> bool
     true
 }
 
+// Block b is absent and has no arrival, or the reference of its arrival is a wire of its state.
+fn right_block(table: &[u32], states: usize, b: usize) -> bool
+    requires { ⌜ machineWords ≤ length (now table) ⌝ }
+    requires { ⌜ b < maxBlocks ⌝ }
+    requires { ⌜ states ≡ stateCount (now table) ⌝ }
+    requires { ⌜ states ≤ maxStates ⌝ }
+    ensures { λ v. ⌜ v ≡ rightBlock (now (table .entry)) b ⌝ }
+{
+    let k = table[MachineTable::BLOCK_STATES + b];
+    let x = word_index(table[MachineTable::ARRIVALS + b]);
+    if k == MachineTable::NONE {
+        return x == 0;
+    }
+    let state = word_index(k);
+    if states <= state {
+        return false;
+    }
+    if x < MachineTable::REGISTERS {
+        return false;
+    }
+    x - MachineTable::REGISTERS < wire_count(table, state)
+}
+
+fn all_right(table: &[u32], states: usize) -> bool
+    requires { ⌜ machineWords ≤ length (now table) ⌝ }
+    requires { ⌜ states ≡ stateCount (now table) ⌝ }
+    requires { ⌜ states ≤ maxStates ⌝ }
+    ensures { λ v. ⌜ v ≡ rightBlocks (now (table .entry)) ⌝ }
+{
+    let mut b = 0;
+    while b < MachineTable::BLOCKS {
+        if !right_block(table, states, b) {
+            return false;
+        }
+        b += 1;
+    }
+    true
+}
+
 // The conditions in the order of refusal 10; each is tested only where those before it hold.
 pub fn admitted(table: &[u32]) -> bool
     requires { ⌜ machineWords ≤ length (now table) ⌝ }
@@ -302,5 +341,8 @@ pub fn admitted(table: &[u32]) -> bool
     if !all_apart(table, states) {
         return false;
     }
-    all_valid(table, registers, states)
+    if !all_valid(table, registers, states) {
+        return false;
+    }
+    all_right(table, states)
 }

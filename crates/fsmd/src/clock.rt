@@ -6,26 +6,29 @@ ghost use Prim.Native.Nat.{_+_, _%_, _<_, _≤_};
 ghost use lib.ListN.{length, getD, take, drop};
 ghost use lib.Dec.{eqb};
 ghost use Rattle.word.specs.Word.{evalOf, overOf};
-ghost use Rattle.runs.specs.Lists.{upFrom};
-ghost use Rattle.fsmd.specs.Layout.{machineWords, maxRegisters, maxWires, roomWords};
-ghost use Rattle.fsmd.specs.Machine.{wireValue, worked, wireOver, wiresOver, clock};
-ghost use Rattle.fsmd.specs.Table.{machineRegisterCount, wireAt, stateAt, machineOf, validWires};
-ghost use Rattle.fsmd.specs.Clock.{Ready, afterCycle};
+ghost use Rattle.runs.specs.Lists.{upFrom, only};
+ghost use Rattle.fsmd.specs.Layout.{machineWords, maxStates, maxRegisters, maxWires, roomWords};
+ghost use Rattle.fsmd.specs.Machine.{wireValue, worked, wireOver, wiresOver, clock, nonzero};
+ghost use Rattle.fsmd.specs.Table.{machineRegisterCount, wireAt, stateAt, machineOf, arrivalAt, validWires};
+ghost use Rattle.fsmd.specs.Chains.{blocksFrom, Chained};
+ghost use Rattle.fsmd.specs.Clock.{Ready, Arriving, afterCycle};
 use super::MachineTable;
 use super::Wire;
 use super::table::first_wire;
 use super::table::record;
 use super::table::wire;
 use super::table::wire_count;
+use buffers::byte_index;
 use buffers::word_index;
 use word::Code;
 use word::Registers;
 
-// What a cycle gives: the registers, the word of the next state, and whether a sum goes over.
+// What a cycle gives: the registers, the word of the next state, whether a sum goes over, and how many blocks are arrived at.
 pub struct Next {
     pub registers: Registers,
     pub state: u32,
     pub over: bool,
+    pub blocks: u64,
 }
 
 // What a wire gives: its word, and whether it or one before it goes over where its block is arrived at.
@@ -129,11 +132,37 @@ fn taken(words: &[u32], table: &[u32], at: usize, count: usize, registers: Regis
     next
 }
 
+// How many blocks of state k are arrived at, where `words` is what references read.
+fn arrived(words: &[u32], table: &[u32], chains: &[u8], k: usize) -> u64
+    requires { ⌜ length (now words) ≡ roomWords ⌝ }
+    requires { ⌜ machineWords ≤ length (now table) ⌝ }
+    requires { ⌜ Chained (now table) 0 (now chains) ⌝ }
+    requires { ⌜ k < maxStates ⌝ }
+    ensures { λ r. ⌜ r ≡ length (only (λ b. not (eqb (getD (now (words .entry)) (arrivalAt (now (table .entry)) b % roomWords) 0) 0)) (blocksFrom (now (table .entry)) k 0)) ⌝ }
+{
+    let mut n: u64 = 0;
+    let mut b = byte_index(chains[k]);
+    while b < MachineTable::BLOCKS {
+        n += (word_at(words, table[MachineTable::ARRIVALS + b]) != 0) as u64;
+        b = byte_index(chains[MachineTable::STATES + b]);
+    }
+    n
+}
+
 // One cycle of state k, on a sampled word. `words` is room for what references read.
-pub fn cycle(table: &[u32], k: usize, registers: Registers, sampled: u32, words: &mut [u32]) -> Next
+pub fn cycle(
+    table: &[u32],
+    chains: &[u8],
+    k: usize,
+    registers: Registers,
+    sampled: u32,
+    words: &mut [u32],
+) -> Next
     requires { ⌜ Ready (now table) k ⌝ }
+    requires { ⌜ Arriving (now table) k × Chained (now table) 0 (now chains) ⌝ }
     requires { ⌜ length (now words) ≡ roomWords ⌝ }
     ensures { λ r. ⌜ afterCycle (now (table .entry)) r ≡ clock (machineOf (now (table .entry))) sampled (stateAt (now (table .entry)) k) (registers .words) ⌝ }
+    ensures { λ r. ⌜ r .blocks ≡ nonzero (worked sampled (registers .words) (stateAt (now (table .entry)) k .wires)) (map (arrivalAt (now (table .entry))) (blocksFrom (now (table .entry)) k 0)) ⌝ }
 {
     let at = record(k);
     let count = wire_count(table, k);
@@ -151,5 +180,6 @@ pub fn cycle(table: &[u32], k: usize, registers: Registers, sampled: u32, words:
         registers: next,
         state: state,
         over: over,
+        blocks: arrived(words, table, chains, k),
     }
 }

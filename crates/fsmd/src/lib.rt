@@ -8,6 +8,7 @@ pub mod table; // table.rt: words of a machine table
 pub mod touch; // touch.rt: the touch word of a state
 pub mod admission; // admission.rt: which machine tables are admitted
 pub mod sampling; // sampling.rt: whether a machine reads the sampled word
+pub mod chains; // chains.rt: the blocks of each state
 pub mod clock; // clock.rt: one cycle
 pub mod run; // run.rt: a run with a budget
 
@@ -42,7 +43,7 @@ impl MachineTable {
     pub const STATE_COUNT: usize = 0;
 
     pub const REGISTER_COUNT: usize = 1;
-    // Where the starters, the block states, the records and the wires begin, and the words of the whole table.
+    // Where the starters, the block states, the records, the wires and the arrivals begin, and the words of the whole table.
     pub const STARTERS: usize = MachineTable::REGISTER_COUNT + 1;
 
     pub const BLOCK_STATES: usize = MachineTable::STARTERS + MachineTable::STATES;
@@ -52,7 +53,11 @@ impl MachineTable {
     pub const WIRE_WORDS: usize = MachineTable::RECORDS
         + MachineTable::STATES * MachineTable::RECORD;
 
-    pub const WORDS: usize = MachineTable::WIRE_WORDS + MachineTable::WIRES * Wire::WORDS;
+    pub const ARRIVALS: usize = MachineTable::WIRE_WORDS + MachineTable::WIRES * Wire::WORDS;
+
+    pub const WORDS: usize = MachineTable::ARRIVALS + MachineTable::BLOCKS;
+    // The words of all chains of blocks: one for each state, and one for each block.
+    pub const CHAINS: usize = MachineTable::STATES + MachineTable::BLOCKS;
     // Room for what references of a cycle read, the registers, then the wires: a power of two.
     pub const REFERENCES: usize = 4096;
 }

@@ -2,11 +2,11 @@
 use Prim.Native.Nat.{ℕ, zero, suc, _+_, _≤_, _<_}
 use mathlib.Core.Bool.{Bool, true, false, false≢true}
 use mathlib.Core.Logic.{_⊎_, inl, inr}
-use mathlib.Core.Path.{_≡_, refl, sym, _∙_, ap}
-use mathlib.Core.List.{List, [], _∷_}
+use mathlib.Core.Path.{_≡_, refl, sym, _∙_, ap, ap₂}
+use mathlib.Core.List.{List, [], _∷_, map}
 use mathlib.Core.Option.{none, some}
 use native.Mathlib.Omega.{arith}
-use Rattle.runs.specs.Lists.{upFrom, only, every, first}
+use Rattle.runs.specs.Lists.{upFrom, keep, only, every, first}
 use Rattle.runs.proofs.Tests.{true-or-false, and-true, Compared, same, other, compared}
 use Rattle.runs.proofs.Sets.{In, Distinct}
 
@@ -39,6 +39,16 @@ distinct-only p (y ∷ l) o = go (true-or-false (p y)) (distinct-only p l (o .1)
     go : (p y ≡ true) ⊎ (p y ≡ false) → Distinct (only p l) → Distinct (only p (y ∷ l))
     go (inl e) ih = rw (e, Distinct) (λ i. o .0 (only-in p l y i .0), ih)
     go (inr e) ih = rw (e, Distinct) ih
+
+-- tests that agree on a list select the same of it
+pub only-same : (p q : ℕ → Bool) (l : List ℕ) → ((x : ℕ) → In x l → p x ≡ q x) → only p l ≡ only q l
+only-same p q [] h = refl
+only-same p q (y ∷ l) h = ap₂ {C = List ℕ} (λ (b : Bool) (m : List ℕ). keep b y m) (h y (inl refl)) (only-same p q l (λ x i. h x (inr i)))
+
+-- functions that agree on a list give the same of it
+pub map-in {ℓ} : {B : Type ℓ} (f g : ℕ → B) (l : List ℕ) → ((x : ℕ) → In x l → f x ≡ g x) → map f l ≡ map g l
+map-in f g [] h = refl
+map-in {B = B} f g (y ∷ l) h = ap₂ {C = List B} (λ (b : B) (m : List B). b ∷ m) (h y (inl refl)) (map-in f g l (λ x i. h x (inr i)))
 
 pub in-upFrom : (n k x : ℕ) → In x (upFrom n k) → (n ≤ x) × (x < n + k)
 in-upFrom n zero x i = absurd i

@@ -68,11 +68,25 @@ all-valid-requires c κs =
 
 returns-7 : tie.Need-returns-7
 returns-7 c =
-    let g = c .before .before .before .before .before .before .before .before .before .before .before .head-of in
-    let n = c .before .before .before .before .before .before .before .before .before .before .word-index in
-    let r = c .before .before .before .before .before .before .before .before .before .word-index2 in
-    let e = admitted-is (now (c .before .before .before .before .before .before .before .before .before .before .before .before .before .args .table)) (n .result) (r .result) (n .ensures .0 ∙ g .ensures .0) (r .ensures .0 ∙ g .ensures .1) in
-    sym (e ∙ rw (le-leb 1 (n .result) (omega arith), le-leb (n .result) maxStates (omega arith), le-leb 1 (r .result) (omega arith), le-leb (r .result) maxRegisters (omega arith), sym (c .before .before .before .before .all-within .ensures) ∙ not-false _ (c .before .before .before .if5 .left), sym (c .before .before .all-apart .ensures) ∙ not-false _ (c .before .if6 .left)) (sym (c .all-valid .ensures)))
+    let g = c .before .before .before .before .before .before .before .before .before .before .before .before .head-of in
+    let n = c .before .before .before .before .before .before .before .before .before .before .before .word-index in
+    let r = c .before .before .before .before .before .before .before .before .before .before .word-index2 in
+    let e = admitted-is (now (c .before .before .before .before .before .before .before .before .before .before .before .before .before .before .args .table)) (n .result) (r .result) (n .ensures .0 ∙ g .ensures .0) (r .ensures .0 ∙ g .ensures .1) in
+    sym (e ∙ rw (le-leb 1 (n .result) (omega arith), le-leb (n .result) maxStates (omega arith), le-leb 1 (r .result) (omega arith), le-leb (r .result) maxRegisters (omega arith), sym (c .before .before .before .before .before .all-within .ensures) ∙ not-false _ (c .before .before .before .before .if5 .left), sym (c .before .before .before .all-apart .ensures) ∙ not-false _ (c .before .before .if6 .left), sym (c .before .all-valid .ensures) ∙ not-true _ (c .if7 .taken)))
+
+all-right-requires : tie.Need-all-right-requires
+all-right-requires c κs =
+    let g = c .before .before .before .before .before .before .before .before .before .before .before .before .head-of in
+    let n = c .before .before .before .before .before .before .before .before .before .before .before .word-index in
+    (c .before .before .before .before .before .before .before .before .before .before .before .before .before .before .pre, (n .ensures .0 ∙ g .ensures .0, omega arith))
+
+returns-8 : tie.Need-returns-8
+returns-8 c =
+    let g = c .before .before .before .before .before .before .before .before .before .before .before .before .before .head-of in
+    let n = c .before .before .before .before .before .before .before .before .before .before .before .before .word-index in
+    let r = c .before .before .before .before .before .before .before .before .before .before .before .word-index2 in
+    let e = admitted-is (now (c .before .before .before .before .before .before .before .before .before .before .before .before .before .before .before .args .table)) (n .result) (r .result) (n .ensures .0 ∙ g .ensures .0) (r .ensures .0 ∙ g .ensures .1) in
+    sym (e ∙ rw (le-leb 1 (n .result) (omega arith), le-leb (n .result) maxStates (omega arith), le-leb 1 (r .result) (omega arith), le-leb (r .result) maxRegisters (omega arith), sym (c .before .before .before .before .before .before .all-within .ensures) ∙ not-false _ (c .before .before .before .before .before .if5 .left), sym (c .before .before .before .before .all-apart .ensures) ∙ not-false _ (c .before .before .before .if6 .left), sym (c .before .before .all-valid .ensures) ∙ not-false _ (c .before .if7 .left)) (sym (c .all-right .ensures)))
 
 pub admitted-spec : {M : Type 1} → statement M
 admitted-spec =
@@ -90,4 +104,6 @@ admitted-spec =
     (λ c κs. search needs)
     returns-6
     all-valid-requires
-    returns-7)
+    returns-7
+    all-right-requires
+    returns-8)

@@ -1,7 +1,7 @@
 -- `fsmd::clock::cycle` meets its contract: registers, wires, next state and next registers, in that order. Assumes nothing.
 use Prim.Native.Nat.{ℕ, _+_, _≤_}
 use native.Mathlib.Omega.{arith}
-use mathlib.Core.List.{List, _++_}
+use mathlib.Core.List.{List, _++_, map}
 use mathlib.Core.Path.{_≡_, refl, sym, ap, _∙_}
 use lib.ListN.{length, getD, take, drop, length-append, length-drop}
 use lib.Seq.{take-at}
@@ -9,9 +9,11 @@ use denote.Ref.{now}
 use borrow.Author.Needs.{needs}
 use Rattle.runs.specs.Lists.{every}
 use Rattle.fsmd.specs.Layout.{maxRegisters, nextStateOffset, nextRegistersOffset, roomWords}
-use Rattle.fsmd.specs.Machine.{worked, wiresOver}
-use Rattle.fsmd.specs.Table.{validReference}
-use Rattle.fsmd.proofs.Environment.{reads-same, all-same, clocked}
+use Rattle.fsmd.specs.Machine.{worked, wiresOver, nonzero}
+use Rattle.fsmd.specs.Table.{arrivalAt, validReference}
+use Rattle.fsmd.specs.Chains.{blocksFrom}
+use Rattle.fsmd.proofs.ChainLaws.{arrived-is}
+use Rattle.fsmd.proofs.Environment.{reads-same, all-same, clocked, environment}
 use Rattle.fsmd.proofs.Machines.{valid-state-parts}
 use Rattle.fsmd.proofs.Windows.{wiresFrom}
 use Rattle.fsmd.proofs.clock.cycle.Statement.{statement}
@@ -20,20 +22,25 @@ use Rattle.fsmd.proofs.clock.cycle.Tie as tie
 -- the state is valid: so are its wires, and what it reads at the end
 work-requires : tie.Need-work-requires
 work-requires c κs =
-    let k = c .before .before .before .before .before .before .before .before .before .before in
+    let k = c .before .before .before .before .before .before .before .before .before .before .before in
     let t = now (k .args .table) in
     let f = c .first-wire in
     let n = c .before .before .before .before .before .before .wire-count in
     let p = c .before .before .before .before .before .before .before .«record» in
     let h = k .pre .0 in
     let v = valid-state-parts t (getD t 1 0) (k .args .k) (f .result) (n .result) (p .result) (f .ensures .0) (n .ensures .0) (p .ensures) refl (h .valid) in
-    (h .whole, (omega (arith, f .ensures .0, n .ensures .0, h .wires), (h .registers, (v .0, c .before .before .before .before .store .kept .0 ∙ k .pre .1))))
+    (h .whole, (omega (arith, f .ensures .0, n .ensures .0, h .wires), (h .registers, (v .0, c .before .before .before .before .store .kept .0 ∙ k .pre .1 .1))))
+
+arrived-requires : tie.Need-arrived-requires
+arrived-requires c κs =
+    let s = c .before .before .before .before .before .before .before .before .before .before .before .before .before .before .before .before .before .before .before .before .before .before in
+    (c .before .before .before .before .before .before .before .before .before .before .work .kept .0 ∙ c .before .before .before .before .before .before .before .before .before .before .before .before .before .before .before .store .kept .0 ∙ s .pre .1 .1, (s .pre .0 .whole, (s .pre .1 .0 .1, s .pre .0 .state)))
 
 returns : tie.Need-returns
 returns c =
-    let b = c .before .before .before .before .before .before .before .before .before in
+    let b = c .before .before .before .before .before .before .before .before .before .before .before in
     let l = b .before .before .before .before .before in
-    let s = l .before .before .before .before .before .before in
+    let s = l .before .before .before .before .before .before .before in
     let a = s .args in
     let t = now (a .table) in
     let rs = a .registers .words in
@@ -41,23 +48,28 @@ returns c =
     let f = b .before .first-wire in
     let n = l .before .before .wire-count in
     let p = l .before .before .before .«record» in
-    let m = c .before .word-index in
+    let m = c .before .before .before .word-index in
     let last = b .work .last .0 in
     let d = s .pre .0 in
     let r = getD t 1 0 in
     let v = valid-state-parts t r (a .k) (f .result) (n .result) (p .result) (f .ensures .0) (n .ensures .0) (p .ensures) refl (d .valid) in
     let room : maxRegisters + n .result ≤ roomWords = omega (arith, n .ensures .0, d .wires) in
-    let h : length rs ≡ maxRegisters = omega (arith, s .pre .1, l .store .kept .0, ap length (l .store .ensures), length-append rs (drop maxRegisters ws), length-drop maxRegisters ws) in
+    let h : length rs ≡ maxRegisters = omega (arith, s .pre .1 .1, l .store .kept .0, ap length (l .store .ensures), length-append rs (drop maxRegisters ws), length-drop maxRegisters ws) in
     let e = ap (take maxRegisters) (l .store .ensures) ∙ take-at rs (drop maxRegisters ws) maxRegisters h in
     let next = getD t (p .result + nextStateOffset) 0 in
     let taken = take (m .result) (drop (p .result + nextRegistersOffset) t) in
     let valid = ap (λ (i : ℕ). every (validReference r (n .result)) (take i (drop (p .result + nextRegistersOffset) t))) (m .ensures .0) ∙ v .2 in
-    clocked (a .sampled) t (a .k) (f .result) (n .result) (p .result) (m .result) (f .ensures .0) (n .ensures .0) (p .ensures) (m .ensures .0) rs
-    (take (maxRegisters + n .result) last) (c .taken .result .words) (c .before .before .before .before .word-at .result) (b .work .result)
-    (b .work .ensures .0 ∙ ap (λ (v : List ℕ). worked (a .sampled) v (wiresFrom t (f .result) (n .result))) e)
-    (b .work .ensures .1 ∙ ap (λ (v : List ℕ). wiresOver (a .sampled) v (wiresFrom t (f .result) (n .result))) e)
-    (c .before .before .before .before .word-at .ensures ∙ reads-same last r (n .result) (d .registers) room next (v .1))
-    (c .taken .ensures ∙ ap (λ (l : List ℕ). l ++ drop (m .result) rs) (all-same last r (n .result) (d .registers) room taken valid))
+    let env = b .work .ensures .0 ∙ ap (λ (v : List ℕ). worked (a .sampled) v (wiresFrom t (f .result) (n .result))) e in (
+      clocked (a .sampled) t (a .k) (f .result) (n .result) (p .result) (m .result) (f .ensures .0) (n .ensures .0) (p .ensures) (m .ensures .0) rs
+          (take (maxRegisters + n .result) last) (c .before .before .taken .result .words) (c .before .before .before .before .before .before .word-at .result) (b .work .result)
+          env
+          (b .work .ensures .1 ∙ ap (λ (v : List ℕ). wiresOver (a .sampled) v (wiresFrom t (f .result) (n .result))) e)
+          (c .before .before .before .before .before .before .word-at .ensures ∙ reads-same last r (n .result) (d .registers) room next (v .1))
+          (c .before .before .taken .ensures ∙ ap (λ (l : List ℕ). l ++ drop (m .result) rs) (all-same last r (n .result) (d .registers) room taken valid)),
+      c .arrived .ensures
+          ∙ arrived-is t (a .k) last (n .result) room (λ b h e. let x = s .pre .1 .0 .0 b h e in omega (arith, n .ensures .0))
+          ∙ ap (λ (v : List ℕ). nonzero v (map (arrivalAt t) (blocksFrom t (a .k) 0))) (env ∙ environment (a .sampled) t (a .k) (f .result) (n .result) (f .ensures .0) (n .ensures .0) rs),
+    )
 
 pub cycle-spec : {M : Type 1} → statement M
 cycle-spec =
@@ -76,5 +88,6 @@ cycle-spec =
     (λ c. search needs)
     (λ c κs. search needs)
     (λ c κs. search needs)
+    arrived-requires
     (λ c. search needs)
     returns)

@@ -14,7 +14,7 @@ returns c =
     let r = c .before .before .before .before in
     let rs = now (r .before .before .before .before .before .before .args .registers) in
     let e = rw (r .before .load .ensures) at (r .run .ensures) in
-    (e .0, c .before .before .store .ensures ∙ ap (λ (l : List ℕ). l ++ drop maxRegisters rs) (e .1))
+    (e .0, (c .before .before .store .ensures ∙ ap (λ (l : List ℕ). l ++ drop maxRegisters rs) (e .1 .0), e .1 .1))
 
 pub run-from-spec : {M : Type 1} → statement M
 run-from-spec =

@@ -7,7 +7,7 @@ pub record Within (c : Case) : Type 0 where
   pub graph : c .graph ≤ 2600
   pub graphPatches : c .«graph_patches» .count ≤ 64
   pub output : c .output ≤ 17000
-  pub machine : c .machine ≤ 13764
+  pub machine : c .machine ≤ 13828
   pub machinePatches : c .«machine_patches» .count ≤ 64
   pub registers : c .registers .count ≤ 20
   pub words : c .words .count ≤ 64

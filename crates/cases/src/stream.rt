@@ -86,7 +86,7 @@ impl Case {
 
     pub const OUTPUT: u32 = 17000;
 
-    pub const MACHINE: u32 = 13764;
+    pub const MACHINE: u32 = 13828;
 
     pub const REGISTERS: u32 = 20;
 

@@ -47,8 +47,10 @@ past-lengths = record {
       graph.past-words-registers t u (omega arith) rs v (omega arith) start budget words starters;
   machine-answer = λ m u rs v h k start budget. machine.past-run-answer m u (omega arith) rs v (omega arith) start budget;
   machine-registers = λ m u rs v h k start budget. machine.past-run-registers m u (omega arith) rs v (omega arith) start budget;
+  machine-blocks = λ m u rs v h k start budget. machine.past-run-blocks m u (omega arith) rs v (omega arith) start budget;
   machine-with-words-answer = λ m u rs v h k start budget words. machine.past-words-answer m u (omega arith) rs v (omega arith) start budget words;
   machine-with-words-registers = λ m u rs v h k start budget words. machine.past-words-registers m u (omega arith) rs v (omega arith) start budget words;
+  machine-with-words-blocks = λ m u rs v h k start budget words. machine.past-words-blocks m u (omega arith) rs v (omega arith) start budget words;
   touches-answer = λ m u h k i. past-touches m u (omega arith) i k;
   first-touching-answer = λ m u h i. past-first m u (omega arith) i;
   bounds-answer = λ m u ls v hs w a b c k. past-bounds m u ls v hs w (long m ls hs a b c) k;

@@ -12,7 +12,7 @@ use Rattle.cfg_write.specs.Write.{writeAnswer, writeBytes}
 use Rattle.fsmd.specs.Layout.{machineWords, maxRegisters}
 use Rattle.fsmd.specs.Machine.{machineRunner}
 use Rattle.fsmd.specs.Table.{machineRegisterCount, machineOf}
-use Rattle.fsmd.specs.Run.{machineAnswer, machineRegisters, machineWordsAnswer, machineWordsRegisters}
+use Rattle.fsmd.specs.Run.{machineAnswer, machineRegisters, machineBlocks, machineWordsAnswer, machineWordsRegisters, machineWordsBlocks}
 use Rattle.synthesis.specs.Synthesis.{synthesisAnswer, synthesisWords}
 use Rattle.bounds.specs.Operation.{boundsAnswer, lowestLeft, highestLeft}
 use Rattle.touching.specs.declared.TouchesAnswer.the-variants.{Answered}
@@ -53,10 +53,14 @@ pub record PastLengths : Type 0 where
       → machineAnswer (m ++ u) (rs ++ v) start budget ≡ machineAnswer m rs start budget
   pub machine-registers : (m u rs v : List ℕ) → length m ≡ machineWords → length rs ≡ maxRegisters → (start budget : ℕ)
       → machineRegisters (m ++ u) (rs ++ v) start budget ≡ machineRegisters m rs start budget ++ v
+  pub machine-blocks : (m u rs v : List ℕ) → length m ≡ machineWords → length rs ≡ maxRegisters → (start budget : ℕ)
+      → machineBlocks (m ++ u) (rs ++ v) start budget ≡ machineBlocks m rs start budget
   pub machine-with-words-answer : (m u rs v : List ℕ) → length m ≡ machineWords → length rs ≡ maxRegisters → (start budget : ℕ) (words : List ℕ)
       → machineWordsAnswer (m ++ u) (rs ++ v) start budget words ≡ machineWordsAnswer m rs start budget words
   pub machine-with-words-registers : (m u rs v : List ℕ) → length m ≡ machineWords → length rs ≡ maxRegisters → (start budget : ℕ) (words : List ℕ)
       → machineWordsRegisters (m ++ u) (rs ++ v) start budget words ≡ machineWordsRegisters m rs start budget words ++ v
+  pub machine-with-words-blocks : (m u rs v : List ℕ) → length m ≡ machineWords → length rs ≡ maxRegisters → (start budget : ℕ) (words : List ℕ)
+      → machineWordsBlocks (m ++ u) (rs ++ v) start budget words ≡ machineWordsBlocks m rs start budget words
   pub touches-answer : (m u : List ℕ) → length m ≡ machineWords → (k i : ℕ) → touchesAnswer (m ++ u) k i ≡ touchesAnswer m k i
   pub first-touching-answer : (m u : List ℕ) → length m ≡ machineWords → (i : ℕ) → firstTouchingAnswer (m ++ u) i ≡ firstTouchingAnswer m i
   pub bounds-answer : (m u ls v hs w : List ℕ) → length m ≡ machineWords → length ls ≡ maxRegisters → length hs ≡ maxRegisters → (k : ℕ)

@@ -24,7 +24,7 @@ ghost use Rattle.agreement.specs.Agreement.{Agreement};
 ghost use Rattle.cfg.specs.Run.{graphRefusal, graphWordsRefusal, graphAnswer, graphRegisters, graphWordsAnswer, graphWordsRegisters};
 ghost use Rattle.fsmd.specs.Machine.{machineRunner};
 ghost use Rattle.fsmd.specs.Table.{machineOf};
-ghost use Rattle.fsmd.specs.Run.{machineRefusal, machineWordsRefusal, machineAnswer, machineRegisters, machineWordsAnswer, machineWordsRegisters};
+ghost use Rattle.fsmd.specs.Run.{machineRefusal, machineWordsRefusal, machineAnswer, machineRegisters, machineBlocks, machineWordsAnswer, machineWordsRegisters, machineWordsBlocks};
 ghost use Rattle.touching.specs.Touching.{touchesAnswer, firstTouchingAnswer};
 ghost use Rattle.touching.specs.Values.{TouchesValues, FirstTouchingValues};
 ghost use Rattle.bounds.specs.Operation.{boundsAnswer, lowestLeft, highestLeft};
@@ -36,6 +36,7 @@ use bounds::BoundsAnswer;
 use capture::CaptureAnswer;
 use cfg_text::ReadAnswer;
 use cfg_write::WriteAnswer;
+use fsmd::run::MachineAnswer;
 use runs::RunAnswer;
 use synthesis::SynthesisAnswer;
 use touching::FirstTouchingAnswer;
@@ -80,11 +81,12 @@ pub fn run_graph(graph: &[u32], registers: &mut [u32], start: u32, budget: u32) 
     cfg::run::run_graph(graph, registers, start, budget)
 }
 
-// "Run machine": so many cycles from a start state on.
-pub fn run_machine(machine: &[u32], registers: &mut [u32], start: u32, budget: u32) -> RunAnswer
-    ensures { λ r. ⌜ r ≡ machineAnswer (now (machine .entry)) (now (registers .entry)) start budget ⌝ }
+// "Run machine": so many cycles from a start state on, and how many blocks they arrive at.
+pub fn run_machine(machine: &[u32], registers: &mut [u32], start: u32, budget: u32) -> MachineAnswer
+    ensures { λ r. ⌜ r .run ≡ machineAnswer (now (machine .entry)) (now (registers .entry)) start budget ⌝ }
     ensures { λ _. ⌜ now (registers .exit) ≡ machineRegisters (now (machine .entry)) (now (registers .entry)) start budget ⌝ }
-    ensures { λ r. ⌜ RunValues (machineRefusal (now (machine .entry)) (now (registers .entry)) start) (machineRunner (machineOf (now (machine .entry)))) unread budget (startAt start (take maxRegisters (now (registers .entry)))) r ⌝ }
+    ensures { λ r. ⌜ r .blocks ≡ machineBlocks (now (machine .entry)) (now (registers .entry)) start budget ⌝ }
+    ensures { λ r. ⌜ RunValues (machineRefusal (now (machine .entry)) (now (registers .entry)) start) (machineRunner (machineOf (now (machine .entry)))) unread budget (startAt start (take maxRegisters (now (registers .entry)))) (r .run) ⌝ }
 {
     fsmd::run::run_machine(machine, registers, start, budget)
 }
@@ -112,10 +114,11 @@ pub fn run_machine_with_words(
     start: u32,
     budget: u32,
     words: &[u32],
-) -> RunAnswer
-    ensures { λ r. ⌜ r ≡ machineWordsAnswer (now (machine .entry)) (now (registers .entry)) start budget (now (words .entry)) ⌝ }
+) -> MachineAnswer
+    ensures { λ r. ⌜ r .run ≡ machineWordsAnswer (now (machine .entry)) (now (registers .entry)) start budget (now (words .entry)) ⌝ }
     ensures { λ _. ⌜ now (registers .exit) ≡ machineWordsRegisters (now (machine .entry)) (now (registers .entry)) start budget (now (words .entry)) ⌝ }
-    ensures { λ r. ⌜ RunValues (machineWordsRefusal (now (machine .entry)) (now (registers .entry)) start) (machineRunner (machineOf (now (machine .entry)))) (listed (now (words .entry))) budget (startAt start (take maxRegisters (now (registers .entry)))) r ⌝ }
+    ensures { λ r. ⌜ r .blocks ≡ machineWordsBlocks (now (machine .entry)) (now (registers .entry)) start budget (now (words .entry)) ⌝ }
+    ensures { λ r. ⌜ RunValues (machineWordsRefusal (now (machine .entry)) (now (registers .entry)) start) (machineRunner (machineOf (now (machine .entry)))) (listed (now (words .entry))) budget (startAt start (take maxRegisters (now (registers .entry)))) (r .run) ⌝ }
 {
     fsmd::run::run_machine_with_words(machine, registers, start, budget, words)
 }

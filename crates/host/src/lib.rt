@@ -9,7 +9,7 @@ ghost use Rattle.cfg_text.specs.Read.{readAnswer, readWords, readNumber, readLi
 ghost use Rattle.cfg_write.specs.Write.{writeAnswer, writeBytes, writeNumber, writeLength};
 ghost use Rattle.synthesis.specs.Synthesis.{synthesisAnswer, synthesisWords, synthesisNumber};
 ghost use Rattle.cfg.specs.Run.{graphAnswer, graphRegisters, graphWordsAnswer, graphWordsRegisters};
-ghost use Rattle.fsmd.specs.Run.{machineAnswer, machineRegisters, machineWordsAnswer, machineWordsRegisters};
+ghost use Rattle.fsmd.specs.Run.{machineAnswer, machineRegisters, machineBlocks, machineWordsAnswer, machineWordsRegisters, machineWordsBlocks};
 ghost use Rattle.bounds.specs.Operation.{boundsAnswer, lowestLeft, highestLeft, boundsNumber};
 ghost use Rattle.touching.specs.Touching.{touchesAnswer, touchesNumber, touchedField, firstTouchingAnswer, firstNumber, firstState};
 ghost use Rattle.host.specs.Fields.{RunFields, CaptureFields};
@@ -90,12 +90,16 @@ pub extern "C" fn gutkavu_run_machine(
     count: &mut u32,
     next: &mut u32,
     flag: &mut u32,
+    blocks: &mut u64,
 ) -> u32
     ensures { λ r. ⌜ RunFields (machineAnswer (now (machine .entry)) (now (registers .entry)) start budget) r (now (halted .exit)) (now (count .exit)) (now (next .exit)) (now (flag .exit)) ⌝ }
     ensures { λ _. ⌜ now (registers .exit) ≡ machineRegisters (now (machine .entry)) (now (registers .entry)) start budget ⌝ }
+    ensures { λ _. ⌜ now (blocks .exit) ≡ machineBlocks (now (machine .entry)) (now (registers .entry)) start budget ⌝ }
 {
     let answer = compiler::run_machine(machine, registers, start, budget);
-    set_run(answer, halted, count, next, flag)
+    *blocks = answer.blocks;
+    let run = answer.run;
+    set_run(run, halted, count, next, flag)
 }
 
 #[no_mangle]
@@ -129,12 +133,16 @@ pub extern "C" fn gutkavu_run_machine_with_words(
     count: &mut u32,
     next: &mut u32,
     flag: &mut u32,
+    blocks: &mut u64,
 ) -> u32
     ensures { λ r. ⌜ RunFields (machineWordsAnswer (now (machine .entry)) (now (registers .entry)) start budget (now (words .entry))) r (now (outcome .exit)) (now (count .exit)) (now (next .exit)) (now (flag .exit)) ⌝ }
     ensures { λ _. ⌜ now (registers .exit) ≡ machineWordsRegisters (now (machine .entry)) (now (registers .entry)) start budget (now (words .entry)) ⌝ }
+    ensures { λ _. ⌜ now (blocks .exit) ≡ machineWordsBlocks (now (machine .entry)) (now (registers .entry)) start budget (now (words .entry)) ⌝ }
 {
     let answer = compiler::run_machine_with_words(machine, registers, start, budget, words);
-    set_run(answer, outcome, count, next, flag)
+    *blocks = answer.blocks;
+    let run = answer.run;
+    set_run(run, outcome, count, next, flag)
 }
 
 // The fields of a comparison's answer.

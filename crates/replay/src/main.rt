@@ -17,9 +17,9 @@ ghost use Rattle.cases.specs.Limits.{Within};
 fn print(s: &[u8], c: Case) -> bool
     requires { ⌜ Within c ⌝ }
 {
-    let mut fields = [0u32; 47];
+    let mut fields = [0u32; 49];
     steps::answer(s, c, &mut fields);
-    let mut out = [0u8; 517];
+    let mut out = [0u8; 539];
     let n = line::put_line(&mut out, &fields);
     io::write_all(STDOUT_FILENO, &out[..n])
 }

@@ -9,6 +9,7 @@ use cases::stream::Captures;
 use cases::stream::Case;
 use cases::stream::Region;
 use compiler::fields;
+use fsmd::run::MachineAnswer;
 use listing::ListAnswer;
 use runs::RunAnswer;
 ghost use Prim.Native.Nat.{_≤_};
@@ -50,30 +51,47 @@ fn synthesise(graph: &[u32], machine: &mut [u32], line: &mut [u32]) {
     store(line, 7, digest::of_words(machine));
 }
 
-// The fields of a run from a place of the line on.
-fn put_run(answer: RunAnswer, registers: &[u32], line: &mut [u32], at: usize)
-    requires { ⌜ at ≤ 26 ⌝ }
+// The fields of a run's answer from a place of the line on.
+fn put_run(answer: RunAnswer, line: &mut [u32], at: usize)
+    requires { ⌜ at ≤ 27 ⌝ }
 {
     store(line, at, fields::run_number(answer));
     store(line, at + 1, fields::run_outcome(answer));
     store(line, at + 2, fields::run_count(answer));
     store(line, at + 3, fields::run_next(answer));
     store(line, at + 4, fields::run_flag(answer));
+}
+
+// Those of a graph's run, and its registers.
+fn put_graph_run(answer: RunAnswer, registers: &[u32], line: &mut [u32], at: usize)
+    requires { ⌜ at ≤ 21 ⌝ }
+{
+    put_run(answer, line, at);
     store(line, at + 5, digest::of_words(registers));
+}
+
+// Those of a machine's run, its blocks, and its registers. A case's runs are too short for more than 32 bits.
+fn put_machine_run(answer: MachineAnswer, registers: &[u32], line: &mut [u32], at: usize)
+    requires { ⌜ at ≤ 27 ⌝ }
+{
+    let run = answer.run;
+    put_run(run, line, at);
+    store(line, at + 5, (answer.blocks % 0x1_0000_0000) as u32);
+    store(line, at + 6, digest::of_words(registers));
 }
 
 fn run_graph(graph: &[u32], registers: &mut [u32], s: &[u8], c: Case, line: &mut [u32]) {
     let buffer = c.registers;
     contents::load(registers, s, buffer.at);
     let answer = compiler::run_graph(graph, registers, c.start_block, c.block_budget);
-    put_run(answer, registers, line, 8);
+    put_graph_run(answer, registers, line, 8);
 }
 
 fn run_machine(machine: &[u32], registers: &mut [u32], s: &[u8], c: Case, line: &mut [u32]) {
     let buffer = c.registers;
     contents::load(registers, s, buffer.at);
     let answer = compiler::run_machine(machine, registers, c.start_state, c.cycle_budget);
-    put_run(answer, registers, line, 14);
+    put_machine_run(answer, registers, line, 14);
 }
 
 // Both runs without words, each on its own copy of the register words.
@@ -107,7 +125,7 @@ fn run_graph_with_words(
         words,
         starters,
     );
-    put_run(answer, registers, line, 20);
+    put_graph_run(answer, registers, line, 21);
 }
 
 fn run_machine_with_words(
@@ -127,7 +145,7 @@ fn run_machine_with_words(
         c.cycle_budget,
         words,
     );
-    put_run(answer, registers, line, 26);
+    put_machine_run(answer, registers, line, 27);
 }
 
 // Both runs on the case's words and starters, each on its own copy of the register words.
@@ -183,27 +201,27 @@ fn list(text: &[u8], line: &mut [u32]) {
     };
     let n = length as usize;
     if n <= out.len() {
-        store(line, 32, length);
-        store(line, 33, digest::of_bytes(&out[..n]));
+        store(line, 34, length);
+        store(line, 35, digest::of_bytes(&out[..n]));
     }
 }
 
 // Line and count are as small as the recordings.
 fn put_comparison(answer: CaptureAnswer, line: &mut [u32]) {
-    store(line, 34, fields::capture_number(answer));
-    store(line, 35, fields::capture_recording(answer));
+    store(line, 36, fields::capture_number(answer));
+    store(line, 37, fields::capture_recording(answer));
     store(
         line,
-        36,
+        38,
         (fields::capture_line(answer) % 0x1_0000_0000) as u32,
     );
     store(
         line,
-        37,
+        39,
         (fields::capture_shared(answer) % 0x1_0000_0000) as u32,
     );
-    store(line, 38, fields::capture_differs(answer));
-    store(line, 39, fields::capture_cycle(answer));
+    store(line, 40, fields::capture_differs(answer));
+    store(line, 41, fields::capture_cycle(answer));
 }
 
 fn compare_captures(s: &[u8], captures: Captures, line: &mut [u32]) {
@@ -218,11 +236,11 @@ fn compare_captures(s: &[u8], captures: Captures, line: &mut [u32]) {
 // Both questions about the case's register.
 fn ask_touching(machine: &[u32], asked: Asked, line: &mut [u32]) {
     let one = compiler::touches(machine, asked.state, asked.register);
-    store(line, 40, fields::touches_number(one));
-    store(line, 41, fields::touched(one));
+    store(line, 42, fields::touches_number(one));
+    store(line, 43, fields::touched(one));
     let lowest = compiler::first_touching(machine, asked.register);
-    store(line, 42, fields::first_touching_number(lowest));
-    store(line, 43, fields::first_touching_state(lowest));
+    store(line, 44, fields::first_touching_number(lowest));
+    store(line, 45, fields::first_touching_state(lowest));
 }
 
 fn bound(
@@ -238,9 +256,9 @@ fn bound(
     contents::load(lowest, s, low.at);
     contents::load(highest, s, high.at);
     let answer = compiler::bounds(machine, lowest, highest, asked.state);
-    store(line, 44, fields::bounds_number(answer));
-    store(line, 45, digest::of_words(lowest));
-    store(line, 46, digest::of_words(highest));
+    store(line, 46, fields::bounds_number(answer));
+    store(line, 47, digest::of_words(lowest));
+    store(line, 48, digest::of_words(highest));
 }
 
 // The bounds of the case's state, on copies of the lowest and highest words.
@@ -296,7 +314,7 @@ pub fn answer(s: &[u8], c: Case, line: &mut [u32])
     requires { ⌜ Within c ⌝ }
 {
     let mut graph = [0u32; 2600];
-    let mut machine = [0u32; 13764];
+    let mut machine = [0u32; 13828];
     let g = c.graph as usize;
     let m = c.machine as usize;
     answer_on(s, c, &mut graph[..g], &mut machine[..m], line);

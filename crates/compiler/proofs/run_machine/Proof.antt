@@ -24,7 +24,7 @@ returns c =
     let u = c .before .before .run-machine in
     let n = machineRefusal (a .machine .now) (a .registers .now) (a .start) in
     let r = machineRunner (machineOf (a .machine .now)) in
-    (u .ensures .0, (u .ensures .1, subst (RunValues n r unread (a .budget) (startAt (a .start) (take fileWords (a .registers .now)))) (sym (u .ensures .0)) (operation-values r unread (a .registers .now) (a .start) (a .budget) n)))
+    (u .ensures .0, (u .ensures .1 .0, (u .ensures .1 .1, subst (RunValues n r unread (a .budget) (startAt (a .start) (take fileWords (a .registers .now)))) (sym (u .ensures .0)) (operation-values r unread (a .registers .now) (a .start) (a .budget) n))))
 
 pub run-machine-spec : {M : Type 1} → statement M
 run-machine-spec = tie.close (tie.spec run-machine-requires same-length returns)

@@ -24,7 +24,7 @@ returns c =
     let u = c .before .before .run-machine-with-words in
     let n = machineWordsRefusal (a .machine .now) (a .registers .now) (a .start) in
     let r = machineRunner (machineOf (a .machine .now)) in
-    (u .ensures .0, (u .ensures .1, subst (RunValues n r (listed (a .words .now)) (a .budget) (startAt (a .start) (take fileWords (a .registers .now)))) (sym (u .ensures .0)) (operation-values r (listed (a .words .now)) (a .registers .now) (a .start) (a .budget) n)))
+    (u .ensures .0, (u .ensures .1 .0, (u .ensures .1 .1, subst (RunValues n r (listed (a .words .now)) (a .budget) (startAt (a .start) (take fileWords (a .registers .now)))) (sym (u .ensures .0)) (operation-values r (listed (a .words .now)) (a .registers .now) (a .start) (a .budget) n))))
 
 pub run-machine-with-words-spec : {M : Type 1} → statement M
 run-machine-with-words-spec = tie.close (tie.spec run-machine-with-words-requires same-length returns)

@@ -9,7 +9,7 @@ use Rattle.replay.proofs.print.Tie as tie
 
 room : (c : tie.After-put-line) → c .put-line .result ≤ length (c .put-line .last .0)
 room c =
-    omega (arith, c .put-line .ensures, c .put-line .kept .0, c .before .before .before .before .answer .kept .1 .1 .0, length-replicate {A = ℕ} 517 0, length-replicate {A = ℕ} 47 0)
+    omega (arith, c .put-line .ensures, c .put-line .kept .0, c .before .before .before .before .answer .kept .1 .1 .0, length-replicate {A = ℕ} 539 0, length-replicate {A = ℕ} 49 0)
 
 slice-aggregate-write-all : tie.Need-slice-aggregate-write-all
 slice-aggregate-write-all c = part _ _ (room (c .before .before))

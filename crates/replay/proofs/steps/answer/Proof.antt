@@ -8,7 +8,7 @@ slice-aggregate-answer-on : tie.Need-slice-aggregate-answer-on
 slice-aggregate-answer-on c = fresh-part _ 2600 (c .before .before .before .before .before .pre .graph)
 
 slice-aggregate-answer-on-2 : tie.Need-slice-aggregate-answer-on-2
-slice-aggregate-answer-on-2 c = fresh-part _ 13764 (c .before .before .before .before .before .before .pre .machine)
+slice-aggregate-answer-on-2 c = fresh-part _ 13828 (c .before .before .before .before .before .before .pre .machine)
 
 pub answer-spec : {M : Type 1} → statement M
 answer-spec =

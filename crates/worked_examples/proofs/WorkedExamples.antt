@@ -14,6 +14,7 @@ use Rattle.worked_examples.specs.Flags.{flags}
 use Rattle.worked_examples.specs.Touches.{touchRows}
 use Rattle.worked_examples.specs.Ranges.{rangeRows}
 use Rattle.worked_examples.specs.Shifts.{shiftRows}
+use Rattle.worked_examples.specs.Blocks.{blockRows}
 use Rattle.worked_examples.proofs.Endless.{graph-endless, machine-endless, run-graph-endless, run-machine-endless}
 
 -- ---- the rows of each file, computed one file at a time
@@ -61,6 +62,10 @@ hold-shifts : Hold shiftRows
 unfolding shiftRows
 hold-shifts = tt
 
+hold-blocks : Hold blockRows
+unfolding blockRows
+hold-blocks = tt
+
 -- and so of all together
 both : (rs qs : List Row) → Hold rs → Hold qs → Hold (rs ++ qs)
 both [] qs h k = k
@@ -75,7 +80,7 @@ all =
     both rows _ hold-rows
     (both throughTables _ hold-through-tables
     (both orders _ hold-orders
-    (both admission _ hold-admission (both kept _ hold-kept (both ahead _ hold-ahead (both flags _ hold-flags (both touchRows _ hold-touches (both rangeRows shiftRows hold-ranges hold-shifts))))))))
+    (both admission _ hold-admission (both kept _ hold-kept (both ahead _ hold-ahead (both flags _ hold-flags (both touchRows _ hold-touches (both rangeRows _ hold-ranges (both shiftRows blockRows hold-shifts hold-blocks)))))))))
 
 pub worked-examples : WorkedExamples
 worked-examples =

@@ -6,15 +6,15 @@ use lib.ListN.{replicate, set}
 use Rattle.word.specs.Word.{evalOf}
 use Rattle.runs.specs.Lists.{same, padded}
 use Rattle.runs.specs.Operations.{answered, registersLeft}
-use Rattle.fsmd.specs.Layout.{maxRegisters, touchOffset, allRecordWords, allWireWords}
+use Rattle.fsmd.specs.Layout.{maxStates, maxBlocks, maxRegisters, touchOffset, allRecordWords, allWireWords, absent}
 use Rattle.fsmd.specs.Machine.{clock}
 use Rattle.fsmd.specs.Table.{machineOf, admittedMachine}
 use Rattle.fsmd.specs.Run.{machineRefusal, machineAnswer, machineRegisters, machineWordsRefusal, machineWordsAnswer}
 use Rattle.worked_examples.specs.Rows.{Row, row, fields, refusedWith, regs}
 
--- N, R, no starters, no block states, the words of records and of wires
+-- N, R, no starters, no blocks, the words of records and of wires
 abbrev pub byHand : ℕ → ℕ → List ℕ → List ℕ → List ℕ
-byHand n r records wires = n ∷ r ∷ (replicate 128 0 ++ (padded allRecordWords 0 records ++ padded allWireWords 0 wires))
+byHand n r records wires = n ∷ r ∷ (replicate maxStates 0 ++ (replicate maxBlocks absent ++ (padded allRecordWords 0 records ++ (padded allWireWords 0 wires ++ replicate maxBlocks 0))))
 
 -- first wire, wire count, next state and next registers; the touch word is 0
 abbrev pub state : ℕ → ℕ → ℕ → List ℕ → List ℕ
@@ -79,7 +79,7 @@ admission =
     ∷ row "a register at R as the next state: 10" (ten (with 1 1 (1 ∷ 0 ∷ [])))
     ∷ row "as a next register: 10" (ten (byHand 1 1 (touching 1 (state 0 0 0 (1 ∷ []))) []))
     -- what is not read
-    ∷ row "starters and block states" (runs (set (set (byHand 1 1 [] []) 2 99) 66 99))
+    ∷ row "starters" (runs (set (byHand 1 1 [] []) 2 99))
     ∷ row "records from N up" (runs (byHand 1 1 (bare 0 ++ state 4000 9 99 (99 ∷ [])) []))
     ∷ row "next references from R up" (runs (byHand 1 1 (state 0 0 0 (0 ∷ 99 ∷ [])) []))
     ∷ row "wires of no state" (runs (with 1 0 (1 ∷ 0 ∷ 0 ∷ 0 ∷ 99 ∷ 99 ∷ 99 ∷ 99 ∷ [])))

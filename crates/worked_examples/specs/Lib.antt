@@ -10,4 +10,5 @@ pub mod Flags
 pub mod Touches
 pub mod Ranges
 pub mod Shifts
+pub mod Blocks
 pub mod Table

@@ -28,7 +28,7 @@ abbrev shortGraph : List ℕ
 shortGraph = replicate 2561 0
 
 abbrev shortMachine : List ℕ
-shortMachine = replicate 13697 0
+shortMachine = replicate 13761 0
 
 abbrev shortRegisters : List ℕ
 shortRegisters = replicate 15 0
@@ -168,11 +168,11 @@ orders =
     ∷ row "graph: 9" (graphRun 9 loop registers 1)
     ∷ row "graph: 9 also with budget 0" (refusedWith 9 (graphAnswer loop registers 1 0))
     -- run machine: 7 of the table, 7 of the registers, 10, 12, 9
-    ∷ row "machine: 7 and 7" (machineRun 7 (take 13697 loopMachine) shortRegisters 0)
-    ∷ row "machine: 7 of the table" (machineRun 7 (take 13697 loopMachine) registers 0)
+    ∷ row "machine: 7 and 7" (machineRun 7 (take 13761 loopMachine) shortRegisters 0)
+    ∷ row "machine: 7 of the table" (machineRun 7 (take 13761 loopMachine) registers 0)
     ∷ row "machine: 7 of the table before 10" (machineRun 7 shortMachine registers 0)
-    ∷ row "machine: 7 of the table before 12" (machineRun 7 (take 13697 samplingMachine) registers 0)
-    ∷ row "machine: 7 of the table before 9" (machineRun 7 (take 13697 loopMachine) registers 1)
+    ∷ row "machine: 7 of the table before 12" (machineRun 7 (take 13761 samplingMachine) registers 0)
+    ∷ row "machine: 7 of the table before 9" (machineRun 7 (take 13761 loopMachine) registers 1)
     ∷ row "machine: 7 of the registers" (machineRun 7 loopMachine shortRegisters 0)
     ∷ row "machine: 7 of the registers before 10" (machineRun 7 badMachine shortRegisters 0)
     ∷ row "machine: 7 of the registers before 12" (machineRun 7 samplingMachine shortRegisters 0)
@@ -198,9 +198,9 @@ orders =
     ∷ row "graph with words: 11" (graphOnWords 11 loop registers 0 [])
     ∷ row "graph with words: 6 with code 20" (graphOnWords 6 badSampling registers 0 (0 ∷ []))
     -- run machine with words: 7 of the table, 7 of the registers, 10, 9
-    ∷ row "machine with words: 7 and 7" (machineOnWords 7 (take 13697 loopMachine) shortRegisters 0)
+    ∷ row "machine with words: 7 and 7" (machineOnWords 7 (take 13761 loopMachine) shortRegisters 0)
     ∷ row "machine with words: 7 of the table before 10" (machineOnWords 7 shortMachine registers 0)
-    ∷ row "machine with words: 7 of the table before 9" (machineOnWords 7 (take 13697 loopMachine) registers 1)
+    ∷ row "machine with words: 7 of the table before 9" (machineOnWords 7 (take 13761 loopMachine) registers 1)
     ∷ row "machine with words: 7 of the registers before 10" (machineOnWords 7 badMachine shortRegisters 0)
     ∷ row "machine with words: 7 of the registers before 9" (machineOnWords 7 loopMachine shortRegisters 1)
     ∷ row "machine with words: 10 before 9" (machineOnWords 10 badMachine registers 1)

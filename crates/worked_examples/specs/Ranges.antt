@@ -116,10 +116,10 @@ rangeRows =
     ∷ row "r0 and r1 change places" (same (asked swap (regs 1 5) (regs 2 6) 0) (0 ∷ 5 ∷ 1 ∷ 0 ∷ 6 ∷ 2 ∷ 0 ∷ []))
     ∷ row "words from R up stay, whatever they are" (same (asked swap (1 ∷ 5 ∷ 9 ∷ replicate 14 3) (2 ∷ 6 ∷ 8 ∷ replicate 14 4) 0) (0 ∷ 5 ∷ 1 ∷ 9 ∷ 6 ∷ 2 ∷ 8 ∷ []))
     -- refusals: 7, 10, 9, 13
-    ∷ row "7: 13,697 words" (refusedWith 7 (take 13697 gcd) (regs 1 1) (regs 2 2) 0)
+    ∷ row "7: 13,761 words" (refusedWith 7 (take 13761 gcd) (regs 1 1) (regs 2 2) 0)
     ∷ row "7: 15 lowest words, 15 highest" (refusedWith 7 gcd (take 15 (regs 1 1)) (regs 2 2) 0 && refusedWith 7 gcd (regs 1 1) (take 15 (regs 2 2)) 0)
-    ∷ row "7: two are short, and all" (refusedWith 7 (take 13697 gcd) [] (regs 2 2) 0 && refusedWith 7 (take 13697 gcd) (regs 1 1) [] 0 && refusedWith 7 gcd [] [] 0 && refusedWith 7 [] [] [] 0)
-    ∷ row "7 of the table before 10, 9 and 13" (refusedWith 7 (take 13697 noMachine) (regs 1 1) (regs 2 2) 0 && refusedWith 7 (take 13697 gcd) (regs 1 1) (regs 2 2) 2 && refusedWith 7 (take 13697 gcd) (regs 1 1) (regs 0 0) 0)
+    ∷ row "7: two are short, and all" (refusedWith 7 (take 13761 gcd) [] (regs 2 2) 0 && refusedWith 7 (take 13761 gcd) (regs 1 1) [] 0 && refusedWith 7 gcd [] [] 0 && refusedWith 7 [] [] [] 0)
+    ∷ row "7 of the table before 10, 9 and 13" (refusedWith 7 (take 13761 noMachine) (regs 1 1) (regs 2 2) 0 && refusedWith 7 (take 13761 gcd) (regs 1 1) (regs 2 2) 2 && refusedWith 7 (take 13761 gcd) (regs 1 1) (regs 0 0) 0)
     ∷ row "7 of the lowest before 10, 9 and 13" (refusedWith 7 noMachine (take 15 (regs 1 1)) (regs 2 2) 0 && refusedWith 7 gcd (take 15 (regs 1 1)) (regs 2 2) 2 && refusedWith 7 gcd (take 15 (regs 1 1)) (regs 0 0) 0)
     ∷ row "7 of the highest before 10, 9 and 13" (refusedWith 7 noMachine (regs 1 1) (take 15 (regs 2 2)) 0 && refusedWith 7 gcd (regs 1 1) (take 15 (regs 2 2)) 2 && refusedWith 7 gcd (regs 1 1) (take 15 (regs 0 0)) 0)
     ∷ row "10 before 9" (refusedWith 10 wrongTouch (regs 1 1) (regs 2 2) 1)

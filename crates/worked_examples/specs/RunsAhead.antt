@@ -53,7 +53,7 @@ atOnce n = record { wires = set-wire 1 ∷ set-wire 2 ∷ set-wire n ∷ []; nex
 abbrev with : State → FSMD
 with q =
     let m = machine Twice in
-    record { registers = m .registers; starters = m .starters; blockStates = m .blockStates; states = q ∷ drop 1 (m .states) }
+    record { registers = m .registers; starters = m .starters; blockStates = m .blockStates; arrivals = m .arrivals; states = q ∷ drop 1 (m .states) }
 
 -- this one goes on to state 1, where its second cycle finds all done, and halts when the graph does
 unfoldable pub idling : List ℕ

@@ -35,6 +35,7 @@ use Rattle.worked_examples.specs.Flags.{flags}
 use Rattle.worked_examples.specs.Touches.{touchRows}
 use Rattle.worked_examples.specs.Ranges.{rangeRows}
 use Rattle.worked_examples.specs.Shifts.{shiftRows}
+use Rattle.worked_examples.specs.Blocks.{blockRows}
 
 -- wires of each state
 abbrev wireCounts : CFG → List ℕ
@@ -75,7 +76,7 @@ rows =
     ∷ row "P7 blocks by state" (same (groups P7 .states) (0 ∷ 1 ∷ 1 ∷ 1 ∷ 1 ∷ 1 ∷ []))
     ∷ row "P7 wires by state" (same (wireCounts P7) (2 ∷ 18 ∷ []))
     ∷ row "P7 words of the graph" (eqb (length (graphTableOf P7)) 2562)
-    ∷ row "P7 words of the machine" (eqb (length (machineTableOf (machine P7))) 13698)
+    ∷ row "P7 words of the machine" (eqb (length (machineTableOf (machine P7))) 13762)
     ∷ row "P7 its tables are admitted" (admittedGraph (graphTableOf P7) && admittedMachine (machineTableOf (machine P7)))
     ∷ row "P8 blocks" (same (fields (graphAnswer (graphTableOf P7) (regs 12 18) 0 1000)) (0 ∷ 1 ∷ 9 ∷ 255 ∷ 0 ∷ []))
     ∷ row "P8 registers of the graph" (same (graphRegisters (graphTableOf P7) (regs 12 18) 0 1000) (regs 6 6))
@@ -171,7 +172,7 @@ rows =
 
 -- every row of the table
 abbrev pub table : List Row
-table = rows ++ (throughTables ++ (orders ++ (admission ++ (kept ++ (ahead ++ (flags ++ (touchRows ++ (rangeRows ++ shiftRows))))))))
+table = rows ++ (throughTables ++ (orders ++ (admission ++ (kept ++ (ahead ++ (flags ++ (touchRows ++ (rangeRows ++ (shiftRows ++ blockRows)))))))))
 
 -- The worked examples, as one statement: proofs/WorkedExamples proves it.
 pub record WorkedExamples : Type 0 where

@@ -10,6 +10,7 @@ pub mod FoundEdges
 pub mod WireCodes
 pub mod WireValidity
 pub mod StateValidity
+pub mod Arrivals
 pub mod WireCount
 pub mod SynthesisedMachine
 pub mod TableWords

@@ -31,19 +31,19 @@ use Rattle.state.specs.Wires.{instructionWire, assign, assigns, close, leadsTo,
 use Rattle.synthesis.proofs.GraphFacts.{ValidCode, Compares, BlockFits, GraphFits}
 use Rattle.placement.proofs.StateOrder.{StateOrder}
 use Rattle.synthesis.proofs.FoundEdges.{exit-found}
-use Rattle.synthesis.proofs.WireValidity.{Reference, References, reference-more, references-more, reference-at, references-set, new-references, register-references, reference-valid, references-valid, set-valid, select-valid, two-valid, and-two, or-two, and-not-two, comparison-two, instruction-valid, wires-append, one-wire, cons-wires, no-wires, selects-valid}
+use Rattle.synthesis.proofs.WireValidity.{OfWire, References, wire-more, reference-more, references-more, reference-at, references-set, new-references, register-references, reference-valid, references-valid, set-valid, select-valid, two-valid, and-two, or-two, and-not-two, comparison-two, instruction-valid, wires-append, one-wire, cons-wires, no-wires, selects-valid}
 
 -- ---- points, edges and builds
 
 pub record PointValid (R : ℕ) (p : BlockBuild) : Type 0 where
-  pub arrives : Reference R (length (p .wires)) (p .arrival)
+  pub arrives : OfWire (length (p .wires)) (p .arrival)
   pub count : length (p .values) ≡ R
   pub reads : References R (length (p .wires)) (p .values)
   pub wired : validWires R 0 (p .wires) ≡ true
 
 -- where the state has n wires so far
 pub record EdgeValid (R n : ℕ) (e : Edge) : Type 0 where
-  pub takes : Reference R n (e .taken)
+  pub takes : OfWire n (e .taken)
   pub count : length (e .values) ≡ R
   pub reads : References R n (e .values)
 
@@ -58,7 +58,7 @@ pub record BuildValid (R : ℕ) (b : StateBuild) : Type 0 where
 edges-more : (R n m : ℕ) (es : List Edge) → n ≤ m → EdgesValid R n es → EdgesValid R m es
 edges-more R n m [] h a = tt
 edges-more R n m (e ∷ es) h a = (
-  record { takes = reference-more R n m (e .taken) h (a .0 .takes); count = a .0 .count; reads = references-more R n m (e .values) h (a .0 .reads) },
+  record { takes = wire-more n m (e .taken) h (a .0 .takes); count = a .0 .count; reads = references-more R n m (e .values) h (a .0 .reads) },
   edges-more R n m es h (a .1),
 )
 
@@ -84,12 +84,12 @@ join-valid R e p a b =
     let l : length (p .wires ++ new) ≡ n + suc (length (e .values)) =
     length-append (p .wires) new ∙ ap (λ (k : ℕ). n + suc k) (length-selects (e .taken) (e .values) (p .values) (a .count ∙ sym (b .count))) in
     record {
-      arrives = inr (omega arith, omega arith);
+      arrives = (omega arith, omega arith);
       count = length-upFrom (suc (maxRegisters + n)) (length (e .values)) ∙ a .count;
       reads = new-references R (length (p .wires ++ new)) (suc (maxRegisters + n)) (length (e .values)) (omega arith) (omega arith);
       wired = wires-append R 0 (p .wires) new (b .wired) (rw zero-add (cons-wires R n (or-wire (p .arrival) (e .taken)) (selects (e .taken) (e .values) (p .values))
-          (two-valid R n 6 (p .arrival) (e .taken) or-two (b .arrives) (a .takes))
-          (selects-valid R n (suc n) (e .taken) (e .values) (p .values) (omega arith) (a .takes) (a .reads) (b .reads))));
+          (two-valid R n 6 (p .arrival) (e .taken) or-two (inr (b .arrives)) (inr (a .takes)))
+          (selects-valid R n (suc n) (e .taken) (e .values) (p .values) (omega arith) (inr (a .takes)) (a .reads) (b .reads))));
     }
 
 joins-valid : (R : ℕ) (es : List Edge) (p : BlockBuild) → EdgesValid R (length (p .wires)) es → PointValid R p → PointValid R (joins es p)
@@ -103,7 +103,7 @@ set-point : (R : ℕ) (ws : List Wire) (k : ℕ) → validWires R 0 ws ≡ true 
 set-point R ws k a =
     let l = length-append ws (set-wire k ∷ []) in
     record {
-      arrives = inr (omega arith, omega arith);
+      arrives = (omega arith, omega arith);
       count = length-upFrom 0 R;
       reads = register-references R (length (ws ++ (set-wire k ∷ []))) 0 R (omega arith);
       wired = one-wire R 0 ws (set-wire k) a (set-valid R (0 + length ws) k);
@@ -116,7 +116,7 @@ arrive-valid R (e ∷ es) ws a b =
     joins-valid R es (record { arrival = e .taken; values = e .values; wires = ws }) (a .1)
     (record { arrives = a .0 .takes; count = a .0 .count; reads = a .0 .reads; wired = b })
 
-enter-valid : (R : ℕ) (c : Bool) (x : ℕ) (b : StateBuild) → BuildValid R b → PointValid R (enter R c x b)
+pub enter-valid : (R : ℕ) (c : Bool) (x : ℕ) (b : StateBuild) → BuildValid R b → PointValid R (enter R c x b)
 unfolding enter startBlock
 enter-valid R true x b v = set-point R (b .wires) 1 (v .wired)
 enter-valid R false x b v =
@@ -130,10 +130,10 @@ assign-valid R i p v a =
     let m = length (p .wires ++ (w ∷ [])) in
     let l : m ≡ n + 1 = length-append (p .wires) (w ∷ []) in
     record {
-      arrives = reference-more R n m (p .arrival) (omega arith) (a .arrives);
+      arrives = wire-more n m (p .arrival) (omega arith) (a .arrives);
       count = length-set (p .values) (i .d) (fresh (p .wires)) ∙ a .count;
       reads = references-set R m (p .values) (i .d) (fresh (p .wires)) (references-more R n m (p .values) (omega arith) (a .reads)) (inr (omega arith, omega arith));
-      wired = one-wire R 0 (p .wires) w (a .wired) (rw zero-add (instruction-valid R n (p .values) (p .arrival) i (a .count) (a .reads) (a .arrives) v));
+      wired = one-wire R 0 (p .wires) w (a .wired) (rw zero-add (instruction-valid R n (p .values) (p .arrival) i (a .count) (a .reads) (inr (a .arrives)) v));
     }
 
 assigns-valid : (R : ℕ) (is : List Instruction) (p : BlockBuild) → ValidCode R is → PointValid R p → PointValid R (assigns is p)
@@ -161,11 +161,11 @@ close-valid R (Ite c t f) p h a =
           (two-valid R n (comparisonCode (c .comparison)) (getD (p .values) (c .a) 0) (getD (p .values) (c .b) 0) (comparison-two (c .comparison))
           (reference-at R n (p .values) (c .a) (a .reads) (omega arith)) (reference-at R n (p .values) (c .b) (a .reads) (omega arith)))
           (cons-wires R (suc n) (and-wire (p .arrival) x) (and-not-wire (p .arrival) x ∷ [])
-          (two-valid R (suc n) 5 (p .arrival) x and-two (reference-more R n (suc n) (p .arrival) (omega arith) (a .arrives)) (inr (omega arith, omega arith)))
+          (two-valid R (suc n) 5 (p .arrival) x and-two (reference-more R n (suc n) (p .arrival) (omega arith) (inr (a .arrives))) (inr (omega arith, omega arith)))
           (cons-wires R (suc (suc n)) (and-not-wire (p .arrival) x) []
-          (two-valid R (suc (suc n)) 18 (p .arrival) x and-not-two (reference-more R n (suc (suc n)) (p .arrival) (omega arith) (a .arrives)) (inr (omega arith, omega arith)))
+          (two-valid R (suc (suc n)) 18 (p .arrival) x and-not-two (reference-more R n (suc (suc n)) (p .arrival) (omega arith) (inr (a .arrives))) (inr (omega arith, omega arith)))
           (no-wires R (suc (suc (suc n))))))));
-      joined = (record { takes = inr (omega arith, omega arith); count = a .count; reads = v }, (record { takes = inr (omega arith, omega arith); count = a .count; reads = v }, tt));
+      joined = (record { takes = (omega arith, omega arith); count = a .count; reads = v }, (record { takes = (omega arith, omega arith); count = a .count; reads = v }, tt));
     }
 close-valid R Halt p f a = record { wired = a .wired; joined = (record { takes = a .arrives; count = a .count; reads = a .reads }, tt) }
 
@@ -208,15 +208,15 @@ exit-valid R s e p a b =
     let l : length (p .wires ++ new) ≡ n + suc (suc (length (e .values))) =
     length-append (p .wires) new ∙ ap (λ (k : ℕ). n + suc (suc k)) (length-selects (e .taken) (e .values) (p .values) (a .count ∙ sym (b .count))) in
     record {
-      arrives = inr (omega arith, omega arith);
+      arrives = (omega arith, omega arith);
       count = length-upFrom (2 + (maxRegisters + n)) (length (e .values)) ∙ a .count;
       reads = new-references R (length (p .wires ++ new)) (2 + (maxRegisters + n)) (length (e .values)) (omega arith) (omega arith);
       wired = wires-append R 0 (p .wires) new (b .wired) (rw zero-add (
           cons-wires R n (set-wire k) (w ∷ more) (set-valid R n k)
           (cons-wires R (suc n) w more
-          (select-valid R (suc n) (e .taken) (maxRegisters + n) (p .arrival) (reference-more R n (suc n) (e .taken) (omega arith) (a .takes))
-          (inr (omega arith, omega arith)) (reference-more R n (suc n) (p .arrival) (omega arith) (b .arrives)))
-          (selects-valid R n (suc (suc n)) (e .taken) (e .values) (p .values) (omega arith) (a .takes) (a .reads) (b .reads)))));
+          (select-valid R (suc n) (e .taken) (maxRegisters + n) (p .arrival) (reference-more R n (suc n) (e .taken) (omega arith) (inr (a .takes)))
+          (inr (omega arith, omega arith)) (reference-more R n (suc n) (p .arrival) (omega arith) (inr (b .arrives))))
+          (selects-valid R n (suc (suc n)) (e .taken) (e .values) (p .values) (omega arith) (inr (a .takes)) (a .reads) (b .reads)))));
     }
 
 exit-more : (s : Groups) (e : Edge) (p : BlockBuild) → length (p .wires) ≤ length (exit s e p .wires)
@@ -239,7 +239,7 @@ close-state-valid R s e es ws a b =
     let l : length v ≡ length ws + 1 = length-append ws (w ∷ []) in
     exits-valid R s es (record { arrival = fresh ws; values = e .values; wires = v }) (edges-more R (length ws) (length v) es (omega arith) (a .1))
     (record {
-      arrives = inr (omega arith, omega arith);
+      arrives = (omega arith, omega arith);
       count = a .0 .count;
       reads = references-more R (length ws) (length v) (e .values) (omega arith) (a .0 .reads);
       wired = one-wire R 0 ws w b (set-valid R (0 + length ws) (nextStateOf s (e .target)));
@@ -264,7 +264,7 @@ state-valid g s k y f o =
     let n = length (q .wires) in
     record {
       valid = and-both (validWires R 0 (q .wires) && validReference R n (q .arrival)) (every (validReference R n) (q .values))
-          (and-both (validWires R 0 (q .wires)) (validReference R n (q .arrival)) (p .wired) (reference-valid R n (q .arrival) (p .arrives)))
+          (and-both (validWires R 0 (q .wires)) (validReference R n (q .arrival)) (p .wired) (reference-valid R n (q .arrival) (inr (p .arrives))))
           (references-valid R n (q .values) (p .reads));
       registers = p .count;
     }

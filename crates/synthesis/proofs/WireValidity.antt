@@ -27,16 +27,23 @@ use Rattle.synthesis.proofs.GraphFacts.{two-operands, code-range}
 
 -- ---- references, where the next wire is number n
 
+-- one of the n wires so far
+abbrev pub OfWire : ℕ → ℕ → Type 0
+OfWire n x = (maxRegisters ≤ x) × (x < maxRegisters + n)
+
 abbrev pub Reference : ℕ → ℕ → ℕ → Type 0
-Reference R n x = (x < R) ⊎ ((maxRegisters ≤ x) × (x < maxRegisters + n))
+Reference R n x = (x < R) ⊎ OfWire n x
 
 abbrev pub References : ℕ → ℕ → List ℕ → Type 0
 References R n [] = Unit {0}
 References R n (v ∷ vs) = Reference R n v × References R n vs
 
+pub wire-more : (n m x : ℕ) → n ≤ m → OfWire n x → OfWire m x
+wire-more n m x h a = (a .0, let b = a .1 in omega arith)
+
 pub reference-more : (R n m x : ℕ) → n ≤ m → Reference R n x → Reference R m x
 reference-more R n m x h (inl a) = inl a
-reference-more R n m x h (inr a) = inr (a .0, let b = a .1 in omega arith)
+reference-more R n m x h (inr a) = inr (wire-more n m x h a)
 
 pub references-more : (R n m : ℕ) (vs : List ℕ) → n ≤ m → References R n vs → References R m vs
 references-more R n m [] h a = tt

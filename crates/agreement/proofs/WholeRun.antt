@@ -23,7 +23,7 @@ use Rattle.synthesis.proofs.GraphFacts.{GraphFits}
 use Rattle.placement.proofs.StateOrder.{Arranged}
 use Rattle.synthesis.proofs.SynthesisedMachine.{states-count, state-at, registers-are}
 use Rattle.synthesis.proofs.Readings.{Reads}
-use Rattle.synthesis.proofs.OneCycle.{StateReads, CycleAgrees, cycle-agrees}
+use Rattle.synthesis.proofs.OneCycle.{StateReads, CycleAgrees, cycle-agrees, cycle-some, cycle-few}
 use Rattle.agreement.specs.Agreement.{graphAfter, AllRun, Arrival, HaltBefore, AfterCycles, machineAfter, stateIn, placeIn, inMachine, AgreeAfter, LastsTo}
 use Rattle.agreement.proofs.Arrivals.{arrival-or-halt, end-once, end-later, trace-comes, trace-run}
 
@@ -148,8 +148,8 @@ module _ (g : CFG) (s : Groups) (f : GraphFits g) (a : Arranged g s) (ws : Suppl
 
     advance : (n : Both g s ws b₀ rs (suc k)) × (r .steps + 1 ≤ n .steps) × (n .steps ≤ r .steps + length (order g s (stateIn s (h .block))))
     advance =
-        let o = agrees .some in
-        let l = agrees .few in (
+        let o = cycle-some agrees in
+        let l = cycle-few agrees in (
           record {
             steps = r .steps + agrees .steps;
             run = all-run;

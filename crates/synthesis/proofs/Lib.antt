@@ -4,6 +4,7 @@ pub mod Environments
 pub mod Readings
 pub mod AddedWires
 pub mod FlagRaised
+pub mod ArrivalsCounted
 pub mod TakenEdges
 pub mod OneCycle
 pub mod FoundEdges

@@ -1,5 +1,5 @@
 -- Of the edges that lead to no placed block, one is taken and the others are not. What joins, blocks and exits do to that. Assumes nothing.
-use Prim.Native.Nat.{ℕ, _+_, _≤_, _<_}
+use Prim.Native.Nat.{ℕ, suc, _+_, _≤_, _<_}
 use mathlib.Core.Path.{_≡_, refl, ap, _∙_}
 use mathlib.Core.Logic.{_⊎_, inl, inr}
 use mathlib.Core.Bool.{Bool, true, false, not, _&&_, _||_, or-false}
@@ -23,6 +23,8 @@ use Rattle.state.specs.Wires.{assign, assigns, edge, close, towards, after, exi
 use Rattle.synthesis.proofs.GraphFacts.{ValidCode, Compares, BlockFits}
 use Rattle.synthesis.proofs.WireValues.{set-value}
 use Rattle.synthesis.proofs.Environments.{at, worked-append, worked-nil, worked-cons, Grows, grows-refl, grows-trans, wires-grow}
+use Rattle.synthesis.proofs.AddedWires.{close-state-grown}
+use Rattle.synthesis.proofs.ArrivalsCounted.{Counted, counted-grow, counted-more}
 use Rattle.synthesis.proofs.Readings.{Reads, reads-grow, reads-put, reads-ite, reads-exit, PointReads, fresh-is, assign-reads, join-reads, start-reads}
 
 -- in the environment E, for R registers
@@ -224,6 +226,13 @@ module _ (sampled : ℕ) (rs : List ℕ) (size : length rs ≡ maxRegisters) (R 
       (one-grow R (drop R rs) (worked sampled rs (p .wires)) (worked sampled rs (blockMade b p .wires)) (made-grow p) c rest o)
       (close-none sampled rs size R (b .ending) (assigns (instructionsOf b) p) (f .ends) (assigns-reads sampled rs size R (instructionsOf b) p (f .body) l))
 
+  -- the block's arrival reads whether the block is reached
+  pub made-counted : (p : BlockBuild) (reached : Bool) (rest : List Edge) {q refs : List ℕ} {n : ℕ} → PointReads sampled rs R p (truth reached) q
+      → Counted (worked sampled rs (p .wires)) refs n
+      → Counted (worked sampled rs (after rest (blockMade b p) .wires)) (refs ++ (p .arrival ∷ [])) (choose reached (suc n) n)
+  unfolding after
+  made-counted p reached rest l c = counted-grow (made-grow p) (counted-more (p .arrival) reached c (l .low) (l .reads))
+
 -- ---- the exits
 
 module _ (sampled : ℕ) (rs : List ℕ) (size : length rs ≡ maxRegisters) (R : ℕ) (s : Groups) where
@@ -274,3 +283,6 @@ module _ (sampled : ℕ) (rs : List ℕ) (size : length rs ≡ maxRegisters) (R 
       let v = ws ++ (set-wire (nextStateOf s (e .target)) ∷ []) in
       let p : BlockBuild = record { arrival = fresh ws; values = e .values; wires = v } in
       exits-one es p c (one-grow R (drop R rs) (worked sampled rs ws) (worked sampled rs v) (wires-grow sampled rs ws (set-wire (nextStateOf s (e .target)) ∷ [])) c es (o .1)) (first-reads e ws (o .0 .1))
+
+  pub close-state-grow : (es : List Edge) (ws : List Wire) → Grows (worked sampled rs ws) (worked sampled rs (closeState s es ws .wires))
+  close-state-grow es ws = let c = close-state-grown s es ws in rw (c .wires) (wires-grow sampled rs ws (c .more))

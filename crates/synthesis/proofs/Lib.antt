@@ -12,6 +12,7 @@ pub mod WireCodes
 pub mod WireValidity
 pub mod StateValidity
 pub mod Arrivals
+pub mod BlocksCounted
 pub mod WireCount
 pub mod SynthesisedMachine
 pub mod TableWords

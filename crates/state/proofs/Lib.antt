@@ -15,3 +15,4 @@ pub mod PutLaws
 pub mod StarterLaws
 pub mod ExitLaws
 pub mod BlocksLaws
+pub mod ArrivalLaws

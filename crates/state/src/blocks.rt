@@ -23,7 +23,7 @@ ghost use Rattle.fsmd.specs.Machine.{wireArity};
 ghost use Rattle.cfg.specs.Layout.{blockOffset, graphWords, maxInstructions};
 ghost use Rattle.cfg.specs.Graph.{instructionsOf};
 ghost use Rattle.cfg.specs.Table.{blockAt};
-ghost use Rattle.state.specs.Wires.{wire, «and-wire», «and-not-wire», instructionWire, assign as assigned, assigns, close as closed, after};
+ghost use Rattle.state.specs.Wires.{wire, «and-wire», «and-not-wire», instructionWire, assign as assigned, enter, assigns, close as closed, after};
 ghost use Rattle.state.specs.Making.{appended, Room, blockBuildIn, Held, edgeTo, pending, Edged, stateBuildIn, Built, Aims, Placeable, putBlock};
 
 // The reference of a register's value; 0 of none.
@@ -227,7 +227,8 @@ pub fn close(
     }
 }
 
-// Block `x` placed: its arrival and joins, its instructions, its ending; the edges that lead to it are used up.
+// Block `x` placed: its arrival and joins, its instructions, its ending; the edges that lead to it are used up. Its arrival is listed at its
+// number.
 pub fn put(
     graph: &[u32],
     starter: bool,
@@ -237,17 +238,20 @@ pub fn put(
     values: &mut [u32],
     targets: &mut [u32],
     rows: &mut [u32],
+    arrivals: &mut [u32],
 ) -> StateProgress
     requires { ⌜ Placeable (now graph) x ⌝ }
     requires { ⌜ Edged (now targets) (now rows) (made .edges + 2) ⌝ }
-    requires { ⌜ (length (now values) ≤ maxRegisters) × Room (made .wires) (now wires) ⌝ }
+    requires { ⌜ (length (now values) ≤ maxRegisters) × Room (made .wires) (now wires) × (length (now arrivals) ≡ maxBlocks) ⌝ }
     requires { ⌜ Room (length (putBlock (length (now values)) starter (blockAt (now graph) x) x (stateBuildIn (length (now values)) (now targets) (now rows) (made .edges) (made .wires) (now wires)) .wires)) (now wires) ⌝ }
     ensures { λ r. ⌜ Built (putBlock (length (now (values .entry))) starter (blockAt (now (graph .entry)) x) x (stateBuildIn (length (now (values .entry))) (now (targets .entry)) (now (rows .entry)) (made .edges) (made .wires) (now (wires .entry)))) (now (wires .entry)) (length (now (values .entry))) (now (targets .exit)) (now (rows .exit)) (r .edges) (r .wires) (now (wires .exit)) ⌝ }
     ensures { λ r. ⌜ r .edges ≤ made .edges + 2 ⌝ }
+    ensures { λ _. ⌜ now (arrivals .exit) ≡ set (now (arrivals .entry)) x (enter (length (now (values .entry))) starter x (stateBuildIn (length (now (values .entry))) (now (targets .entry)) (now (rows .entry)) (made .edges) (made .wires) (now (wires .entry))) .arrival) ⌝ }
 {
     let block = x as usize;
     let count = made.edges;
     let entered = joins::enter(wires, values, targets, rows, made, x, starter);
+    arrivals[block] = entered.arrival;
     let front = assign_all(graph, block, wires, values, entered);
     edges::use_up(targets, count, x);
     close(graph, block, wires, values, targets, rows, front, count)

@@ -11,10 +11,10 @@ use fsmd::MachineTable;
 ghost use mathlib.Core.Path.{_≡_};
 ghost use Prim.Native.Nat.{_*_, _≤_};
 ghost use lib.ListN.{length, take};
-ghost use Rattle.fsmd.specs.Layout.{maxRegisters};
+ghost use Rattle.fsmd.specs.Layout.{maxBlocks, maxRegisters};
 ghost use Rattle.state.specs.Wires.{nothing};
 ghost use Rattle.state.specs.Making.{maxEdges, Room, Held, Edged, Built, GroupedBytes};
-ghost use Rattle.state.specs.BlocksMaking.{buildBlocks, AllPlaceable, stateBlocks};
+ghost use Rattle.state.specs.BlocksMaking.{buildBlocks, withArrivals, AllPlaceable, stateBlocks};
 
 // A block in the making: the reference of its arrival, and how many wires its state has so far.
 pub struct BlockProgress {
@@ -46,7 +46,7 @@ impl StateProgress {
     pub const HALT: u32 = MachineTable::NONE;
 }
 
-// The blocks of `order` placed one after another, from nothing.
+// The blocks of `order` placed one after another, from nothing; the arrival of each is listed at its number.
 fn place_all(
     graph: &[u32],
     order: &[u8],
@@ -56,29 +56,41 @@ fn place_all(
     values: &mut [u32],
     targets: &mut [u32],
     rows: &mut [u32],
+    arrivals: &mut [u32],
 ) -> StateProgress
     requires { ⌜ AllPlaceable (now graph) (now order) ⌝ }
     requires { ⌜ GroupedBytes (now starters) (now states) ⌝ }
     requires { ⌜ Edged (now targets) (now rows) 0 ⌝ }
-    requires { ⌜ length (now values) ≤ maxRegisters ⌝ }
+    requires { ⌜ (length (now values) ≤ maxRegisters) × (length (now arrivals) ≡ maxBlocks) ⌝ }
     requires { ⌜ Room (length (buildBlocks (length (now values)) (now graph) (now starters) (now order) nothing .wires)) (now wires) ⌝ }
     ensures { λ r. ⌜ Built (buildBlocks (length (now (values .entry))) (now (graph .entry)) (now (starters .entry)) (now (order .entry)) nothing) (now (wires .entry)) (length (now (values .entry))) (now (targets .exit)) (now (rows .exit)) (r .edges) (r .wires) (now (wires .exit)) ⌝ }
     ensures { λ r. ⌜ r .edges ≤ maxEdges ⌝ }
+    ensures { λ _. ⌜ now (arrivals .exit) ≡ withArrivals (length (now (values .entry))) (now (graph .entry)) (now (starters .entry)) (now (order .entry)) nothing (now (arrivals .entry)) ⌝ }
 {
     let mut made = StateProgress { edges: 0, wires: 0 };
     let mut i = 0;
     while i < order.len() {
         let x = buffers::byte_word(order[i]);
         let starter = groups::is_starter(starters, states, x);
-        let next = blocks::put(graph, starter, x, made, wires, values, targets, rows);
+        let next = blocks::put(
+            graph,
+            starter,
+            x,
+            made,
+            wires,
+            values,
+            targets,
+            rows,
+            arrivals,
+        );
         made = next;
         i += 1;
     }
     made
 }
 
-// The state whose blocks in order are `order`: its wires from the front of `wires`, and its next references. `targets` and `rows` are
-// room for its edges.
+// The state whose blocks in order are `order`: its wires from the front of `wires`, and its next references. The arrival of each of
+// its blocks is listed in `arrivals` at the block's number. `targets` and `rows` are room for its edges.
 pub fn make(
     graph: &[u32],
     order: &[u8],
@@ -88,15 +100,27 @@ pub fn make(
     values: &mut [u32],
     targets: &mut [u32],
     rows: &mut [u32],
+    arrivals: &mut [u32],
 ) -> Exit
     requires { ⌜ AllPlaceable (now graph) (now order) ⌝ }
     requires { ⌜ GroupedBytes (now starters) (now states) ⌝ }
     requires { ⌜ Edged (now targets) (now rows) 0 ⌝ }
-    requires { ⌜ length (now values) ≤ maxRegisters ⌝ }
+    requires { ⌜ (length (now values) ≤ maxRegisters) × (length (now arrivals) ≡ maxBlocks) ⌝ }
     requires { ⌜ Room (length (stateBlocks (length (now values)) (now graph) (now starters) (now states) (now order) .wires)) (now wires) ⌝ }
     ensures { λ r. ⌜ Held (stateBlocks (length (now (values .entry))) (now (graph .entry)) (now (starters .entry)) (now (states .entry)) (now (order .entry))) (now (wires .entry)) (r .next) (take (r .registers) (now (values .exit))) (r .wires) (now (wires .exit)) ⌝ }
     ensures { λ r. ⌜ r .registers ≤ length (now (values .entry)) ⌝ }
+    ensures { λ _. ⌜ now (arrivals .exit) ≡ withArrivals (length (now (values .entry))) (now (graph .entry)) (now (starters .entry)) (now (order .entry)) nothing (now (arrivals .entry)) ⌝ }
 {
-    let made = place_all(graph, order, starters, states, wires, values, targets, rows);
+    let made = place_all(
+        graph,
+        order,
+        starters,
+        states,
+        wires,
+        values,
+        targets,
+        rows,
+        arrivals,
+    );
     exits::leave(wires, values, targets, rows, starters, states, made)
 }

@@ -9,7 +9,7 @@ use Rattle.state.proofs.make.Tie as tie
 
 place-all-requires : tie.Need-place-all-requires
 place-all-requires c κs =
-    let s = c .before .before .before .before .before .before .before .before .before .before .before .before in
+    let s = c .before .before .before .before .before .before .before .before .before .before .before .before .before .before in
     let a = s .args in (
       s .pre .0,
       (s .pre .1 .0, (s .pre .1 .1 .0, (s .pre .1 .1 .1 .0, blocks-room (length (a .values .now)) (a .graph .now) (a .starters .now) (a .states .now) (a .order .now) (a .wires .now) (s .pre .1 .1 .1 .1)))),
@@ -17,19 +17,19 @@ place-all-requires c κs =
 
 leave-requires : tie.Need-leave-requires
 leave-requires c κs =
-    let s = c .before .before .before .before .before .before .before .before .before .before .before .before .before .before .before .before .before .before .before .before .before .before .before .before .before in
+    let s = c .before .before .before .before .before .before .before .before .before .before .before .before .before .before .before .before .before .before .before .before .before .before .before .before .before .before .before .before .before in
     let a = s .args in
-    let u = c .before .before .before .before .before .before .before .before .before .before .before .before .place-all in
+    let u = c .before .before .before .before .before .before .before .before .before .before .before .before .before .before .place-all in
     let w = u .kept .1 .1 .1 .1 .0 in
     let v = u .kept .1 .1 .1 .1 .1 .0 in
     let room = s .pre .1 .1 .1 .1 in
     let edged = s .pre .1 .1 .0 in (
-      record { all = u .kept .1 .1 .1 .1 .1 .1 .0 ∙ edged .all; each = u .kept .1 .1 .1 .1 .1 .1 .1 .0 ∙ edged .each; few = u .ensures .1 },
+      record { all = u .kept .1 .1 .1 .1 .1 .1 .0 ∙ edged .all; each = u .kept .1 .1 .1 .1 .1 .1 .1 .0 ∙ edged .each; few = u .ensures .1 .0 },
       (
         s .pre .1 .0,
         (
           (
-            omega (arith, v, s .pre .1 .1 .1 .0),
+            omega (arith, v, s .pre .1 .1 .1 .0 .0),
             made-room (length (a .values .now)) (a .graph .now) (a .starters .now) (a .states .now) (a .order .now) (a .wires .now) _ _ _ _ _ _ v (u .ensures .0) w room,
           ),
           leave-room (length (a .values .now)) (a .graph .now) (a .starters .now) (a .states .now) (a .order .now) (a .wires .now) _ _ _ _ _ _ v (u .ensures .0) w room,
@@ -39,12 +39,12 @@ leave-requires c κs =
 
 returns : tie.Need-returns
 returns c =
-    let s = c .before .before .before .before .before .before .before .before .before .before .before .before .before .before .before .before .before .before .before .before .before .before .before .before .before .before .before .before .before .before in
+    let s = c .before .before .before .before .before .before .before .before .before .before .before .before .before .before .before .before .before .before .before .before .before .before .before .before .before .before .before .before .before .before .before .before .before .before in
     let a = s .args in
-    let u = c .before .before .before .before .before .before .before .before .before .before .before .before .before .before .before .before .before .place-all in
+    let u = c .before .before .before .before .before .before .before .before .before .before .before .before .before .before .before .before .before .before .before .place-all in
     let l = c .before .before .before .before .leave in
     let v = u .kept .1 .1 .1 .1 .1 .0 in
-    (left (length (a .values .now)) (a .graph .now) (a .starters .now) (a .states .now) (a .order .now) (a .wires .now) _ _ _ _ _ _ v (u .ensures .0) _ _ _ _ (l .ensures .0), omega (arith, v, l .ensures .1))
+    (left (length (a .values .now)) (a .graph .now) (a .starters .now) (a .states .now) (a .order .now) (a .wires .now) _ _ _ _ _ _ v (u .ensures .0) _ _ _ _ (l .ensures .0), (omega (arith, v, l .ensures .1), u .ensures .1 .1))
 
 pub make-spec : {M : Type 1} → statement M
 make-spec =
@@ -52,6 +52,7 @@ make-spec =
     (tie.spec
     place-all-requires
     leave-requires
+    (λ c. search needs)
     (λ c. search needs)
     (λ c. search needs)
     (λ c. search needs)

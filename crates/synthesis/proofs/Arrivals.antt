@@ -41,11 +41,11 @@ module _ (g : CFG) (s : Groups) where
 
   -- ---- of each block by itself
 
-  arrival-first : (x y : ℕ) (ys : List ℕ) (b : StateBuild) → x ≡ y → arrivalIn g s x (y ∷ ys) b ≡ arrivalOf y b
+  pub arrival-first : (x y : ℕ) (ys : List ℕ) (b : StateBuild) → x ≡ y → arrivalIn g s x (y ∷ ys) b ≡ arrivalOf y b
   unfolding arrivalIn
   arrival-first x y ys b e = rw (eq-eqb y x (sym e))
 
-  arrival-later : (x y : ℕ) (ys : List ℕ) (b : StateBuild) → (x ≡ y → ⊥) → arrivalIn g s x (y ∷ ys) b ≡ arrivalIn g s x ys (put g s y b)
+  pub arrival-later : (x y : ℕ) (ys : List ℕ) (b : StateBuild) → (x ≡ y → ⊥) → arrivalIn g s x (y ∷ ys) b ≡ arrivalIn g s x ys (put g s y b)
   unfolding arrivalIn
   arrival-later x y ys b d = rw (ne-eqb y x (λ e. d (sym e)))
 

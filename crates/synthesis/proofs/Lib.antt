@@ -21,5 +21,6 @@ pub mod MachineTable
 pub mod MadeTable
 pub mod TableFilled
 pub mod StateBlocks
+pub mod ArrivalWords
 pub mod StatePut
 pub mod PastTables

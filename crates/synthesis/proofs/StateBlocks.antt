@@ -32,7 +32,7 @@ abbrev pub pointOf : State → BlockBuild
 pointOf q = record { arrival = q .next; values = q .nextRegisters; wires = q .wires }
 
 module _ (t : List ℕ) (s : Groups) where
-  put-alike : (x : ℕ) → x < getD t 0 0 → (b : StateBuild) → putBlock (getD t 1 0) (mem x (s .starters)) (blockAt t x) x b ≡ put (graphOf t) s x b
+  pub put-alike : (x : ℕ) → x < getD t 0 0 → (b : StateBuild) → putBlock (getD t 1 0) (mem x (s .starters)) (blockAt t x) x b ≡ put (graphOf t) s x b
   unfolding putBlock put
   put-alike x h b =
       ap (λ (r : ℕ). putBlock r (mem x (s .starters)) (blockAt t x) x b) (sym (registers-are t))
@@ -63,7 +63,7 @@ module _ (t : List ℕ) (a : admittedGraph t ≡ true) (s : Groups) (G : Grouped
   closed = admitted-closed t a
 
   -- a block of the state is a block of the graph
-  block-low : (x : ℕ) → In x (order (graphOf t) s k) → x < getD t 0 0
+  pub block-low : (x : ℕ) → In x (order (graphOf t) s k) → x < getD t 0 0
   block-low x i = go (decLt x (getD t 0 0))
     where
       go : Dec (x < getD t 0 0) → x < getD t 0 0

@@ -23,7 +23,7 @@ ghost use Rattle.grouping.specs.Grouping.{groups};
 ghost use Rattle.placement.specs.PlacementBytes.{marked};
 ghost use Rattle.state.specs.Making.{Edged};
 ghost use Rattle.synthesis.specs.Synthesis.{machine, synthesisAnswer, synthesisWords};
-ghost use Rattle.synthesis.specs.StateWords.{withStates, firstStates, Prepared, Filled};
+ghost use Rattle.synthesis.specs.StateWords.{withStates, firstStates, firstArrivals, Prepared, Filled};
 
 // The words before the records; every other word becomes 0.
 fn write_head(table: &mut [u32], count: u32, registers: u32, starters: &[u8], states: &[u8])
@@ -71,7 +71,7 @@ fn starter_marks(starters: &[u8]) -> [u8; GraphTable::BLOCKS]
     marks
 }
 
-// State k, whose first wire is number `first`; the number of the next state's first wire.
+// State k, whose first wire is number `first`, and the arrivals of its blocks; the number of the next state's first wire.
 fn one_state(
     graph: &[u32],
     edges: &[u8],
@@ -83,11 +83,12 @@ fn one_state(
     table: &mut [u32],
     targets: &mut [u32],
     rows: &mut [u32],
+    arrivals: &mut [u32],
 ) -> usize
     requires { ⌜ Prepared (now graph) (groups (graphOf (now graph))) (now edges) (now starts) (now starters) (now states) ⌝ }
-    requires { ⌜ (k < length (now starters)) × Filled (now graph) (groups (graphOf (now graph))) (now table) k first ⌝ }
+    requires { ⌜ (k < length (now starters)) × Filled (now graph) (groups (graphOf (now graph))) (now table) k first × (now arrivals ≡ firstArrivals (now graph) (groups (graphOf (now graph))) k) ⌝ }
     requires { ⌜ Edged (now targets) (now rows) 0 ⌝ }
-    ensures { λ r. ⌜ (now (table .exit) ≡ withStates (take recordsOffset (now (table .entry))) (firstStates (now (graph .entry)) (groups (graphOf (now (graph .entry)))) (k + 1))) × (r ≡ wireCount (firstStates (now (graph .entry)) (groups (graphOf (now (graph .entry)))) (k + 1))) ⌝ }
+    ensures { λ r. ⌜ (now (table .exit) ≡ withStates (take recordsOffset (now (table .entry))) (firstStates (now (graph .entry)) (groups (graphOf (now (graph .entry)))) (k + 1))) × (r ≡ wireCount (firstStates (now (graph .entry)) (groups (graphOf (now (graph .entry)))) (k + 1))) × (now (arrivals .exit) ≡ firstArrivals (now (graph .entry)) (groups (graphOf (now (graph .entry)))) (k + 1)) ⌝ }
 {
     let mut blocks = [0u8; GraphTable::BLOCKS];
     let count = placement::place(edges, states, starts, k as u8, &mut blocks);
@@ -103,6 +104,7 @@ fn one_state(
         &mut values[..registers],
         targets,
         rows,
+        arrivals,
     );
     write_record(
         table,
@@ -116,7 +118,7 @@ fn one_state(
     first + made.wires
 }
 
-// The states one after another, behind the head.
+// The states one after another, behind the head, and the arrivals of all blocks.
 fn all_states(
     graph: &[u32],
     edges: &[u8],
@@ -126,11 +128,12 @@ fn all_states(
     table: &mut [u32],
     targets: &mut [u32],
     rows: &mut [u32],
+    arrivals: &mut [u32],
 )
     requires { ⌜ Prepared (now graph) (groups (graphOf (now graph))) (now edges) (now starts) (now starters) (now states) ⌝ }
-    requires { ⌜ Filled (now graph) (groups (graphOf (now graph))) (now table) 0 0 ⌝ }
+    requires { ⌜ Filled (now graph) (groups (graphOf (now graph))) (now table) 0 0 × (now arrivals ≡ firstArrivals (now graph) (groups (graphOf (now graph))) 0) ⌝ }
     requires { ⌜ Edged (now targets) (now rows) 0 ⌝ }
-    ensures { λ r. ⌜ now (table .exit) ≡ withStates (take recordsOffset (now (table .entry))) (firstStates (now (graph .entry)) (groups (graphOf (now (graph .entry)))) (length (now (starters .entry)))) ⌝ }
+    ensures { λ r. ⌜ (now (table .exit) ≡ withStates (take recordsOffset (now (table .entry))) (firstStates (now (graph .entry)) (groups (graphOf (now (graph .entry)))) (length (now (starters .entry))))) × (now (arrivals .exit) ≡ firstArrivals (now (graph .entry)) (groups (graphOf (now (graph .entry)))) (length (now (starters .entry)))) ⌝ }
 {
     let mut k: usize = 0;
     let mut first: usize = 0;
@@ -146,6 +149,7 @@ fn all_states(
             table,
             targets,
             rows,
+            arrivals,
         );
         first = next;
         k += 1;
@@ -167,6 +171,7 @@ fn fill(graph: &[u32], table: &mut [u32])
     // Room for the edges of one state after another: to clear it for each would cost more than most states.
     let mut targets = [0u32; StateProgress::EDGES];
     let mut rows = [0u32; StateProgress::ROW * StateProgress::EDGES];
+    let mut arrivals = [0u32; MachineTable::BLOCKS];
     write_head(
         table,
         count as u32,
@@ -183,6 +188,7 @@ fn fill(graph: &[u32], table: &mut [u32])
         table,
         &mut targets,
         &mut rows,
+        &mut arrivals,
     );
 }
 

@@ -12,6 +12,7 @@ use Rattle.cfg.specs.Table.{graphOf}
 use Rattle.fsmd.specs.Table.{machineTableOf}
 use Rattle.synthesis.proofs.SynthesisedMachine.{machine-is}
 use Rattle.synthesis.proofs.MachineTable.{its, finished, grouping-is}
+use Rattle.synthesis.proofs.ArrivalWords.{none-listed}
 use Rattle.synthesis.proofs.TableFilled.{GroupsListed, groups-listed, begun, table-filled}
 use Rattle.synthesis.proofs.table.fill.Statement.{statement}
 use Rattle.synthesis.proofs.table.fill.Tie as tie
@@ -58,31 +59,31 @@ array-share-prefix-bytes c = let g = listed (c .before .before .before .before .
 
 all-states-requires : tie.Need-all-states-requires
 all-states-requires c κs =
-    let g = listed (c .before .before .before .before .before .before .before .before .before .before .before .before .before .before .before .before .before .before .before .before) in
-    let a = c .before .before .before .before .before .before .before .before .before .before .before .before .before .before .before .before .before .before .before .before .before .before .before .args in
-    let p = c .before .before .before .before .before .before .before .before .before .before .before .before .before .before .before .before .before .before .before .before .before .before .before .pre in
-    let r = c .before .before .before .before .before .before .before .before .before .before .before .before .before .before .before .before .before .before .before .before .group in
-    let w = c .before .before .before .before .before .before .before .before .before .write-head in (
+    let g = listed (c .before .before .before .before .before .before .before .before .before .before .before .before .before .before .before .before .before .before .before .before .before) in
+    let a = c .before .before .before .before .before .before .before .before .before .before .before .before .before .before .before .before .before .before .before .before .before .before .before .before .args in
+    let p = c .before .before .before .before .before .before .before .before .before .before .before .before .before .before .before .before .before .before .before .before .before .before .before .before .pre in
+    let r = c .before .before .before .before .before .before .before .before .before .before .before .before .before .before .before .before .before .before .before .before .before .group in
+    let w = c .before .before .before .before .before .before .before .before .before .before .write-head in (
       record {
         admits = p .0;
-        leading = c .before .before .before .before .before .before .before .before .before .before .before .before .before .before .before .before .edges-of .ensures;
-        starting = λ x. c .before .before .before .before .before .before .before .before .before .before .before .before .before .before .starter-marks .ensures x ∙ ap (mem x) (g .starters);
+        leading = c .before .before .before .before .before .before .before .before .before .before .before .before .before .before .before .before .before .edges-of .ensures;
+        starting = λ x. c .before .before .before .before .before .before .before .before .before .before .before .before .before .before .before .starter-marks .ensures x ∙ ap (mem x) (g .starters);
         its-starters = g .starters;
         its-states = g .states;
       },
-      (begun (now (a .graph)) (p .0) (its (now (a .graph))) (finished (now (a .graph)) (p .0)) (r .result) (r .ensures ∙ grouping-is (now (a .graph))) (w .last .0) (w .kept .0 ∙ p .1) (w .ensures) .0, record { all = refl; each = refl; few = omega arith }),
+      ((begun (now (a .graph)) (p .0) (its (now (a .graph))) (finished (now (a .graph)) (p .0)) (r .result) (r .ensures ∙ grouping-is (now (a .graph))) (w .last .0) (w .kept .0 ∙ p .1) (w .ensures) .0, sym (none-listed (now (a .graph)) (its (now (a .graph))))), record { all = refl; each = refl; few = omega arith }),
     )
 
 same-length : tie.Need-same-length
-same-length c = c .before .before .before .before .all-states .kept .1 .1 .1 .1 .1 .0 ∙ c .before .before .before .before .before .before .before .before .before .before .before .before .before .before .write-head .kept .0
+same-length c = c .before .before .before .before .before .all-states .kept .1 .1 .1 .1 .1 .0 ∙ c .before .before .before .before .before .before .before .before .before .before .before .before .before .before .before .before .write-head .kept .0
 
 returns : tie.Need-returns
 returns c =
-    let a = c .before .before .before .before .before .before .before .before .before .before .before .before .before .before .before .before .before .before .before .before .before .before .before .before .before .before .before .before .args in
-    let p = c .before .before .before .before .before .before .before .before .before .before .before .before .before .before .before .before .before .before .before .before .before .before .before .before .before .before .before .before .pre in
-    let r = c .before .before .before .before .before .before .before .before .before .before .before .before .before .before .before .before .before .before .before .before .before .before .before .before .before .group in
-    let w = c .before .before .before .before .before .before .before .before .before .before .before .before .before .before .write-head in
-    table-filled (now (a .graph)) (p .0) (its (now (a .graph))) (finished (now (a .graph)) (p .0)) (r .result) (r .ensures ∙ grouping-is (now (a .graph))) (w .last .0) (c .before .before .before .before .all-states .last .1 .1 .1 .1 .1 .0) (w .kept .0 ∙ p .1) (w .ensures) (c .before .before .before .before .all-states .ensures)
+    let a = c .before .before .before .before .before .before .before .before .before .before .before .before .before .before .before .before .before .before .before .before .before .before .before .before .before .before .before .before .before .before .args in
+    let p = c .before .before .before .before .before .before .before .before .before .before .before .before .before .before .before .before .before .before .before .before .before .before .before .before .before .before .before .before .before .before .pre in
+    let r = c .before .before .before .before .before .before .before .before .before .before .before .before .before .before .before .before .before .before .before .before .before .before .before .before .before .before .before .group in
+    let w = c .before .before .before .before .before .before .before .before .before .before .before .before .before .before .before .before .write-head in
+    table-filled (now (a .graph)) (p .0) (its (now (a .graph))) (finished (now (a .graph)) (p .0)) (r .result) (r .ensures ∙ grouping-is (now (a .graph))) (w .last .0) (c .before .before .before .before .before .all-states .last .1 .1 .1 .1 .1 .0) (w .kept .0 ∙ p .1) (w .ensures) (c .before .before .before .before .before .all-states .ensures .0)
     ∙ ap machineTableOf (sym (machine-is (graphOf (now (a .graph)))))
 
 pub fill-spec : {M : Type 1} → statement M
@@ -107,6 +108,7 @@ fill-spec =
     (λ c. starters-length (c .before .before .before .before .before .before .before .before .before .before .before .before .before .before .before .before))
     array-share-prefix-bytes
     (λ c. states-length (c .before .before .before .before .before .before .before .before .before .before .before .before .before .before .before .before .before))
+    (λ c. search needs)
     (λ c. search needs)
     (λ c. search needs)
     all-states-requires

@@ -26,8 +26,10 @@ use Rattle.placement.proofs.PlacementLaws.{placed}
 use Rattle.state.specs.Wires.{StateBuild, nothing, enter, put, arrivalIn, arrivalMade}
 use Rattle.state.specs.Making.{putBlock}
 use Rattle.state.specs.BlocksMaking.{withArrivals}
+use Rattle.synthesis.specs.Synthesis.{machineFor}
 use Rattle.synthesis.specs.StateWords.{firstArrivals}
 use Rattle.synthesis.proofs.Arrivals.{arrivalOf, arrival-first, arrival-later, made-arrival, made-none}
+use Rattle.synthesis.proofs.SynthesisedMachine.{arrival-at}
 use Rattle.synthesis.proofs.StateBlocks.{put-alike, block-low}
 
 -- ---- the arrivals of one state
@@ -147,28 +149,17 @@ module _ (t : List ℕ) (a : admittedGraph t ≡ true) (s : Groups) (G : Grouped
     arrivals-more r starters xs old e f g h = rw (e, f, g, h) state-listed
 
   -- all states
-  pub all-listed : firstArrivals t s (length (s .starters)) ≡ padded maxBlocks 0 (map (arrivalMade (graphOf t) s) (upFrom 0 (length (s .states))))
+  pub all-listed : firstArrivals t s (length (s .starters)) ≡ padded maxBlocks 0 (machineFor (graphOf t) s .arrivals)
   all-listed =
-      ext-getD 0 (firstArrivals t s (length (s .starters))) (padded maxBlocks 0 each) (arrivals-length t s (length (s .starters)) ∙ sym (length-padded maxBlocks 0 each))
-      (λ x h. let low : x < maxBlocks = let l = arrivals-length t s (length (s .starters)) in omega arith in
-      first-at t s (length (s .starters)) x low ∙ go x (decLt (stateFor s x) (length (s .starters))) (decLt x (length (s .states))) ∙ sym (getD-padded maxBlocks 0 each x low))
+      let n = length (s .starters) in
+      let m = machineFor (graphOf t) s .arrivals in
+      ext-getD 0 (firstArrivals t s n) (padded maxBlocks 0 m) (arrivals-length t s n ∙ sym (length-padded maxBlocks 0 m))
+      (λ x h.
+      let low : x < maxBlocks = let l = arrivals-length t s n in omega arith in
+      first-at t s n x low ∙ go x (decLt (stateFor s x) n) ∙ sym (getD-padded maxBlocks 0 m x low ∙ arrival-at (graphOf t) s x))
     where
-      each : List ℕ
-      each = map (arrivalMade (graphOf t) s) (upFrom 0 (length (s .states)))
-
-      past : (x : ℕ) → length (s .states) ≤ x → getD each x 0 ≡ 0
-      past x h = List·getD-eq-default each 0 {n = x} (let l = length-map (upFrom 0 (length (s .states))) (arrivalMade (graphOf t) s) ∙ length-upFrom 0 (length (s .states)) in omega arith)
-
-      none : (x : ℕ) → length (s .starters) ≤ stateFor s x → stateFor s x ≡ absent
-      none x h = G .unreached-none x (λ r. let l = G .reached-state x r in absurd (omega arith))
-
-      go : (x : ℕ) → Dec (stateFor s x < length (s .starters)) → Dec (x < length (s .states)) → choose (ltb (stateFor s x) (length (s .starters))) (arrivalMade (graphOf t) s x) 0 ≡ getD each x 0
-      go x (yes l) (yes h) = rw (lt-ltb (stateFor s x) (length (s .starters)) l) (sym (getD-map-upFrom (arrivalMade (graphOf t) s) (length (s .states)) x 0 h))
-      go x (yes l) (no h) =
-          let d : stateFor s x ≡ absent = List·getD-eq-default (s .states) absent {n = x} (omega arith) in
-          let f = few-states in
-          absurd (omega arith)
-      go x (no l) (yes h) =
+      go : (x : ℕ) → Dec (stateFor s x < length (s .starters)) → choose (ltb (stateFor s x) (length (s .starters))) (arrivalMade (graphOf t) s x) 0 ≡ arrivalMade (graphOf t) s x
+      go x (yes l) = rw (lt-ltb (stateFor s x) (length (s .starters)) l) refl
+      go x (no l) =
           rw (le-ltb (stateFor s x) (length (s .starters)) (omega arith))
-          (sym (getD-map-upFrom (arrivalMade (graphOf t) s) (length (s .states)) x 0 h ∙ made-none (graphOf t) s x (none x (omega arith))))
-      go x (no l) (no h) = rw (le-ltb (stateFor s x) (length (s .starters)) (omega arith)) (sym (past x (omega arith)))
+          (sym (made-none (graphOf t) s x (G .unreached-none x (λ r. let b = G .reached-state x r in absurd (omega arith)))))

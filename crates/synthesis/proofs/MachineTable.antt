@@ -11,14 +11,14 @@ use Rattle.runs.specs.Lists.{upFrom, padded}
 use Rattle.runs.proofs.ListLaws.{padded-append, length-upFrom}
 use Rattle.cfg.specs.Table.{graphOf, admittedGraph}
 use Rattle.cfg.proofs.Admitted.{ValidGraph, valid-graph, admitted-halves}
-use Rattle.fsmd.specs.Layout.{maxStates, maxBlocks, maxWires, allRecordWords, allWireWords, recordsOffset, machineWords, absent}
+use Rattle.fsmd.specs.Layout.{maxStates, maxBlocks, maxWires, allRecordWords, allWireWords, recordsOffset, arrivalsOffset, absent}
 use Rattle.fsmd.specs.Machine.{State, wireCount}
 use Rattle.fsmd.specs.Table.{recordsOf, wiresOf, machineTableOf}
 use Rattle.grouping.specs.Grouping.{Groups, groups}
 use Rattle.grouping.specs.Answer.{answerOf, groupingOf}
 use Rattle.grouping.proofs.Reach.{admitted-closed}
 use Rattle.grouping.proofs.GroupingLaws.{Grouped, grouped}
-use Rattle.state.specs.Wires.{stateMade}
+use Rattle.state.specs.Wires.{stateMade, arrivalMade}
 use Rattle.synthesis.specs.Synthesis.{machineFor}
 use Rattle.synthesis.specs.StateWords.{withStates, firstStates, Filled}
 use Rattle.synthesis.proofs.SynthesisedMachine.{made-fits}
@@ -61,6 +61,10 @@ module _ (t : List ℕ) (s : Groups) where
       let f = first-count (k + d) in
       rw e (omega arith)
 
+regrouped : (a b c d e : List ℕ) → ((a ++ b) ++ (c ++ d)) ++ e ≡ a ++ (b ++ (c ++ (d ++ e)))
+regrouped a b c d e =
+    append-assoc (a ++ b) (c ++ d) e ∙ append-assoc a b ((c ++ d) ++ e) ∙ ap (λ (l : List ℕ). a ++ (b ++ l)) (append-assoc c d e)
+
 -- of any finished grouping
 module _ (t : List ℕ) (a : admittedGraph t ≡ true) (s : Groups) (G : Grouped (graphOf t) s) where
   valid : ValidGraph (graphOf t)
@@ -83,15 +87,17 @@ module _ (t : List ℕ) (a : admittedGraph t ≡ true) (s : Groups) (G : Grouped
       omega arith
 
   pub machine-table : (n r : ℕ) → n ≡ length (s .starters) → r ≡ graphOf t .registers
-      → withStates (n ∷ r ∷ (padded maxStates 0 (s .starters) ++ padded maxBlocks absent (s .states))) (firstStates t s n) ≡ machineTableOf (machineFor (graphOf t) s)
+      → withStates (n ∷ r ∷ (padded maxStates 0 (s .starters) ++ padded maxBlocks absent (s .states))) (firstStates t s n) ++ padded maxBlocks 0 (machineFor (graphOf t) s .arrivals)
+      ≡ machineTableOf (machineFor (graphOf t) s)
   unfolding withStates machineTableOf machineFor firstStates wiresOf
   machine-table n r e f =
       let g = graphOf t in
       let l : length (map (stateMade g s) (upFrom 0 (length (s .starters)))) ≡ length (s .starters) = length-map (upFrom 0 (length (s .starters))) (stateMade g s) ∙ length-upFrom 0 (length (s .starters)) in
       rw (e, f, l)
       (ap (λ (x : List ℕ). length (s .starters) ∷ g .registers ∷ x)
-      (append-assoc (padded maxStates 0 (s .starters)) (padded maxBlocks absent (s .states))
-      (padded allRecordWords 0 (recordsOf 0 (map (stateMade g s) (upFrom 0 (length (s .starters))))) ++ padded allWireWords 0 (wiresOf (map (stateMade g s) (upFrom 0 (length (s .starters))))))))
+      (regrouped (padded maxStates 0 (s .starters)) (padded maxBlocks absent (s .states))
+      (padded allRecordWords 0 (recordsOf 0 (map (stateMade g s) (upFrom 0 (length (s .starters)))))) (padded allWireWords 0 (wiresOf (map (stateMade g s) (upFrom 0 (length (s .starters))))))
+      (padded maxBlocks 0 (map (arrivalMade g s) (upFrom 0 (length (s .states)))))))
 
 -- ---- filling
 
@@ -103,7 +109,7 @@ none-counted : wireCount [] ≡ 0
 unfolding wireCount
 none-counted = refl
 
-pub filled-none : (t : List ℕ) (s : Groups) (table h : List ℕ) → length table ≡ machineWords → length h ≡ recordsOffset → table ≡ withStates h [] → Filled t s table 0 0 × (take recordsOffset table ≡ h)
+pub filled-none : (t : List ℕ) (s : Groups) (table h : List ℕ) → length table ≡ arrivalsOffset → length h ≡ recordsOffset → table ≡ withStates h [] → Filled t s table 0 0 × (take recordsOffset table ≡ h)
 filled-none t s table h l e f =
     let k = head-kept h table [] e f in (
       record { all = l; words = f ∙ ap (λ (x : List ℕ). withStates x []) (sym k) ∙ ap (withStates (take recordsOffset table)) (sym (first-none t s)); passed = sym (ap wireCount (first-none t s) ∙ none-counted) },

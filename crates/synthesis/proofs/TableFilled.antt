@@ -2,17 +2,19 @@
 use Prim.Native.Nat.{ℕ, _+_, _≤_, _<_}
 use native.Mathlib.Omega.{arith}
 use mathlib.Core.Bool.{true, false}
-use mathlib.Core.Path.{_≡_, refl, sym, _∙_, ap}
+use mathlib.Core.Path.{_≡_, refl, sym, _∙_, ap, ap₂}
 use mathlib.Core.List.{List, [], _∷_, _++_}
 use lib.ListN.{length, getD, take, drop, length-append}
+use lib.Seq.{sets}
 use borrow.Author.Tests.{lt-ltb, le-ltb}
+use Rattle.buffers.proofs.Copies.{sets-right, sets-whole}
 use Rattle.runs.specs.Lists.{padded}
 use Rattle.runs.proofs.ListLaws.{length-padded}
 use Rattle.runs.proofs.Sets.{getD-in}
 use Rattle.cfg.specs.Layout.{graphWords}
 use Rattle.cfg.specs.Table.{graphOf, admittedGraph}
 use Rattle.cfg.proofs.Admitted.{admitted-facts, blocks-length, registers-are}
-use Rattle.fsmd.specs.Layout.{maxStates, maxBlocks, recordsOffset, machineWords, absent}
+use Rattle.fsmd.specs.Layout.{maxStates, maxBlocks, recordsOffset, arrivalsOffset, machineWords, absent}
 use Rattle.fsmd.specs.Table.{machineTableOf}
 use Rattle.grouping.specs.declared.Grouping.{Grouping}
 use Rattle.grouping.specs.Grouping.{Groups}
@@ -22,7 +24,8 @@ use Rattle.grouping.proofs.GroupingLaws.{Grouped}
 use Rattle.synthesis.specs.declared.SynthesisAnswer.{SynthesisAnswer}
 use Rattle.synthesis.specs.declared.SynthesisAnswer.the-variants.{Refused, Made}
 use Rattle.synthesis.specs.Synthesis.{machineFor, machine, synthesisAnswer, synthesisWords}
-use Rattle.synthesis.specs.StateWords.{withStates, firstStates, Filled}
+use Rattle.synthesis.specs.StateWords.{withStates, firstStates, firstArrivals, Filled}
+use Rattle.synthesis.proofs.ArrivalWords.{all-listed}
 use Rattle.synthesis.proofs.MachineTable.{machine-table, filled-none, take-padded}
 use Rattle.synthesis.proofs.MadeTable.{answer-words, made-words, admitted-made}
 
@@ -86,22 +89,37 @@ module _ (t : List ℕ) (a : admittedGraph t ≡ true) (s : Groups) (G : Grouped
       }
 
   -- the head, then the states
-  pub begun : (table : List ℕ) → length table ≡ machineWords → table ≡ withStates (r .count ∷ getD t 1 0 ∷ (r .starters ++ r .states)) []
+  pub begun : (table : List ℕ) → length table ≡ arrivalsOffset → table ≡ withStates (r .count ∷ getD t 1 0 ∷ (r .starters ++ r .states)) []
       → Filled t s table 0 0 × (take recordsOffset table ≡ r .count ∷ getD t 1 0 ∷ (r .starters ++ r .states))
   begun table l f =
       let g = groups-listed in
       filled-none t s table (r .count ∷ getD t 1 0 ∷ (r .starters ++ r .states)) l (omega (arith, length-append (r .starters) (r .states), g .starters-64, g .states-64)) f
 
-  pub table-filled : (table last : List ℕ) → length table ≡ machineWords → table ≡ withStates (r .count ∷ getD t 1 0 ∷ (r .starters ++ r .states)) []
-      → last ≡ withStates (take recordsOffset table) (firstStates t s (length (take (r .count) (r .starters)))) → last ≡ machineTableOf (machineFor (graphOf t) s)
-  table-filled table last l f g =
-      let n : length (take (r .count) (r .starters)) ≡ r .count = ap length listed ∙ sym r-count in
+  states-filled : (table last : List ℕ) → length table ≡ arrivalsOffset → table ≡ withStates (r .count ∷ getD t 1 0 ∷ (r .starters ++ r .states)) []
+      → last ≡ withStates (take recordsOffset table) (firstStates t s (length (take (r .count) (r .starters))))
+      → last ≡ withStates (r .count ∷ getD t 1 0 ∷ (padded maxStates 0 (s .starters) ++ padded maxBlocks absent (s .states))) (firstStates t s (r .count))
+  states-filled table last l f g =
       g
       ∙ ap (λ (h : List ℕ). withStates h (firstStates t s (length (take (r .count) (r .starters))))) (begun table l f .1)
-      ∙ ap (λ (m : ℕ). withStates (r .count ∷ getD t 1 0 ∷ (r .starters ++ r .states)) (firstStates t s m)) n
+      ∙ ap (λ (m : ℕ). withStates (r .count ∷ getD t 1 0 ∷ (r .starters ++ r .states)) (firstStates t s m)) (ap length listed ∙ sym r-count)
       ∙ ap (λ (x : List ℕ). withStates (r .count ∷ getD t 1 0 ∷ (x ++ r .states)) (firstStates t s (r .count))) r-starters
       ∙ ap (λ (x : List ℕ). withStates (r .count ∷ getD t 1 0 ∷ (padded maxStates 0 (s .starters) ++ x)) (firstStates t s (r .count))) r-states
+
+  arrivals-filled : (arrivals : List ℕ) → arrivals ≡ firstArrivals t s (length (take (r .count) (r .starters))) → arrivals ≡ padded maxBlocks 0 (machineFor (graphOf t) s .arrivals)
+  arrivals-filled arrivals e =
+      e ∙ ap (λ (l : List ℕ). firstArrivals t s (length l)) listed ∙ all-listed t a s G
+
+  pub parts-filled : (table last arrivals : List ℕ) → length table ≡ arrivalsOffset → table ≡ withStates (r .count ∷ getD t 1 0 ∷ (r .starters ++ r .states)) []
+      → last ≡ withStates (take recordsOffset table) (firstStates t s (length (take (r .count) (r .starters))))
+      → arrivals ≡ firstArrivals t s (length (take (r .count) (r .starters))) → last ++ arrivals ≡ machineTableOf (machineFor (graphOf t) s)
+  parts-filled table last arrivals l f g h =
+      ap₂ (λ (x y : List ℕ). x ++ y) (states-filled table last l f g) (arrivals-filled arrivals h)
       ∙ machine-table t a s G (r .count) (getD t 1 0) r-count (sym (registers-are t))
+
+-- the arrivals written behind the other words, over what stood there
+pub arrivals-behind : (front rest arrivals : List ℕ) → length front ≡ arrivalsOffset → length arrivals ≡ length rest → sets (front ++ rest) arrivalsOffset arrivals ≡ front ++ arrivals
+arrivals-behind front rest arrivals e f =
+    sets-right front rest arrivals 0 arrivalsOffset (omega arith) ∙ ap (λ (x : List ℕ). front ++ x) (sets-whole rest arrivals f)
 
 -- ---- the answer
 

@@ -8,7 +8,7 @@ use lib.Seq.{sets}
 use Rattle.buffers.proofs.Copies.{sets-over, sets-left, sets-right}
 use Rattle.runs.specs.Lists.{padded, concatMap}
 use Rattle.runs.proofs.ListLaws.{padded-append, length-padded, concat-one}
-use Rattle.fsmd.specs.Layout.{maxStates, maxWires, allRecordWords, allWireWords, recordsOffset, machineWords, recordOffset, wireOffset}
+use Rattle.fsmd.specs.Layout.{maxStates, maxWires, allRecordWords, allWireWords, recordsOffset, arrivalsOffset, recordOffset, wireOffset}
 use Rattle.fsmd.specs.Machine.{State, wireCount}
 use Rattle.fsmd.specs.Table.{wireWordsOf, recordOf, recordsOf, wiresOf}
 use Rattle.fsmd.proofs.WrittenTable.{length-wordsOf, length-wiresOf, length-recordOf, length-recordsOf}
@@ -81,7 +81,7 @@ parts-none m n k head e =
     ∙ ap (λ (l : List ℕ). replicate m 0 ++ l) (padded-append n 0 [] (omega arith) ∙ ap (λ (i : ℕ). replicate i 0) (z n))))
 
 -- a table with no state yet
-pub no-states : (head : List ℕ) (k : ℕ) → k ≡ machineWords - recordsOffset → head ++ replicate k 0 ≡ withStates head []
+pub no-states : (head : List ℕ) (k : ℕ) → k ≡ arrivalsOffset - recordsOffset → head ++ replicate k 0 ≡ withStates head []
 unfolding withStates parts recordsOf wiresOf concatMap
 no-states head k e = parts-none allRecordWords allWireWords k head e
 

@@ -9,7 +9,7 @@ use lib.Dec.{eqb}
 use lib.ListN.{length, getD, take, replicate, set, length-append, length-replicate, length-set, replicate-append-replicate}
 use lib.Seq.{take-suc, take-all, sets}
 use Rattle.buffers.proofs.Copies.{sets-append, sets-over}
-use Rattle.fsmd.specs.Layout.{maxStates, maxBlocks, maxRegisters, startersOffset, blockStatesOffset, touchOffset, machineWords}
+use Rattle.fsmd.specs.Layout.{maxStates, maxBlocks, maxRegisters, startersOffset, blockStatesOffset, touchOffset, arrivalsOffset}
 use Rattle.runs.specs.Lists.{mem}
 use Rattle.placement.specs.PlacementBytes.{marked}
 use Rattle.synthesis.specs.StateWords.{withStates}
@@ -18,7 +18,7 @@ use Rattle.synthesis.proofs.TableWords.{no-states}
 
 -- ---- the head
 
-pub head-written : (n c r : ℕ) (x y : List ℕ) → n ≡ machineWords → length x ≡ maxStates → length y ≡ maxBlocks
+pub head-written : (n c r : ℕ) (x y : List ℕ) → n ≡ arrivalsOffset → length x ≡ maxStates → length y ≡ maxBlocks
     → sets (sets (set (set (replicate n 0) 0 c) 1 r) startersOffset x) blockStatesOffset y ≡ withStates (c ∷ r ∷ (x ++ y)) []
 head-written n c r x y e g h =
     let head = c ∷ r ∷ (x ++ y) in

@@ -1,4 +1,4 @@
--- A machine table of which some states are written, which the contracts of the table code cite. Assumes nothing.
+-- A machine table before its arrivals, of which some states are written, which the contracts of the table code cite. Assumes nothing.
 use Prim.Native.Nat.{ℕ}
 use mathlib.Core.Path.{_≡_}
 use mathlib.Core.Bool.{true}
@@ -9,7 +9,7 @@ use Rattle.word.specs.Word.{choose}
 use Rattle.runs.specs.Lists.{upFrom, mem, padded}
 use Rattle.cfg.specs.Graph.{successors}
 use Rattle.cfg.specs.Table.{graphOf, admittedGraph}
-use Rattle.fsmd.specs.Layout.{maxBlocks, absent, allRecordWords, allWireWords, recordsOffset, machineWords}
+use Rattle.fsmd.specs.Layout.{maxBlocks, absent, allRecordWords, allWireWords, recordsOffset, arrivalsOffset}
 use Rattle.fsmd.specs.Machine.{State, wireCount}
 use Rattle.fsmd.specs.Table.{recordsOf, wiresOf}
 use Rattle.grouping.specs.Grouping.{Groups}
@@ -17,7 +17,7 @@ use Rattle.grouping.specs.Bytes.{edgesIn}
 use Rattle.placement.specs.PlacementBytes.{marked}
 use Rattle.state.specs.Wires.{stateMade, arrivalMade}
 
--- a table whose words before the records are `head`, with the records and wires of the states qs and no others
+-- the words of a table before its arrivals: `head` before the records, then the records and wires of the states qs and no others
 unfoldable pub withStates : List ℕ → List State → List ℕ
 unfolding recordsOf wiresOf
 withStates head qs = head ++ (padded allRecordWords 0 (recordsOf 0 qs) ++ padded allWireWords 0 (wiresOf qs))
@@ -40,8 +40,8 @@ pub record Prepared (t : List ℕ) (s : Groups) (edges starts starters states : 
   pub its-starters : starters ≡ s .starters
   pub its-states : states ≡ s .states
 
--- a table of which the first k states are written, and the number of the next wire
+-- such words with the first k states, and the number of the next wire
 pub record Filled (t : List ℕ) (s : Groups) (table : List ℕ) (k first : ℕ) : Type 0 where
-  pub all : length table ≡ machineWords
+  pub all : length table ≡ arrivalsOffset
   pub words : table ≡ withStates (take recordsOffset table) (firstStates t s k)
   pub passed : first ≡ wireCount (firstStates t s k)

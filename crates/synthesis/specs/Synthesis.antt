@@ -13,18 +13,19 @@ use Rattle.fsmd.specs.Layout.{machineWords}
 use Rattle.fsmd.specs.Machine.{FSMD}
 use Rattle.fsmd.specs.Table.{machineTableOf}
 use Rattle.grouping.specs.Grouping.{Groups, groups}
-use Rattle.state.specs.Wires.{stateMade}
+use Rattle.state.specs.Wires.{stateMade, arrivalMade}
 use Rattle.synthesis.specs.declared.SynthesisAnswer.{SynthesisAnswer}
 use Rattle.synthesis.specs.declared.SynthesisAnswer.the-variants.{Refused, Made}
 
 -- the machine of a graph whose grouping is s
 unfoldable pub machineFor : CFG → Groups → FSMD
-unfolding stateMade
+unfolding stateMade arrivalMade
 machineFor g s =
     record {
       registers = g .registers;
       starters = s .starters;
       blockStates = s .states;
+      arrivals = map (arrivalMade g s) (upFrom 0 (length (s .states)));
       states = map (stateMade g s) (upFrom 0 (length (s .starters)));
     }
 

@@ -1,4 +1,4 @@
-// The machine table of an admitted graph: its head, then the wires and the record of one state after another.
+// The machine table of an admitted graph: its head, then the wires and the record of one state after another, then the arrivals.
 use crate::SynthesisAnswer;
 use cfg::GraphTable;
 use cfg::admission;
@@ -11,11 +11,11 @@ ghost use mathlib.Core.Path.{_≡_};
 ghost use mathlib.Core.Bool.{true};
 ghost use mathlib.Core.List.{[], _∷_, _++_};
 ghost use Prim.Native.Nat.{ℕ, _+_, _<_, _≤_};
-ghost use lib.ListN.{length, getD, take};
+ghost use lib.ListN.{length, getD, take, replicate};
 ghost use lib.Seq.{sets};
 ghost use Rattle.runs.specs.Lists.{mem};
 ghost use Rattle.cfg.specs.Table.{graphOf, admittedGraph};
-ghost use Rattle.fsmd.specs.Layout.{maxBlocks, maxRegisters, maxWires, recordWords, recordsOffset, machineWords};
+ghost use Rattle.fsmd.specs.Layout.{maxBlocks, maxRegisters, maxWires, recordWords, recordsOffset, arrivalsOffset, machineWords};
 ghost use Rattle.fsmd.specs.Machine.{wireCount};
 ghost use Rattle.fsmd.specs.Touch.{touchWord};
 ghost use Rattle.fsmd.specs.Table.{machineTableOf};
@@ -25,9 +25,9 @@ ghost use Rattle.state.specs.Making.{Edged};
 ghost use Rattle.synthesis.specs.Synthesis.{machine, synthesisAnswer, synthesisWords};
 ghost use Rattle.synthesis.specs.StateWords.{withStates, firstStates, firstArrivals, Prepared, Filled};
 
-// The words before the records; every other word becomes 0.
+// The words before the records; every other word before the arrivals becomes 0.
 fn write_head(table: &mut [u32], count: u32, registers: u32, starters: &[u8], states: &[u8])
-    requires { ⌜ (length (now table) ≡ machineWords) × (length (now starters) ≡ maxBlocks) × (length (now states) ≡ maxBlocks) ⌝ }
+    requires { ⌜ (length (now table) ≡ arrivalsOffset) × (length (now starters) ≡ maxBlocks) × (length (now states) ≡ maxBlocks) ⌝ }
     ensures { λ r. ⌜ now (table .exit) ≡ withStates (count ∷ registers ∷ (now (starters .entry) ++ now (states .entry))) [] ⌝ }
 {
     buffers::clear(table);
@@ -156,10 +156,10 @@ fn all_states(
     }
 }
 
-// The table of an admitted graph's machine.
-fn fill(graph: &[u32], table: &mut [u32])
-    requires { ⌜ (admittedGraph (now graph) ≡ true) × (length (now table) ≡ machineWords) ⌝ }
-    ensures { λ r. ⌜ now (table .exit) ≡ machineTableOf (machine (graphOf (now (graph .entry)))) ⌝ }
+// The table of an admitted graph's machine in two parts: the words before the arrivals, and the arrivals.
+fn fill_parts(graph: &[u32], table: &mut [u32], arrivals: &mut [u32])
+    requires { ⌜ (admittedGraph (now graph) ≡ true) × (length (now table) ≡ arrivalsOffset) × (now arrivals ≡ replicate maxBlocks 0) ⌝ }
+    ensures { λ r. ⌜ now (table .exit) ++ now (arrivals .exit) ≡ machineTableOf (machine (graphOf (now (graph .entry)))) ⌝ }
 {
     let grouping = grouping::group(graph);
     let count = grouping.count;
@@ -171,7 +171,6 @@ fn fill(graph: &[u32], table: &mut [u32])
     // Room for the edges of one state after another: to clear it for each would cost more than most states.
     let mut targets = [0u32; StateProgress::EDGES];
     let mut rows = [0u32; StateProgress::ROW * StateProgress::EDGES];
-    let mut arrivals = [0u32; MachineTable::BLOCKS];
     write_head(
         table,
         count as u32,
@@ -188,8 +187,18 @@ fn fill(graph: &[u32], table: &mut [u32])
         table,
         &mut targets,
         &mut rows,
-        &mut arrivals,
+        arrivals,
     );
+}
+
+// The table of an admitted graph's machine.
+fn fill(graph: &[u32], table: &mut [u32])
+    requires { ⌜ (admittedGraph (now graph) ≡ true) × (length (now table) ≡ machineWords) ⌝ }
+    ensures { λ r. ⌜ now (table .exit) ≡ machineTableOf (machine (graphOf (now (graph .entry)))) ⌝ }
+{
+    let mut arrivals = [0u32; MachineTable::BLOCKS];
+    fill_parts(graph, &mut table[..MachineTable::ARRIVALS], &mut arrivals);
+    buffers::copy_words(table, MachineTable::ARRIVALS, &arrivals);
 }
 
 // The machine of a graph table into a machine table.

@@ -1,116 +1,47 @@
 -- `synthesis::table::fill` meets its contract. Assumes nothing.
-use mathlib.Core.Path.{_≡_, refl, sym, ap, _∙_}
-use mathlib.Core.List.{List}
-use Prim.Native.Nat.{ℕ, _≤_}
+use mathlib.Core.Path.{_≡_, refl, sym, _∙_}
+use Prim.Native.Nat.{ℕ}
 use native.Mathlib.Omega.{arith}
 use denote.Ref.{now}
-use lib.ListN.{length, getD, take}
+use lib.ListN.{length, take, drop, length-append, length-drop}
 use lib.Seq.{length-take-le}
 use borrow.Author.Needs.{needs}
-use Rattle.runs.specs.Lists.{mem}
-use Rattle.cfg.specs.Table.{graphOf}
-use Rattle.fsmd.specs.Table.{machineTableOf}
-use Rattle.synthesis.proofs.SynthesisedMachine.{machine-is}
-use Rattle.synthesis.proofs.MachineTable.{its, finished, grouping-is}
-use Rattle.synthesis.proofs.ArrivalWords.{none-listed}
-use Rattle.synthesis.proofs.TableFilled.{GroupsListed, groups-listed, begun, table-filled}
+use Rattle.fsmd.specs.Layout.{maxBlocks, arrivalsOffset, machineWords}
+use Rattle.synthesis.proofs.TableFilled.{arrivals-behind}
 use Rattle.synthesis.proofs.table.fill.Statement.{statement}
 use Rattle.synthesis.proofs.table.fill.Tie as tie
 
--- what grouping gives
-listed : (c : tie.After-group) → GroupsListed (now (c .before .before .before .args .graph)) (its (now (c .before .before .before .args .graph))) (c .group .result)
-listed c =
-    let t = now (c .before .before .before .args .graph) in
-    let a = c .before .before .before .pre .0 in
-    groups-listed t a (its t) (finished t a) (c .group .result) (c .group .ensures ∙ grouping-is t)
+-- the words before the arrivals, and those behind them
+front-length : (c : tie.Start) → length (take arrivalsOffset (now (c .args .table))) ≡ arrivalsOffset
+front-length c = length-take-le arrivalsOffset (now (c .args .table)) (omega (arith, c .pre .1))
 
-starters-length : (c : tie.After-group) → c .group .result .count ≡ length (take (c .group .result .count) (c .group .result .starters))
-starters-length c = let g = listed c in sym (length-take-le (c .group .result .count) (c .group .result .starters) (omega (arith, g .few-states, g .starters-64)))
+rest-length : (c : tie.Start) → length (drop arrivalsOffset (now (c .args .table))) ≡ maxBlocks
+rest-length c = omega (arith, length-drop arrivalsOffset (now (c .args .table)), c .pre .1)
 
-states-length : (c : tie.After-group) → getD (now (c .before .before .before .args .graph)) 0 0 ≡ length (take (getD (now (c .before .before .before .args .graph)) 0 0) (c .group .result .states))
-states-length c = let g = listed c in sym (length-take-le (getD (now (c .before .before .before .args .graph)) 0 0) (c .group .result .states) (omega (arith, g .few-blocks, g .states-64)))
+fill-parts-requires : tie.Need-fill-parts-requires
+fill-parts-requires c κs = (c .before .before .before .before .pre .0, front-length (c .before .before .before .before), refl)
 
-shared-slice-read-blocks : tie.Need-shared-slice-read-blocks
-shared-slice-read-blocks c = omega (arith, listed (c .before .before .before) .long)
-
-cast-blocks : tie.Need-cast-blocks
-cast-blocks c = omega (arith, listed (c .before .before .before) .few-blocks)
-
-array-share-prefix-list : tie.Need-array-share-prefix-list
-array-share-prefix-list c = let g = listed (c .before .before .before .before) in omega (arith, g .few-states, g .starters-64)
-
-starter-marks-requires : tie.Need-starter-marks-requires
-starter-marks-requires c κs = listed (c .before .before .before .before .before) .low
-
-cast-write-head : tie.Need-cast-write-head
-cast-write-head c = omega (arith, listed (c .before .before .before .before .before .before .before) .few-states)
-
-shared-slice-read-write-head : tie.Need-shared-slice-read-write-head
-shared-slice-read-write-head c = omega (arith, listed (c .before .before .before .before .before .before .before .before) .long)
-
-write-head-requires : tie.Need-write-head-requires
-write-head-requires c κs = let g = listed (c .before .before .before .before .before .before .before .before .before .before) in (c .before .before .before .before .before .before .before .before .before .before .before .before .before .pre .1, g .starters-64, g .states-64)
-
-array-share-prefix-list-2 : tie.Need-array-share-prefix-list-2
-array-share-prefix-list-2 c = let g = listed (c .before .before .before .before .before .before .before .before .before .before .before .before .before .before .before) in omega (arith, g .few-states, g .starters-64)
-
-array-share-prefix-bytes : tie.Need-array-share-prefix-bytes
-array-share-prefix-bytes c = let g = listed (c .before .before .before .before .before .before .before .before .before .before .before .before .before .before .before .before) in omega (arith, g .few-blocks, g .states-64)
-
-all-states-requires : tie.Need-all-states-requires
-all-states-requires c κs =
-    let g = listed (c .before .before .before .before .before .before .before .before .before .before .before .before .before .before .before .before .before .before .before .before .before) in
-    let a = c .before .before .before .before .before .before .before .before .before .before .before .before .before .before .before .before .before .before .before .before .before .before .before .before .args in
-    let p = c .before .before .before .before .before .before .before .before .before .before .before .before .before .before .before .before .before .before .before .before .before .before .before .before .pre in
-    let r = c .before .before .before .before .before .before .before .before .before .before .before .before .before .before .before .before .before .before .before .before .before .group in
-    let w = c .before .before .before .before .before .before .before .before .before .before .write-head in (
-      record {
-        admits = p .0;
-        leading = c .before .before .before .before .before .before .before .before .before .before .before .before .before .before .before .before .before .edges-of .ensures;
-        starting = λ x. c .before .before .before .before .before .before .before .before .before .before .before .before .before .before .before .starter-marks .ensures x ∙ ap (mem x) (g .starters);
-        its-starters = g .starters;
-        its-states = g .states;
-      },
-      ((begun (now (a .graph)) (p .0) (its (now (a .graph))) (finished (now (a .graph)) (p .0)) (r .result) (r .ensures ∙ grouping-is (now (a .graph))) (w .last .0) (w .kept .0 ∙ p .1) (w .ensures) .0, sym (none-listed (now (a .graph)) (its (now (a .graph))))), record { all = refl; each = refl; few = omega arith }),
-    )
-
-same-length : tie.Need-same-length
-same-length c = c .before .before .before .before .before .all-states .kept .1 .1 .1 .1 .1 .0 ∙ c .before .before .before .before .before .before .before .before .before .before .before .before .before .before .before .before .write-head .kept .0
+copy-words-requires : tie.Need-copy-words-requires
+copy-words-requires c κs =
+    let f = c .before .before .before .before .before .fill-parts in
+    omega (arith, length-append (f .last .1 .0) (drop arrivalsOffset (now (c .before .before .before .before .before .before .before .before .before .before .args .table))), f .kept .1 .0, f .kept .1 .1 .0, front-length (c .before .before .before .before .before .before .before .before .before .before), rest-length (c .before .before .before .before .before .before .before .before .before .before))
 
 returns : tie.Need-returns
 returns c =
-    let a = c .before .before .before .before .before .before .before .before .before .before .before .before .before .before .before .before .before .before .before .before .before .before .before .before .before .before .before .before .before .before .args in
-    let p = c .before .before .before .before .before .before .before .before .before .before .before .before .before .before .before .before .before .before .before .before .before .before .before .before .before .before .before .before .before .before .pre in
-    let r = c .before .before .before .before .before .before .before .before .before .before .before .before .before .before .before .before .before .before .before .before .before .before .before .before .before .before .before .group in
-    let w = c .before .before .before .before .before .before .before .before .before .before .before .before .before .before .before .before .write-head in
-    table-filled (now (a .graph)) (p .0) (its (now (a .graph))) (finished (now (a .graph)) (p .0)) (r .result) (r .ensures ∙ grouping-is (now (a .graph))) (w .last .0) (c .before .before .before .before .before .all-states .last .1 .1 .1 .1 .1 .0) (w .kept .0 ∙ p .1) (w .ensures) (c .before .before .before .before .before .all-states .ensures .0)
-    ∙ ap machineTableOf (sym (machine-is (graphOf (now (a .graph)))))
+    let f = c .before .before .before .before .before .before .before .before .fill-parts in
+    c .before .before .copy-words .ensures
+    ∙ arrivals-behind (f .last .1 .0) (drop arrivalsOffset (now (c .before .before .before .before .before .before .before .before .before .before .before .before .before .args .table))) (f .last .1 .1 .0) (f .kept .1 .0 ∙ front-length (c .before .before .before .before .before .before .before .before .before .before .before .before .before)) (f .kept .1 .1 .0 ∙ sym (rest-length (c .before .before .before .before .before .before .before .before .before .before .before .before .before)))
+    ∙ f .ensures
 
 pub fill-spec : {M : Type 1} → statement M
 fill-spec =
     tie.close
     (tie.spec
-    (λ c κs. c .before .before .pre .0)
-    shared-slice-read-blocks
-    cast-blocks
-    (λ c κs. search needs)
-    array-share-prefix-list
-    (λ c. starters-length (c .before .before .before .before .before))
-    starter-marks-requires
-    cast-write-head
-    shared-slice-read-write-head
-    (λ c. sym (listed (c .before .before .before .before .before .before .before .before .before) .starters-64))
-    (λ c. sym (listed (c .before .before .before .before .before .before .before .before .before .before) .states-64))
-    write-head-requires
     (λ c. search needs)
+    (λ c. sym (front-length (c .before .before .before)))
     (λ c. search needs)
-    array-share-prefix-list-2
-    (λ c. starters-length (c .before .before .before .before .before .before .before .before .before .before .before .before .before .before .before .before))
-    array-share-prefix-bytes
-    (λ c. states-length (c .before .before .before .before .before .before .before .before .before .before .before .before .before .before .before .before .before))
+    fill-parts-requires
     (λ c. search needs)
+    copy-words-requires
     (λ c. search needs)
-    (λ c. search needs)
-    all-states-requires
-    same-length
     returns)

@@ -8,7 +8,7 @@ use lib.ListN.{length, getD, take, drop, replicate, length-append, length-drop}
 use lib.Seq.{length-take-le}
 use borrow.Author.Needs.{needs}
 use borrow.Rule.Slice.PartMut.{same-len-mid, putMid}
-use Rattle.fsmd.specs.Layout.{maxStates, maxBlocks, maxRegisters, maxWires, machineWords, wireOffset}
+use Rattle.fsmd.specs.Layout.{maxStates, maxBlocks, maxRegisters, maxWires, arrivalsOffset, wireOffset}
 use Rattle.cfg.specs.Layout.{graphWords}
 use Rattle.cfg.specs.Table.{graphOf}
 use Rattle.grouping.specs.Grouping.{groups}
@@ -31,7 +31,7 @@ record Small (t table : List ℕ) (k first : ℕ) : Type 0 where
   wire : first ≤ maxWires
   registers : getD t 1 0 ≤ maxRegisters
   long : graphWords ≤ length t
-  all : length table ≡ machineWords
+  all : length table ≡ arrivalsOffset
 
 small : (c : tie.Start) → Small (now (c .args .graph)) (now (c .args .table)) (c .args .k) (c .args .first)
 small c =
@@ -143,7 +143,7 @@ made-few c =
     made-low (now (a .graph)) (its (now (a .graph))) (finished (now (a .graph)) (p .0 .admits)) (now (a .edges)) (now (a .starts)) (now (a .starters)) (now (a .states)) (p .0) (now (a .table)) (a .k) (a .first) (p .1 .0 .1) (p .1 .0 .0)
     (end (c .before .before .before .before .before .before .before .before .before)) (end-is (c .before .before .before .before .before .before .before .before .before)) (wires-of c) (values-of c) (c .make .result .registers) (c .make .result .wires) (c .make .result .next) (c .make .ensures .0) (values-length c) (few-registers c)
 
-table-length : (c : tie.After-make) → length (putMid (wireOffset (c .before .before .before .before .before .before .before .before .before .before .before .before .before .before .before .before .before .before .before .before .args .first)) (length (now (c .before .before .before .before .before .before .before .before .before .before .before .before .before .before .before .before .before .before .before .before .args .table)) - (wireOffset (c .before .before .before .before .before .before .before .before .before .before .before .before .before .before .before .before .before .before .before .before .args .first))) (now (c .before .before .before .before .before .before .before .before .before .before .before .before .before .before .before .before .before .before .before .before .args .table)) (wires-of c)) ≡ machineWords
+table-length : (c : tie.After-make) → length (putMid (wireOffset (c .before .before .before .before .before .before .before .before .before .before .before .before .before .before .before .before .before .before .before .before .args .first)) (length (now (c .before .before .before .before .before .before .before .before .before .before .before .before .before .before .before .before .before .before .before .before .args .table)) - (wireOffset (c .before .before .before .before .before .before .before .before .before .before .before .before .before .before .before .before .before .before .before .before .args .first))) (now (c .before .before .before .before .before .before .before .before .before .before .before .before .before .before .before .before .before .before .before .before .args .table)) (wires-of c)) ≡ arrivalsOffset
 table-length c =
     let a = c .before .before .before .before .before .before .before .before .before .before .before .before .before .before .before .before .before .before .before .before .args in
     same-len-mid (wireOffset (a .first)) (length (now (a .table)) - (wireOffset (a .first))) (now (a .table)) (wires-of c) (c .make .kept .1 .1 .1 .1 .0) ∙ small (c .before .before .before .before .before .before .before .before .before .before .before .before .before .before .before .before .before .before .before .before) .all

@@ -2,12 +2,12 @@
 use Prim.Native.Nat.{ℕ, _+_, _≤_, _<_}
 use native.Mathlib.Omega.{arith}
 use native.Mathlib.Decide.{decLt}
-use mathlib.Core.Bool.{Bool, true, false}
+use mathlib.Core.Bool.{Bool, true}
 use mathlib.Core.Logic.{_⊎_, inl, inr, _≢_}
 use mathlib.Core.Path.{_≡_, refl, sym, ap, _∙_}
-use mathlib.Core.List.{List, [], _∷_, map}
+use mathlib.Core.List.{List, [], _∷_}
 use lib.Dec.{ltb}
-use lib.ListN.{length, getD, set, replicate, length-set, length-map, getD-replicate, List·getD-eq-default}
+use lib.ListN.{length, getD, set, replicate, length-set, length-map, getD-replicate}
 use lib.Seq.{getD-set-same, getD-set-other, ext-getD}
 use borrow.Author.Tests.{lt-ltb, le-ltb}
 use Rattle.word.specs.Word.{choose}
@@ -34,7 +34,7 @@ use Rattle.synthesis.proofs.StateBlocks.{put-alike, block-low}
 
 -- ---- the arrivals of one state
 
-pub listed-length : (r : ℕ) (t starters xs : List ℕ) (b : StateBuild) (l : List ℕ) → length (withArrivals r t starters xs b l) ≡ length l
+listed-length : (r : ℕ) (t starters xs : List ℕ) (b : StateBuild) (l : List ℕ) → length (withArrivals r t starters xs b l) ≡ length l
 unfolding withArrivals
 listed-length r t starters [] b l = refl
 listed-length r t starters (x ∷ xs) b l =
@@ -106,9 +106,6 @@ none-listed t s =
 module _ (t : List ℕ) (a : admittedGraph t ≡ true) (s : Groups) (G : Grouped (graphOf t) s) where
   closed : Closed (graphOf t)
   closed = admitted-closed t a
-
-  few : length (s .states) ≤ maxBlocks
-  few = let b = closed .few-blocks in let e = G .all-blocks in omega arith
 
   few-states : length (s .starters) ≤ maxBlocks
   few-states = let b = closed .few-blocks in let e = G .few-states in omega arith

@@ -1,12 +1,11 @@
 -- `synthesis::table::fill` meets its contract. Assumes nothing.
 use mathlib.Core.Path.{_≡_, refl, sym, _∙_}
-use Prim.Native.Nat.{ℕ}
 use native.Mathlib.Omega.{arith}
 use denote.Ref.{now}
 use lib.ListN.{length, take, drop, length-append, length-drop}
 use lib.Seq.{length-take-le}
 use borrow.Author.Needs.{needs}
-use Rattle.fsmd.specs.Layout.{maxBlocks, arrivalsOffset, machineWords}
+use Rattle.fsmd.specs.Layout.{maxBlocks, arrivalsOffset}
 use Rattle.synthesis.proofs.TableFilled.{arrivals-behind}
 use Rattle.synthesis.proofs.table.fill.Statement.{statement}
 use Rattle.synthesis.proofs.table.fill.Tie as tie

@@ -7,9 +7,9 @@ use mathlib.Core.List.{List, [], _∷_}
 use native.Mathlib.Omega.{arith}
 use lib.ListN.{length, getD}
 use Rattle.runs.specs.Lists.{mem}
-use Rattle.runs.proofs.Sets.{In, mem→In, In→mem, Out→mem, in-getD, getD-in}
+use Rattle.runs.proofs.Sets.{In, Distinct, mem→In, In→mem, Out→mem, in-getD, getD-in}
 use Rattle.cfg.specs.Graph.{CFG, successors}
-use Rattle.fsmd.specs.Layout.{absent}
+use Rattle.fsmd.specs.Layout.{maxBlocks, absent}
 use Rattle.grouping.specs.Grouping.{Groups}
 use Rattle.grouping.proofs.Reach.{Closed}
 use Rattle.grouping.proofs.GroupingLaws.{Grouped}
@@ -26,17 +26,21 @@ abbrev pub Ordered : CFG → List ℕ → List ℕ → Type 0
 Ordered g starters [] = Unit {0}
 Ordered g starters (x ∷ xs) = (mem x starters ≡ false) × Ahead starters xs (successors g x) × Ordered g starters xs
 
--- the blocks of state k, whose starter is y, in order
+-- the blocks of state k, whose starter is y, in order: all of them and no others, none twice
 pub record StateOrder (g : CFG) (s : Groups) (k y : ℕ) : Type 0 where
+  pub mine : (x : ℕ) → In x (order g s k) → getD (s .states) x absent ≡ k
+  pub all : (x : ℕ) → getD (s .states) x absent ≡ k → In x (order g s k)
+  pub distinct : Distinct (order g s k)
   pub others : List ℕ
   pub order-is : order g s k ≡ y ∷ others
   pub starter : mem y (s .starters) ≡ true
   pub ahead : Ahead (s .starters) others (successors g y)
   pub ordered : Ordered g (s .starters) others
 
--- of the whole grouping: few states, block 0 in state 0, and each starter's state is one, its own and in order
+-- of the whole grouping: few states and blocks, block 0 in state 0, and each starter's state is one, its own and in order
 pub record Arranged (g : CFG) (s : Groups) : Type 0 where
   pub few : length (s .starters) ≤ absent
+  pub room : length (s .states) ≤ maxBlocks
   pub entry : mem 0 (s .starters) ≡ true
   pub entry-state : getD (s .states) 0 absent ≡ 0
   pub home : (y : ℕ) → mem y (s .starters) ≡ true → getD (s .states) y absent < length (s .starters)
@@ -57,6 +61,9 @@ ordered-made g starters (x ∷ l) f o =
 module _ (g : CFG) (a : Closed g) (s : Groups) (G : Grouped g s) where
   state-order : (k : ℕ) → k < length (s .starters) → StateOrder g s k (getD (s .starters) k absent)
   state-order k h = record {
+    mine = p .mine;
+    all = p .all;
+    distinct = p .distinct;
     others = p .others;
     order-is = p .starter-first absent;
     starter = In→mem (getD (s .starters) k absent) (s .starters) (getD-in (s .starters) k absent h);
@@ -73,6 +80,7 @@ module _ (g : CFG) (a : Closed g) (s : Groups) (G : Grouped g s) where
   pub arranged : Arranged g s
   arranged = record {
     few = let n = G .few-states in let b = a .few-blocks in omega arith;
+    room = let n = G .all-blocks in let b = a .few-blocks in omega arith;
     entry = In→mem 0 (s .starters) zero-in;
     entry-state = sym (ap (λ (z : ℕ). getD (s .states) z absent) (G .entry-first absent)) ∙ G .starter-home 0 absent (G .some-state);
     home = λ y m. of-starter y m .0;

@@ -155,6 +155,15 @@ module _ {A : Type 0} where
       go true h = omega arith
       go false h = omega arith
 
+  pub length-only-map : {B : Type 0} (p : A → Bool) (f : B → A) (l : List B) → length (only p (map f l)) ≡ length (only (λ (x : B). p (f x)) l)
+  length-only-map p f [] = refl
+  length-only-map {B = B} p f (x ∷ l) = go (p (f x)) (length-only-map p f l)
+    where
+      go : (b : Bool) → length (only p (map f l)) ≡ length (only (λ (x : B). p (f x)) l)
+          → length (keep b (f x) (only p (map f l))) ≡ length (keep b x (only (λ (x : B). p (f x)) l))
+      go true e = ap suc e
+      go false e = e
+
   -- ---- concatMap
 
   module _ {B : Type 0} (f : B → List A) where

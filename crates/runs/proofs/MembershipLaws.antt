@@ -6,9 +6,10 @@ use mathlib.Core.Path.{_≡_, refl, sym, _∙_, ap, ap₂}
 use mathlib.Core.List.{List, [], _∷_, map}
 use mathlib.Core.Option.{none, some}
 use native.Mathlib.Omega.{arith}
+use lib.ListN.{length}
 use Rattle.runs.specs.Lists.{upFrom, keep, only, every, first}
 use Rattle.runs.proofs.Tests.{true-or-false, and-true, Compared, same, other, compared}
-use Rattle.runs.proofs.Sets.{In, Distinct}
+use Rattle.runs.proofs.Sets.{In, Distinct, Subset, pigeonhole}
 
 pub only-in : (p : ℕ → Bool) (l : List ℕ) (x : ℕ) → In x (only p l) → In x l × (p x ≡ true)
 only-in p [] x i = absurd i
@@ -49,6 +50,13 @@ only-same p q (y ∷ l) h = ap₂ {C = List ℕ} (λ (b : Bool) (m : List ℕ). 
 pub map-in {ℓ} : {B : Type ℓ} (f g : ℕ → B) (l : List ℕ) → ((x : ℕ) → In x l → f x ≡ g x) → map f l ≡ map g l
 map-in f g [] h = refl
 map-in {B = B} f g (y ∷ l) h = ap₂ {C = List B} (λ (b : B) (m : List B). b ∷ m) (h y (inl refl)) (map-in f g l (λ x i. h x (inr i)))
+
+-- of two lists without repeats that have the same members equally many pass a test
+pub equally-many : (p : ℕ → Bool) (l m : List ℕ) → Distinct l → Distinct m → Subset l m → Subset m l → length (only p l) ≡ length (only p m)
+equally-many p l m d e to from =
+    let a = pigeonhole (only p l) (only p m) (distinct-only p l d) (λ x i. let h = only-in p l x i in in-only p m x (to x (h .0)) (h .1)) in
+    let b = pigeonhole (only p m) (only p l) (distinct-only p m e) (λ x i. let h = only-in p m x i in in-only p l x (from x (h .0)) (h .1)) in
+    omega arith
 
 pub in-upFrom : (n k x : ℕ) → In x (upFrom n k) → (n ≤ x) × (x < n + k)
 in-upFrom n zero x i = absurd i

@@ -309,7 +309,7 @@ module _ (r : Runner) (ws : Supply) (budget : ℕ) (c₀ : Configuration) where
       pub at-ended : times r ws budget c₀ ≡ c
       at-ended = reached .rest ∙ times-ended r ws (budget - count) c ended
 
-      counted-ended : stepsRun r ws budget c₀ ≡ count
+      pub counted-ended : stepsRun r ws budget c₀ ≡ count
       counted-ended = reached .counted ∙ rw (stepsRun-ended r ws (budget - count) c ended) (omega arith)
 
       pub reached-halted : c .place ≡ halted → answer r ws budget c₀ ≡ Halted count (c .contents .flag)

@@ -9,22 +9,19 @@ use lib.Dec.{eqb}
 use Rattle.word.specs.Word.{choose, truth}
 use Rattle.runs.specs.Lists.{keep, only}
 use Rattle.runs.proofs.ListLaws.{only-append}
+use Rattle.fsmd.specs.Machine.{nonzero}
 use Rattle.synthesis.proofs.Environments.{at, Below, below-mono, Grows}
 
--- of the references, those that read nonzero in the environment E
-abbrev pub nonzeroIn : List ℕ → List ℕ → ℕ
-nonzeroIn E refs = length (only (λ x. not (eqb (at E x) 0)) refs)
-
--- n of them, where each is in E
+-- in the environment E are the references refs, and n of them read nonzero
 pub record Counted (E refs : List ℕ) (n : ℕ) : Type 0 where
   pub low : Below (length E) refs
-  pub count : nonzeroIn E refs ≡ n
+  pub count : nonzero E refs ≡ n
 
-nonzero-append : (E F refs : List ℕ) → Below (length E) refs → nonzeroIn (E ++ F) refs ≡ nonzeroIn E refs
+nonzero-append : (E F refs : List ℕ) → Below (length E) refs → nonzero (E ++ F) refs ≡ nonzero E refs
 nonzero-append E F [] b = refl
 nonzero-append E F (x ∷ refs) b = rw (List·getD-append E F 0 x (b .0)) (go (not (eqb (at E x) 0)) (nonzero-append E F refs (b .1)))
   where
-    go : (c : Bool) → nonzeroIn (E ++ F) refs ≡ nonzeroIn E refs
+    go : (c : Bool) → nonzero (E ++ F) refs ≡ nonzero E refs
         → length (keep c x (only (λ x. not (eqb (at (E ++ F) x) 0)) refs)) ≡ length (keep c x (only (λ x. not (eqb (at E x) 0)) refs))
     go true e = ap suc e
     go false e = e
@@ -45,12 +42,12 @@ below-snoc n [] x b h = (h, tt)
 below-snoc n (y ∷ refs) x b h = (b .0, below-snoc n refs x (b .1) h)
 
 -- one more, which reads whether a test holds
-nonzero-more : (E refs : List ℕ) (x : ℕ) (b : Bool) → at E x ≡ truth b → nonzeroIn E (refs ++ (x ∷ [])) ≡ choose b (suc (nonzeroIn E refs)) (nonzeroIn E refs)
+nonzero-more : (E refs : List ℕ) (x : ℕ) (b : Bool) → at E x ≡ truth b → nonzero E (refs ++ (x ∷ [])) ≡ choose b (suc (nonzero E refs)) (nonzero E refs)
 nonzero-more E refs x b e =
     let t : ℕ → Bool = λ x. not (eqb (at E x) 0) in
     ap length (only-append t refs (x ∷ [])) ∙ length-append (only t refs) (only t (x ∷ [])) ∙ go b e
   where
-    go : (b : Bool) → at E x ≡ truth b → nonzeroIn E refs + nonzeroIn E (x ∷ []) ≡ choose b (suc (nonzeroIn E refs)) (nonzeroIn E refs)
+    go : (b : Bool) → at E x ≡ truth b → nonzero E refs + nonzero E (x ∷ []) ≡ choose b (suc (nonzero E refs)) (nonzero E refs)
     go true e = rw e (omega arith)
     go false e = rw e (omega arith)
 

@@ -1,47 +1,32 @@
--- The blocks of a state whose arrival reads nonzero: as many counted over the numbers of all blocks as over the state's order. Assumes nothing.
-use Prim.Native.Nat.{ℕ, suc, _≤_, _<_}
+-- The blocks that a cycle counts, over the numbers of all blocks: as many as the graph runs in it, over the state's order. Assumes nothing.
+use Prim.Native.Nat.{ℕ, _≤_, _<_}
 use native.Mathlib.Omega.{arith}
 use native.Mathlib.Decide.{decLt}
-use mathlib.Core.Path.{_≡_, refl, sym, ap, _∙_}
+use mathlib.Core.Path.{_≡_, sym, ap, _∙_}
 use mathlib.Core.Logic.{_≢_}
-use mathlib.Core.Bool.{Bool, true, false, not, _&&_}
-use mathlib.Core.List.{List, [], _∷_, map}
+use mathlib.Core.Bool.{Bool, true, not}
+use mathlib.Core.List.{List, map}
 use lib.ListN.{length, getD, List·getD-eq-default}
 use lib.Dec.{eqb}
 use borrow.Author.Tests.{eqb-true, eq-eqb}
-use Rattle.runs.specs.Lists.{keep, only, upFrom}
-use Rattle.runs.proofs.ListLaws.{getD-map-upFrom}
-use Rattle.runs.proofs.Tests.{and-true}
-use Rattle.runs.proofs.Sets.{In, Distinct, pigeonhole}
-use Rattle.runs.proofs.MembershipLaws.{only-in, in-only, distinct-only, in-upFrom, upFrom-in, distinct-upFrom}
+use Rattle.runs.specs.Lists.{upFrom, mem}
+use Rattle.runs.proofs.ListLaws.{getD-map-upFrom, length-only-map}
+use Rattle.runs.proofs.Sets.{In, Distinct}
+use Rattle.runs.proofs.MembershipLaws.{only-in, in-only, distinct-only, equally-many, upFrom-in, distinct-upFrom}
 use Rattle.cfg.specs.Graph.{CFG}
 use Rattle.fsmd.specs.Layout.{maxBlocks, absent}
+use Rattle.fsmd.specs.Machine.{State, worked, blocksOf, nonzero, blocksRun}
 use Rattle.grouping.specs.Grouping.{Groups}
 use Rattle.placement.specs.Placement.{order}
-use Rattle.state.specs.Wires.{nothing, arrivalsIn, arrivalIn, arrivalMade}
+use Rattle.placement.proofs.StateOrder.{StateOrder, Arranged}
+use Rattle.state.specs.Wires.{nothing, arrivalsIn, arrivalIn, arrivalMade, stateMade}
+use Rattle.synthesis.specs.Synthesis.{machineFor}
 use Rattle.synthesis.proofs.Environments.{at}
 use Rattle.synthesis.proofs.Arrivals.{arrivals-map, made-arrival}
-use Rattle.synthesis.proofs.ArrivalsCounted.{nonzeroIn}
+use Rattle.synthesis.proofs.OneCycle.{CycleAgrees}
+use Rattle.synthesis.proofs.SynthesisedMachine.{state-at, block-states-are, arrivals-are}
 
--- of two lists without repeats equally many pass, where the same numbers do
-equally-many : (p q : ℕ → Bool) (l m : List ℕ) → Distinct l → Distinct m
-    → ((x : ℕ) → In x l → p x ≡ true → In x m × (q x ≡ true)) → ((x : ℕ) → In x m → q x ≡ true → In x l × (p x ≡ true)) → length (only p l) ≡ length (only q m)
-equally-many p q l m d e to from =
-    let a = pigeonhole (only p l) (only q m) (distinct-only p l d) (λ x i. let h = only-in p l x i in let r = to x (h .0) (h .1) in in-only q m x (r .0) (r .1)) in
-    let b = pigeonhole (only q m) (only p l) (distinct-only q m e) (λ x i. let h = only-in q m x i in let r = from x (h .0) (h .1) in in-only p l x (r .0) (r .1)) in
-    omega arith
-
-only-map : (p : ℕ → Bool) (f : ℕ → ℕ) (l : List ℕ) → length (only p (map f l)) ≡ length (only (λ x. p (f x)) l)
-only-map p f [] = refl
-only-map p f (x ∷ l) = go (p (f x)) (only-map p f l)
-  where
-    go : (b : Bool) → length (only p (map f l)) ≡ length (only (λ x. p (f x)) l) → length (keep b (f x) (only p (map f l))) ≡ length (keep b x (only (λ x. p (f x)) l))
-    go true e = ap suc e
-    go false e = e
-
-module _ (g : CFG) (s : Groups) (room : length (s .states) ≤ maxBlocks) (k : ℕ) (some : k ≢ absent)
-    (mine : (x : ℕ) → In x (order g s k) → getD (s .states) x absent ≡ k) (all : (x : ℕ) → getD (s .states) x absent ≡ k → In x (order g s k))
-    (distinct : Distinct (order g s k)) where
+module _ (g : CFG) (s : Groups) (room : length (s .states) ≤ maxBlocks) (k y : ℕ) (some : k ≢ absent) (o : StateOrder g s k y) where
   -- a block of a state has a number
   numbered : (x : ℕ) → getD (s .states) x absent ≡ k → x < length (s .states)
   numbered x e = go (decLt x (length (s .states)))
@@ -50,23 +35,54 @@ module _ (g : CFG) (s : Groups) (room : length (s .states) ≤ maxBlocks) (k : �
       go (yes h) = h
       go (no h) = absurd (some (sym e ∙ List·getD-eq-default (s .states) absent (omega arith)))
 
-  arrival-at : (x : ℕ) → getD (s .states) x absent ≡ k → getD (map (arrivalMade g s) (upFrom 0 (length (s .states)))) x 0 ≡ arrivalIn g s x (order g s k) nothing
-  arrival-at x e = getD-map-upFrom (arrivalMade g s) (length (s .states)) x 0 (numbered x e) ∙ made-arrival g s k x e some
+  abbrev blocks : List ℕ
+  blocks = blocksOf (machineFor g s) k
 
-  pub blocks-counted : (E : List ℕ)
-      → length (only (λ b. eqb (getD (s .states) b absent) k && not (eqb (at E (getD (map (arrivalMade g s) (upFrom 0 (length (s .states)))) b 0)) 0)) (upFrom 0 maxBlocks))
-      ≡ nonzeroIn E (arrivalsIn g s (order g s k) nothing)
+  block-in : (x : ℕ) → In x blocks → getD (s .states) x absent ≡ k
+  unfolding blocksOf
+  block-in x i =
+      ap (λ (l : List ℕ). getD l x absent) (sym (block-states-are g s))
+      ∙ eqb-true (getD (machineFor g s .blockStates) x absent) k (only-in (λ b. eqb (getD (machineFor g s .blockStates) b absent) k) (upFrom 0 maxBlocks) x i .1)
+
+  in-block : (x : ℕ) → getD (s .states) x absent ≡ k → In x blocks
+  unfolding blocksOf
+  in-block x e =
+      in-only (λ b. eqb (getD (machineFor g s .blockStates) b absent) k) (upFrom 0 maxBlocks) x (upFrom-in 0 maxBlocks x (omega arith) (omega (arith, numbered x e)))
+      (rw (block-states-are g s) (eq-eqb (getD (s .states) x absent) k e))
+
+  distinct-blocks : Distinct blocks
+  unfolding blocksOf
+  distinct-blocks = distinct-only (λ b. eqb (getD (machineFor g s .blockStates) b absent) k) (upFrom 0 maxBlocks) (distinct-upFrom 0 maxBlocks)
+
+  abbrev listed : ℕ → ℕ
+  listed b = getD (machineFor g s .arrivals) b 0
+
+  abbrev placed : ℕ → ℕ
+  placed x = arrivalIn g s x (order g s k) nothing
+
+  arrival-at : (x : ℕ) → getD (s .states) x absent ≡ k → listed x ≡ placed x
+  arrival-at x e =
+      ap (λ (l : List ℕ). getD l x 0) (arrivals-are g s)
+      ∙ getD-map-upFrom (arrivalMade g s) (length (s .states)) x 0 (numbered x e)
+      ∙ made-arrival g s k x e some
+
+  blocks-counted : (E : List ℕ) → nonzero E (map listed blocks) ≡ nonzero E (arrivalsIn g s (order g s k) nothing)
   blocks-counted E =
-      let nonzero : ℕ → Bool = λ r. not (eqb (at E r) 0) in
-      let made : ℕ → ℕ = λ b. getD (map (arrivalMade g s) (upFrom 0 (length (s .states)))) b 0 in
-      let placed : ℕ → ℕ = λ x. arrivalIn g s x (order g s k) nothing in
-      equally-many (λ b. eqb (getD (s .states) b absent) k && nonzero (made b)) (λ x. nonzero (placed x)) (upFrom 0 maxBlocks) (order g s k) (distinct-upFrom 0 maxBlocks) distinct
-      (λ x i h.
-      let t = and-true (eqb (getD (s .states) x absent) k) (nonzero (made x)) h in
-      let e = eqb-true (getD (s .states) x absent) k (t .0) in
-      (all x e, ap nonzero (sym (arrival-at x e)) ∙ t .1))
-      (λ x i h.
-      let e = mine x i in
-      (upFrom-in 0 maxBlocks x (omega arith) (omega (arith, numbered x e)), rw (eq-eqb (getD (s .states) x absent) k e, arrival-at x e) h))
-      ∙ sym (only-map nonzero placed (order g s k))
-      ∙ ap (nonzeroIn E) (sym (arrivals-map g s (order g s k) nothing distinct))
+      let t : ℕ → Bool = λ r. not (eqb (at E r) 0) in
+      length-only-map t listed blocks
+      ∙ equally-many (λ b. t (listed b)) (λ x. t (placed x)) blocks (order g s k) distinct-blocks (o .distinct)
+      (λ x i h. let e = block-in x i in (o .all x e, ap t (sym (arrival-at x e)) ∙ h))
+      (λ x i h. let e = o .mine x i in (in-block x e, ap t (arrival-at x e) ∙ h))
+      ∙ sym (length-only-map t placed (order g s k))
+      ∙ ap (nonzero E) (sym (arrivals-map g s (order g s k) nothing (o .distinct)))
+
+-- a cycle from a starter counts the blocks that the graph runs in it
+pub cycle-blocks : (g : CFG) (s : Groups) → Arranged g s → (sampled : ℕ) (rs : List ℕ) (b : ℕ) → mem b (s .starters) ≡ true
+    → (c : CycleAgrees g s sampled rs (getD (s .states) b absent) b) → blocksRun (machineFor g s) sampled (getD (s .states) b absent) rs ≡ c .steps
+unfolding blocksRun
+cycle-blocks g s a sampled rs b h c =
+    let k = getD (s .states) b absent in
+    let home = a .home b h in
+    ap (λ (q : State). nonzero (worked sampled rs (q .wires)) (map (λ b. getD (machineFor g s .arrivals) b 0) (blocksOf (machineFor g s) k))) (state-at g s k home)
+    ∙ blocks-counted g s (a .room) k b (λ e. absurd (let n = a .few in omega arith)) (a .placed b h) (worked sampled rs (stateMade g s k .wires))
+    ∙ c .counted

@@ -12,9 +12,9 @@ pub mod WireCodes
 pub mod WireValidity
 pub mod StateValidity
 pub mod Arrivals
-pub mod BlocksCounted
 pub mod WireCount
 pub mod SynthesisedMachine
+pub mod BlocksCounted
 pub mod TableWords
 pub mod TableWrites
 pub mod MachineTable

@@ -19,7 +19,7 @@ use Rattle.cfg.specs.declared.Ending.{Ending}
 use Rattle.cfg.specs.declared.Ending.the-variants.{Goto, Ite, Halt}
 use Rattle.cfg.specs.Graph.{CFG, blockOf, instructionsOf, targets, successors, executeAll, instructionsOver, holds, leave, runBlock}
 use Rattle.fsmd.specs.Layout.{maxRegisters}
-use Rattle.fsmd.specs.Machine.{State, worked, wiresOver}
+use Rattle.fsmd.specs.Machine.{State, worked, wiresOver, nonzero}
 use Rattle.grouping.specs.Grouping.{Groups}
 use Rattle.placement.specs.Placement.{order}
 use Rattle.state.specs.Wires.{towards, leadsTo, StateBuild, arrive, startBlock, enter, after, put, nothing, build, leaves, nextStateOf, closeState, stateMade, arrivalsIn}
@@ -28,7 +28,7 @@ use Rattle.placement.proofs.StateOrder.{Ahead, Ordered, StateOrder}
 use Rattle.synthesis.proofs.Readings.{Reads, start-reads}
 use Rattle.synthesis.proofs.Environments.{at}
 use Rattle.synthesis.proofs.AddedWires.{arrive-grown, close-state-grown}
-use Rattle.synthesis.proofs.ArrivalsCounted.{nonzeroIn, Counted, counted-none, counted-grow}
+use Rattle.synthesis.proofs.ArrivalsCounted.{Counted, counted-none, counted-grow}
 use Rattle.synthesis.proofs.Arrivals.{arrivalOf, arrivals-nil, arrivals-cons, arrivals-length}
 use Rattle.synthesis.proofs.FlagRaised.{grown-over, start-over, block-over}
 use Rattle.synthesis.proofs.TakenEdges.{OneTaken, none-grow, one-grow, one-towards, one-away, arrive-grow, arrive-none, arrive-one}
@@ -209,7 +209,7 @@ pub record CycleAgrees (g : CFG) (s : Groups) (sampled : ℕ) (rs : List ℕ) (k
   pub steps : ℕ
   pub trace : Trace g (s .starters) sampled b rs steps reached
   pub leaving : leaves s (reached .place) ≡ true
-  pub counted : nonzeroIn (worked sampled rs (stateMade g s k .wires)) (arrivalsIn g s (order g s k) nothing) ≡ steps
+  pub counted : nonzero (worked sampled rs (stateMade g s k .wires)) (arrivalsIn g s (order g s k) nothing) ≡ steps
   pub state : StateReads g (stateMade g s k) sampled rs (nextStateOf s (reached .place)) (reached .registers)
   pub raised : wiresOver sampled rs (stateMade g s k .wires) ≡ reached .over
 

@@ -9,7 +9,7 @@ use mathlib.Core.List.{List}
 use Rattle.runs.specs.Lists.{mem}
 use Rattle.runs.specs.Runs.{Place, standing, halted, Contents, Configuration, standsAt, startAt, Supply, unread, Moved, Runner, arrivalsAt, contentsAfter, moved, goes, step, times, stepsRun}
 use Rattle.runs.proofs.RunLaws.{never-both, false-true, place-of, arrivals-of, going-stands, going-lasts, goes-standing, halted-ends}
-use Rattle.runs.proofs.RunLaws.{moved-to, step-going, step-ended, times-zero, times-suc, times-add, times-last, stepsRun-last, going-before, times-arrivals}
+use Rattle.runs.proofs.RunLaws.{moved-to, step-going, step-ended, times-zero, times-suc, times-add, times-last, stepsRun-zero, stepsRun-going, stepsRun-ended, stepsRun-last, going-before, times-arrivals}
 use Rattle.cfg.specs.Graph.{CFG, graphRunner}
 use Rattle.agreement.specs.Agreement.{graphAfter, Arrival, HaltBefore, AfterCycles}
 use Rattle.synthesis.proofs.TakenEdges.{followed}
@@ -163,3 +163,16 @@ module _ (u : ℕ → ℕ → List ℕ → Moved) (a b : ℕ → Bool) where
   times-level zero c d l = rw (times-zero left unread c, times-zero right unread d) l
   times-level (suc k) c d l =
       rw (times-suc left unread k c, times-suc right unread k d) (times-level k (step left unread c) (step right unread d) (step-level c d l))
+
+  pub steps-level : (k : ℕ) (c d : Configuration) → Level c d → stepsRun left unread k c ≡ stepsRun right unread k d
+  steps-level zero c d l = stepsRun-zero left unread c ∙ sym (stepsRun-zero right unread d)
+  steps-level (suc k) c d l = go (c .place) refl (steps-level k (step left unread c) (step right unread d) (step-level c d l))
+    where
+      go : (p : Place) → c .place ≡ p → stepsRun left unread k (step left unread c) ≡ stepsRun right unread k (step right unread d)
+          → stepsRun left unread (suc k) c ≡ stepsRun right unread (suc k) d
+      go halted e i =
+          stepsRun-ended left unread (suc k) c (halted-ends unread c e) ∙ sym (stepsRun-ended right unread (suc k) d (halted-ends unread d (sym (l .place) ∙ e)))
+      go (standing n) e i =
+          stepsRun-going left unread k c (goes-standing unread c n e refl)
+          ∙ ap suc i
+          ∙ sym (stepsRun-going right unread k d (goes-standing unread d n (sym (l .place) ∙ e) refl))

@@ -15,16 +15,16 @@ use Rattle.runs.specs.Runs.{Place, standing, halted, Configuration, startAt, Su
 use Rattle.runs.specs.declared.RunAnswer.{RunAnswer}
 use Rattle.runs.proofs.RunLaws.{never-both, place-of, registers-of, flag-of, arrivals-of, halted-ends, dry-lasts}
 use Rattle.runs.proofs.RunLaws.{stepsRun-le, going-before, at-count, left-ended, arrivals-run}
-use Rattle.runs.proofs.RunLaws.{Reached, reached-after, answer-is, reached-spent, reached-halted, reached-dry, at-ended}
+use Rattle.runs.proofs.RunLaws.{Reached, reached-after, answer-is, reached-spent, reached-halted, reached-dry, at-ended, counted-ended}
 use Rattle.cfg.specs.Graph.{CFG, graphRunner}
 use Rattle.fsmd.specs.Layout.{maxRegisters}
-use Rattle.fsmd.specs.Machine.{machineRunner}
-use Rattle.runs.specs.Operations.{answered, registersLeft}
-use Rattle.runs.proofs.OperationLaws.{refused, accepted, accepted-left}
+use Rattle.fsmd.specs.Machine.{machineRunner, blocksRun}
+use Rattle.runs.specs.Operations.{answered, registersLeft, totalOf}
+use Rattle.runs.proofs.OperationLaws.{refused, accepted, accepted-left, accepted-total}
 use Rattle.grouping.specs.Grouping.{Groups}
 use Rattle.synthesis.specs.Synthesis.{machineFor}
 use Rattle.runs.specs.Operations.{nextAt}
-use Rattle.agreement.specs.Agreement.{graphAfter, machineAfter, stateIn, placeIn, inMachine, HaltingCycle, DryCycle, RunAgrees, SameEnd, RunsAlike, SameAnswer}
+use Rattle.agreement.specs.Agreement.{graphAfter, machineAfter, machineCounts, stateIn, placeIn, inMachine, HaltingCycle, DryCycle, RunAgrees, SameEnd, RunsAlike, SameAnswer}
 use Rattle.agreement.proofs.WholeRun.{standing-of, Here, Over, Both}
 
 -- ---- the fields of an outcome
@@ -69,7 +69,7 @@ outcome-dry halted left c f h = absurd (omega arith)
 
 -- ---- an operation that is refused for a short buffer alone, of a machine: n is the number of its refusal
 
-module _ (m : Runner) (each : (q : ℕ) → m .arrives q ≡ true) (ws : Supply) (q₀ : ℕ) (buffer : List ℕ) (k n : ℕ)
+module _ (m : Runner) (f : ℕ → ℕ → List ℕ → ℕ) (each : (q : ℕ) → m .arrives q ≡ true) (ws : Supply) (q₀ : ℕ) (buffer : List ℕ) (k n : ℕ)
     (short : length buffer < maxRegisters → n ≡ 7) (full : maxRegisters ≤ length buffer → n ≡ 0) where
   abbrev rs : List ℕ
   rs = take maxRegisters buffer
@@ -90,7 +90,7 @@ module _ (m : Runner) (each : (q : ℕ) → m .arrives q ≡ true) (ws : Supply)
   result = answered n m ws buffer q₀ k
 
   abbrev Agrees : Type 0
-  Agrees = RunAgrees m ws q₀ k buffer (registersLeft n m ws buffer q₀ k) result
+  Agrees = RunAgrees m f ws q₀ k buffer (registersLeft n m ws buffer q₀ k) result (totalOf f n m ws buffer q₀ k)
 
   run-outcome : maxRegisters ≤ length buffer → result ≡ outcome place (ltb count k) count flag
   run-outcome h = accepted m ws buffer q₀ k n (full h) ∙ answer-is m ws k c₀
@@ -143,6 +143,7 @@ module _ (m : Runner) (each : (q : ℕ) → m .arrives q ≡ true) (ws : Supply)
           dried = λ d.
               let p = outcome-dry place left count flag (sym (ap runOutcome e) ∙ d) in
               rw counted (drying (p .0 .0) (p .0 .1) (ltb-true count k (p .1)));
+          blocks = accepted-total f m ws buffer q₀ k n (full h);
         };
       }
 
@@ -173,6 +174,9 @@ module _ (g : CFG) (s : Groups) (ws : Supply) (b₀ : ℕ) (rs : List ℕ) (k : 
   abbrev machine : Runner
   machine = machineRunner (machineFor g s)
 
+  abbrev blocks : ℕ → ℕ → List ℕ → ℕ
+  blocks = blocksRun (machineFor g s)
+
   abbrev from : Configuration
   from = startAt b₀ rs
 
@@ -195,7 +199,7 @@ module _ (g : CFG) (s : Groups) (ws : Supply) (b₀ : ℕ) (rs : List ℕ) (k : 
   machine-outcome : runOutcome (answer machine ws k (startAt (stateIn s b₀) rs)) ≡ runOutcome (outcome (placeIn s (end .place)) (ltb cycles k) cycles (end .contents .flag))
   machine-outcome = ap runOutcome (answer-is machine ws k (startAt (stateIn s b₀) rs)) ∙ ap (λ (c : Configuration). runOutcome (outcome (c .place) (ltb cycles k) cycles (c .contents .flag))) (both .machine)
 
-  spent-alike : Here s k end → RunsAlike g s machine ws b₀ rs k
+  spent-alike : Here s k end → RunsAlike g s machine blocks ws b₀ rs k
   spent-alike h =
       let e : runOutcome (answer machine ws k (startAt (stateIn s b₀) rs)) ≡ 0 =
       machine-outcome ∙ rw (h .place, le-ltb cycles k (omega (arith, cycles-are (h .block) (h .place), h .counted))) in
@@ -205,43 +209,46 @@ module _ (g : CFG) (s : Groups) (ws : Supply) (b₀ : ℕ) (rs : List ℕ) (k : 
           outcome = ap runOutcome (reached-spent graph ws (both .steps) from (both .steps) end (frame (both .steps) (omega arith)) (h .block) (h .place) (omega arith)) ∙ sym e;
           same = both .machine;
           starter = λ b d. rw (standing-of (sym d ∙ h .place)) (h .starter);
+          counted = both .counted ∙ sym (both .run);
         };
         beyond = λ d. absurd (d e);
       }
 
   -- ended with the block budget n, and so with every larger one
   ended-alike : (o : Over s ws k end) (n : ℕ) (l : both .steps ≤ n)
-      → runOutcome (answer graph ws n from) ≡ runOutcome (outcome (placeIn s (end .place)) (ltb cycles k) cycles (end .contents .flag)) → SameEnd g s machine ws b₀ rs k n
+      → runOutcome (answer graph ws n from) ≡ runOutcome (outcome (placeIn s (end .place)) (ltb cycles k) cycles (end .contents .flag)) → SameEnd g s machine blocks ws b₀ rs k n
   ended-alike o n l e =
       let z : graphAfter g (s .starters) ws b₀ rs n ≡ end = at-ended graph ws n from (both .steps) end (frame n l) (o .ended) in
       record {
         outcome = e ∙ sym machine-outcome;
         same = both .machine ∙ ap (inMachine s) (sym z);
         starter = λ b d. rw (sym (place-of z) ∙ d) at (o .place);
+        counted = both .counted ∙ sym (counted-ended graph ws n from (both .steps) end (frame n l) (o .ended));
       }
 
-  over-alike : (p : Place) → end .place ≡ p → Over s ws k end → RunsAlike g s machine ws b₀ rs k
+  over-alike : (p : Place) → end .place ≡ p → Over s ws k end → RunsAlike g s machine blocks ws b₀ rs k
   over-alike halted h o =
-      let same : (n : ℕ) → both .steps ≤ n → SameEnd g s machine ws b₀ rs k n =
+      let same : (n : ℕ) → both .steps ≤ n → SameEnd g s machine blocks ws b₀ rs k n =
       λ n l. ended-alike o n l (ap runOutcome (reached-halted graph ws n from (both .steps) end (frame n l) (o .ended) h) ∙ rw h) in
       record { blocks = both .steps; at = same (both .steps) (omega arith); beyond = λ d. same }
   over-alike (standing b) h o =
-      let same : (n : ℕ) → suc (both .steps) ≤ n → SameEnd g s machine ws b₀ rs k n =
+      let same : (n : ℕ) → suc (both .steps) ≤ n → SameEnd g s machine blocks ws b₀ rs k n =
       λ n l. ended-alike o n (omega arith)
       (ap runOutcome (reached-dry graph ws n from (both .steps) end (frame n (omega arith)) (o .ended) b h l)
       ∙ rw (h, lt-ltb cycles k (omega (arith, cycles-are b h, o .counted)))) in
       record { blocks = suc (both .steps); at = same (suc (both .steps)) (omega arith); beyond = λ d. same }
 
-  pub runs-alike : RunsAlike g s machine ws b₀ rs k
+  pub runs-alike : RunsAlike g s machine blocks ws b₀ rs k
   runs-alike = go (both .met)
     where
-      go : Here s k end ⊎ Over s ws k end → RunsAlike g s machine ws b₀ rs k
+      go : Here s k end ⊎ Over s ws k end → RunsAlike g s machine blocks ws b₀ rs k
       go (inl h) = spent-alike h
       go (inr o) = over-alike (end .place) refl o
 
 -- ---- the answers of two runs that end alike
 
-module _ (g : CFG) (s : Groups) (m : Runner) (ws : Supply) (b₀ : ℕ) (rs : List ℕ) (k n : ℕ) (high : List ℕ) (e : SameEnd g s m ws b₀ rs k n) where
+module _ (g : CFG) (s : Groups) (m : Runner) (f : ℕ → ℕ → List ℕ → ℕ) (ws : Supply) (b₀ : ℕ) (rs : List ℕ) (k n : ℕ) (high : List ℕ)
+    (e : SameEnd g s m f ws b₀ rs k n) where
   abbrev left : RunAnswer
   left = answer (graphRunner g (s .starters)) ws n (startAt b₀ rs)
 
@@ -257,6 +264,9 @@ module _ (g : CFG) (s : Groups) (m : Runner) (ws : Supply) (b₀ : ℕ) (rs : Li
   answer-flag : (r : Runner) (k : ℕ) (c : Configuration) → runFlag (answer r ws k c) ≡ truth (times r ws k c .contents .flag)
   answer-flag r k c = ap runFlag (answer-is r ws k c) ∙ outcome-flag (times r ws k c .place) (ltb (stepsRun r ws k c) k) (stepsRun r ws k c) (times r ws k c .contents .flag)
 
+  answer-count : (r : Runner) (k : ℕ) (c : Configuration) → runCount (answer r ws k c) ≡ stepsRun r ws k c
+  answer-count r k c = ap runCount (answer-is r ws k c) ∙ outcome-count (times r ws k c .place) (ltb (stepsRun r ws k c) k) (stepsRun r ws k c) (times r ws k c .contents .flag)
+
   next-alike : (p : Place) → graphAfter g (s .starters) ws b₀ rs n .place ≡ p
       → (runOutcome right ≡ 1) ⊎ ((mem (runNext left) (s .starters) ≡ true) × (runNext right ≡ stateIn s (runNext left)))
   next-alike halted h =
@@ -270,7 +280,7 @@ module _ (g : CFG) (s : Groups) (m : Runner) (ws : Supply) (b₀ : ℕ) (rs : Li
         answer-next m k (startAt (stateIn s b₀) rs) ∙ ap nextAt (place-of (e .same) ∙ ap (placeIn s) h) ∙ ap (stateIn s) (sym l),
       )
 
-  pub ends-alike : SameAnswer s left right
+  pub ends-alike : SameAnswer s left right (machineCounts m f ws (stateIn s b₀) rs k)
       (registersAfter (graphRunner g (s .starters)) ws n (startAt b₀ rs) ++ high)
       (registersAfter m ws k (startAt (stateIn s b₀) rs) ++ high)
   unfolding registersAfter
@@ -281,4 +291,5 @@ module _ (g : CFG) (s : Groups) (m : Runner) (ws : Supply) (b₀ : ℕ) (rs : Li
         registers = ap (λ (q : List ℕ). q ++ high) (sym (registers-of (e .same)));
         flag = answer-flag (graphRunner g (s .starters)) n (startAt b₀ rs) ∙ ap truth (sym (flag-of (e .same))) ∙ sym (answer-flag m k (startAt (stateIn s b₀) rs));
         next = next-alike (graphAfter g (s .starters) ws b₀ rs n .place) refl;
+        blocks = e .counted ∙ sym (answer-count (graphRunner g (s .starters)) n (startAt b₀ rs));
       }

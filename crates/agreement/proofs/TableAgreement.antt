@@ -2,7 +2,7 @@
 -- synthesised from it. Assumes nothing.
 use Prim.Native.Nat.{ℕ, _≤_, _<_}
 use native.Mathlib.Omega.{arith}
-use mathlib.Core.Path.{_≡_, refl, sym, ap, _∙_, subst, fun-ext}
+use mathlib.Core.Path.{_≡_, refl, sym, ap, _∙_, subst₂, fun-ext}
 use mathlib.Core.Bool.{Bool, true, not}
 use mathlib.Core.List.{List, [], _++_}
 use lib.ListN.{length, getD, take, drop, length-append}
@@ -20,14 +20,14 @@ use Rattle.cfg.proofs.Running.{words-none-refused}
 use Rattle.cfg.specs.Table.{graphOf, admittedGraph}
 use Rattle.cfg.proofs.Admitted.{ValidGraph, valid-graph, admitted-halves, admitted-facts, blocks-length}
 use Rattle.fsmd.specs.Layout.{maxRegisters, machineWords}
-use Rattle.fsmd.specs.Machine.{State, FSMD, machineRunner, wordlessMachine}
-use Rattle.fsmd.specs.Run.{machineRefusal, machineWordsRefusal, machineWordsAnswer, machineWordsRegisters}
+use Rattle.fsmd.specs.Machine.{State, FSMD, machineRunner, blocksRun, wordlessMachine}
+use Rattle.fsmd.specs.Run.{machineRefusal, machineWordsRefusal, machineWordsAnswer, machineWordsRegisters, machineWordsBlocks}
 use Rattle.fsmd.proofs.Steps.{refuse-registers, refuse-none, words-refuse-registers, words-refuse-none}
-use Rattle.runs.proofs.OperationLaws.{accepted, accepted-left}
+use Rattle.runs.proofs.OperationLaws.{accepted, accepted-left, accepted-total}
 use Rattle.fsmd.specs.Table.{machineTableOf, machineOf, admittedMachine}
 use Rattle.fsmd.proofs.Machines.{states-length, registers-is, state-is, admitted-facts as machine-facts}
 use Rattle.fsmd.proofs.WrittenTable.{count-is, table-length}
-use Rattle.fsmd.proofs.ReadBack.{Fits, read-states, read-runner, read-admitted}
+use Rattle.fsmd.proofs.ReadBack.{Fits, read-states, read-runner, read-blocks, read-admitted}
 use Rattle.grouping.specs.Grouping.{Groups, groups}
 use Rattle.grouping.proofs.Reach.{reached-below, valid-closed, admitted-closed}
 use Rattle.grouping.proofs.GroupingLaws.{Grouped, grouped}
@@ -38,8 +38,8 @@ use Rattle.placement.proofs.StateOrder.{Arranged, arranged}
 use Rattle.synthesis.proofs.SynthesisedMachine.{states-count, machine-is, made-fits}
 use Rattle.synthesis.proofs.MadeTable.{made-words, made-admitted}
 use Rattle.synthesis.proofs.WireCodes.{wordless-machine}
-use Rattle.agreement.specs.Agreement.{stateIn, AgreeAfter, SameEnd, RunsAlike, Alike, OperationsAlike, LastsTo, AgreementFor, Agreement, AgreementWithoutWordsFor, AgreementWithoutWords}
-use Rattle.agreement.proofs.Arrivals.{times-level}
+use Rattle.agreement.specs.Agreement.{machineCounts, stateIn, AgreeAfter, SameEnd, RunsAlike, Alike, OperationsAlike, LastsTo, AgreementFor, Agreement, AgreementWithoutWordsFor, AgreementWithoutWords}
+use Rattle.agreement.proofs.Arrivals.{Level, times-level, steps-level}
 use Rattle.agreement.proofs.WholeRun.{after-cycles, agree-after}
 use Rattle.agreement.proofs.RunAnswers.{run-agrees, runs-alike, ends-alike}
 
@@ -61,6 +61,9 @@ module _ (t rest : List ℕ) (ok : admittedGraph t ≡ true) (s : Groups) (G : G
   abbrev m : Runner
   m = machineRunner (machineOf table)
 
+  abbrev f : ℕ → ℕ → List ℕ → ℕ
+  f = blocksRun (machineOf table)
+
   valid : ValidGraph g
   valid = valid-graph g (admitted-halves t ok .0)
 
@@ -77,16 +80,19 @@ module _ (t rest : List ℕ) (ok : admittedGraph t ≡ true) (s : Groups) (G : G
       let f = made-fits g valid s G in
       read-admitted (machineFor g s) rest (record { fits = fits; some-states = f .someState; some-registers = f .someRegister; valid = f .valid })
 
-  -- the table's machine runs as the grouping's
+  -- the table's machine runs and counts as the grouping's
   machine-same : machineRunner (machineFor g s) ≡ m
   machine-same = sym (read-runner (machineFor g s) rest fits)
+
+  blocks-same : blocksRun (machineFor g s) ≡ f
+  blocks-same = sym (read-blocks (machineFor g s) rest fits)
 
   long : machineWords ≤ length table
   long = omega (arith, table-length (machineFor g s), length-append (machineTableOf (machineFor g s)) rest)
 
-  runs-same : (ws : Supply) (b : ℕ) → mem b (s .starters) ≡ true → (rs : List ℕ) → length rs ≡ maxRegisters → (k : ℕ) → RunsAlike g s m ws b rs k
+  runs-same : (ws : Supply) (b : ℕ) → mem b (s .starters) ≡ true → (rs : List ℕ) → length rs ≡ maxRegisters → (k : ℕ) → RunsAlike g s m f ws b rs k
   runs-same ws b start rs size k =
-      subst (λ (x : Runner). RunsAlike g s x ws b rs k) machine-same (runs-alike g s ws b rs k (after-cycles g s (graph-fits g valid) blocks-arranged ws b rs start size k))
+      subst₂ (λ (x : Runner) (y : ℕ → ℕ → List ℕ → ℕ). RunsAlike g s x y ws b rs k) machine-same blocks-same (runs-alike g s ws b rs k (after-cycles g s (graph-fits g valid) blocks-arranged ws b rs start size k))
 
   -- a starter's state is one of the table's
   start-known : (b : ℕ) → mem b (s .starters) ≡ true → stateIn s b < getD table 0 0
@@ -141,9 +147,12 @@ module _ (t rest : List ℕ) (ok : admittedGraph t ≡ true) (s : Groups) (G : G
     machine-registers : machineWordsRegisters table buffer (stateIn s b₀) k words ≡ registersAfter m ws k (startAt (stateIn s b₀) rs) ++ drop maxRegisters buffer
     machine-registers = accepted-left m ws buffer (stateIn s b₀) k (machineWordsRefusal table buffer (stateIn s b₀)) machine-accepted
 
-    answers-alike : (n : ℕ) → SameEnd g s m ws b₀ rs k n → Alike t table s buffer words starters b₀ k n
+    machine-blocks : machineWordsBlocks table buffer (stateIn s b₀) k words ≡ machineCounts m f ws (stateIn s b₀) rs k
+    machine-blocks = accepted-total f m ws buffer (stateIn s b₀) k (machineWordsRefusal table buffer (stateIn s b₀)) machine-accepted
+
+    answers-alike : (n : ℕ) → SameEnd g s m f ws b₀ rs k n → Alike t table s buffer words starters b₀ k n
     answers-alike n e =
-        rw (graph-answer n, graph-registers n, machine-answer, machine-registers) (ends-alike g s m ws b₀ rs k n (drop maxRegisters buffer) e)
+        rw (graph-answer n, graph-registers n, machine-answer, machine-registers, machine-blocks) (ends-alike g s m f ws b₀ rs k n (drop maxRegisters buffer) e)
 
     operations-alike : OperationsAlike t table s buffer words starters b₀ k
     operations-alike =
@@ -160,16 +169,16 @@ module _ (t rest : List ℕ) (ok : admittedGraph t ≡ true) (s : Groups) (G : G
       let h = machine-facts table table-admitted in
       record {
         agree = λ ws b start rs size k lasts.
-            subst (λ (x : Runner). AgreeAfter g s x ws b rs k) machine-same (agree-after g s (graph-fits g valid) a ws b start rs size k lasts);
+            subst₂ (λ (x : Runner) (y : ℕ → ℕ → List ℕ → ℕ). AgreeAfter g s x y ws b rs k) machine-same blocks-same (agree-after g s (graph-fits g valid) a ws b start rs size k lasts);
         alike = runs-same;
         runs = λ words b start buffer k.
             let q = stateIn s b in
-            run-agrees m (λ q. refl) (listed words) q buffer k (machineWordsRefusal table buffer q)
+            run-agrees m f (λ q. refl) (listed words) q buffer k (machineWordsRefusal table buffer q)
             (words-refuse-registers table buffer q long)
             (λ full. words-refuse-none table buffer q long full table-admitted (start-known b start));
         wordlessRuns = λ w b start buffer k.
             let q = stateIn s b in
-            run-agrees m (λ q. refl) unread q buffer k (machineRefusal table buffer q)
+            run-agrees m f (λ q. refl) unread q buffer k (machineRefusal table buffer q)
             (refuse-registers table buffer q long)
             (λ full. refuse-none table buffer q long full table-admitted w (start-known b start));
         operations = operations-alike;
@@ -195,8 +204,9 @@ without-words-for s t table a = record {
   runs = λ h buffer k. rw (a .begins) at (a .wordlessRuns (a .silent h) 0 (a .entry) buffer k);
   unmarked = λ rs n.
       let g = graphOf t in
-      let l = times-level (graphRunner g [] .unit) (λ b. mem b []) (λ b. mem b (s .starters)) n (startAt 0 rs) (startAt 0 rs) (record { place = refl; contents = refl }) in
-      (l .place, l .contents);
+      let same : Level (startAt 0 rs) (startAt 0 rs) = record { place = refl; contents = refl } in
+      let l = times-level (graphRunner g [] .unit) (λ b. mem b []) (λ b. mem b (s .starters)) n (startAt 0 rs) (startAt 0 rs) same in
+      (l .place, l .contents, steps-level (graphRunner g [] .unit) (λ b. mem b []) (λ b. mem b (s .starters)) n (startAt 0 rs) (startAt 0 rs) same);
 }
 
 pub without-words : (t table : List ℕ) → Agreement t table → AgreementWithoutWords t table

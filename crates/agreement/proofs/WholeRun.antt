@@ -2,7 +2,7 @@
 use Prim.Native.Nat.{ℕ, zero, suc, _+_, _≤_, _<_}
 use native.Mathlib.Omega.{arith}
 use native.Mathlib.Decide.{decLt}
-use mathlib.Core.Path.{_≡_, refl, sym, ap, _∙_}
+use mathlib.Core.Path.{_≡_, refl, sym, ap, ap₂, _∙_}
 use mathlib.Core.Logic.{_⊎_, inl, inr}
 use mathlib.Core.Bool.{Bool, true, false}
 use mathlib.Core.List.{List}
@@ -12,9 +12,10 @@ use Rattle.runs.specs.Lists.{mem}
 use Rattle.runs.specs.Runs.{Place, standing, halted, Contents, Configuration, standsAt, startAt, Supply, Moved, onward, arrivalsAt, contentsAfter, moved, goes, step, times}
 use Rattle.runs.proofs.RunLaws.{never-both, false-true, place-of, contents-of, registers-of, arrivals-of, going-lasts, goes-standing, halted-ends, dry-ends}
 use Rattle.runs.proofs.RunLaws.{moved-to, step-going, step-ended, times-zero, times-add, times-last, stepsRun-zero, stepsRun-add}
+use Rattle.runs.proofs.TotalLaws.{counts as counts-at, total-zero, total-last, total-stays}
 use Rattle.cfg.specs.Graph.{CFG, graphRunner}
 use Rattle.fsmd.specs.Layout.{maxRegisters, absent}
-use Rattle.fsmd.specs.Machine.{State, FSMD, stateOf as stateAt, worked, wiresOver, toState, clock, machineRunner}
+use Rattle.fsmd.specs.Machine.{State, FSMD, stateOf as stateAt, worked, wiresOver, toState, clock, machineRunner, blocksRun}
 use Rattle.grouping.specs.Grouping.{Groups}
 use Rattle.placement.specs.Placement.{order, members}
 use Rattle.state.specs.Wires.{leaves, nextStateOf, stateMade}
@@ -24,7 +25,8 @@ use Rattle.placement.proofs.StateOrder.{Arranged}
 use Rattle.synthesis.proofs.SynthesisedMachine.{states-count, state-at, registers-are}
 use Rattle.synthesis.proofs.Readings.{Reads}
 use Rattle.synthesis.proofs.OneCycle.{StateReads, CycleAgrees, cycle-agrees, cycle-some, cycle-few}
-use Rattle.agreement.specs.Agreement.{graphAfter, AllRun, Arrival, HaltBefore, AfterCycles, machineAfter, stateIn, placeIn, inMachine, AgreeAfter, LastsTo}
+use Rattle.synthesis.proofs.BlocksCounted.{cycle-blocks}
+use Rattle.agreement.specs.Agreement.{graphAfter, AllRun, Arrival, HaltBefore, AfterCycles, machineAfter, machineCounts, stateIn, placeIn, inMachine, AgreeAfter, LastsTo}
 use Rattle.agreement.proofs.Arrivals.{arrival-or-halt, end-once, end-later, trace-comes, trace-run}
 
 -- ---- one cycle of the machine
@@ -98,6 +100,7 @@ module _ (g : CFG) (s : Groups) (ws : Supply) (b₀ : ℕ) (rs : List ℕ) where
     pub run : AllRun g (s .starters) ws b₀ rs steps
     pub size : length (graphAfter g (s .starters) ws b₀ rs steps .contents .registers) ≡ maxRegisters
     pub machine : machineAfter (machineRunner (machineFor g s)) ws (stateIn s b₀) rs k ≡ inMachine s (graphAfter g (s .starters) ws b₀ rs steps)
+    pub counted : machineCounts (machineRunner (machineFor g s)) (blocksRun (machineFor g s)) ws (stateIn s b₀) rs k ≡ steps
     pub met : Here s k (graphAfter g (s .starters) ws b₀ rs steps) ⊎ Over s ws k (graphAfter g (s .starters) ws b₀ rs steps)
 
 module _ (g : CFG) (s : Groups) (f : GraphFits g) (a : Arranged g s) (ws : Supply) (b₀ : ℕ) (rs : List ℕ) where
@@ -140,6 +143,18 @@ module _ (g : CFG) (s : Groups) (f : GraphFits g) (a : Arranged g s) (ws : Suppl
         (a .home (h .block) (h .starter)) (agrees .state) (agrees .raised))
         ∙ moved-in g s a (standsAt k (h .block) q) (agrees .reached) (agrees .leaving)
 
+    -- it counts the blocks that the graph runs in it
+    counts : machineCounts (machineRunner (machineFor g s)) (blocksRun (machineFor g s)) ws (stateIn s b₀) rs (suc k) ≡ r .steps + agrees .steps
+    counts =
+        let m = machineRunner (machineFor g s) in
+        let f = blocksRun (machineFor g s) in
+        let q₁ = stateIn s (h .block) in
+        let e : M k ≡ standsAt k q₁ q = r .machine ∙ ap (inMachine s) (here-is h) in
+        total-last m ws f k (startAt (stateIn s b₀) rs) q₁ (place-of e) (ap (λ (i : ℕ). ws .lasts i) (arrivals-of e) ∙ lasts)
+        ∙ ap₂ (λ (i j : ℕ). i + j) (r .counted)
+        (ap (λ (c : Configuration). counts-at m ws f c q₁) e
+        ∙ cycle-blocks g s a (ws .word k) (q .registers) (h .block) (h .starter) agrees)
+
     met-next : (p : Place) → agrees .reached .place ≡ p → Here s (suc k) reached ⊎ Over s ws (suc k) reached
     met-next (standing b) e =
         let m : mem b (s .starters) ≡ true = rw e at (agrees .leaving) in
@@ -155,6 +170,7 @@ module _ (g : CFG) (s : Groups) (f : GraphFits g) (a : Arranged g s) (ws : Suppl
             run = all-run;
             size = ap length (registers-of reached-at) ∙ reads-length (agrees .state) ∙ (let z = r .size in let n = f .fewRegisters in simp length-drop (omega arith));
             machine = cycled ∙ ap (inMachine s) (sym reached-at);
+            counted = counts;
             met = rw reached-at (met-next (agrees .reached .place) refl);
           },
           omega arith,
@@ -168,7 +184,16 @@ module _ (g : CFG) (s : Groups) (f : GraphFits g) (a : Arranged g s) (ws : Suppl
       times-last m ws k (startAt (stateIn s b₀) rs) ∙ ap (step m ws) (r .machine) ∙ step-ended m ws (inMachine s (G (r .steps))) (goes-in s ws (G (r .steps)) ∙ e)
 
   stay : (k : ℕ) (r : Both g s ws b₀ rs k) → Over s ws (suc k) (G (r .steps)) → Both g s ws b₀ rs (suc k)
-  stay k r o = record { steps = r .steps; run = r .run; size = r .size; machine = stays k r (o .ended); met = inr o }
+  stay k r o = record {
+    steps = r .steps;
+    run = r .run;
+    size = r .size;
+    machine = stays k r (o .ended);
+    counted = total-stays (machineRunner (machineFor g s)) ws (blocksRun (machineFor g s)) k (startAt (stateIn s b₀) rs)
+        (ap (goes ws) (r .machine) ∙ goes-in s ws (G (r .steps)) ∙ o .ended)
+        ∙ r .counted;
+    met = inr o;
+  }
 
   next-cycle : (k : ℕ) → Both g s ws b₀ rs k → Both g s ws b₀ rs (suc k)
   next-cycle k r = go (r .met)
@@ -194,6 +219,7 @@ module _ (g : CFG) (s : Groups) (f : GraphFits g) (a : Arranged g s) (ws : Suppl
         run = stepsRun-zero (graphRunner g (s .starters)) ws (startAt b₀ rs);
         size = ap length (registers-of z) ∙ size;
         machine = times-zero (machineRunner (machineFor g s)) ws (startAt (stateIn s b₀) rs) ∙ ap (inMachine s) (sym z);
+        counted = total-zero (machineRunner (machineFor g s)) ws (blocksRun (machineFor g s)) (startAt (stateIn s b₀) rs);
         met = inl (record { block = b₀; place = place-of z; starter = m; counted = arrivals-of z });
       }
   after-cycles m size (suc k) = next-cycle k (after-cycles m size k)
@@ -278,11 +304,12 @@ module _ (g : CFG) (s : Groups) (f : GraphFits g) (a : Arranged g s) (ws : Suppl
           go (yes d) = lasts j d
           go (no d) = let e : j ≡ k = omega arith in rw e w
 
-  pub agree-after : AgreeAfter g s (machineRunner (machineFor g s)) ws b₀ rs k
+  pub agree-after : AgreeAfter g s (machineRunner (machineFor g s)) (blocksRun (machineFor g s)) ws b₀ rs k
   agree-after = record {
     either = (both .steps, end-of-cycle);
     apart = arrival-or-halt g (s .starters) ws b₀ rs k;
     halts = λ q. (λ h. halted-graph q (h .0) (h .1), λ h. halted-machine (h .0) q (h .1));
     stands = λ b q m. (standing-graph b q m, λ h. machine-alike (h .0) (inl (b, q, h .1)) ∙ ap (inMachine s) (h .1 .stands));
+    counted = λ n e. both .counted ∙ end-once g (s .starters) ws b₀ rs k (both .steps) n end-of-cycle e;
     blocks = next-blocks;
   }

@@ -78,7 +78,7 @@ module _ (t rest : List ℕ) (ok : admittedGraph t ≡ true) (s : Groups) (G : G
   table-admitted : admittedMachine table ≡ true
   table-admitted =
       let f = made-fits g valid s G in
-      read-admitted (machineFor g s) rest (record { fits = fits; some-states = f .someState; some-registers = f .someRegister; valid = f .valid })
+      read-admitted (machineFor g s) rest (record { fits = fits; some-states = f .someState; some-registers = f .someRegister; valid = f .valid; blocks = λ b h. f .blocks b })
 
   -- the table's machine runs and counts as the grouping's
   machine-same : machineRunner (machineFor g s) ≡ m

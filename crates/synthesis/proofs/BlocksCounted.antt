@@ -10,21 +10,21 @@ use lib.ListN.{length, getD, List·getD-eq-default}
 use lib.Dec.{eqb}
 use borrow.Author.Tests.{eqb-true, eq-eqb}
 use Rattle.runs.specs.Lists.{upFrom, mem}
-use Rattle.runs.proofs.ListLaws.{getD-map-upFrom, length-only-map}
+use Rattle.runs.proofs.ListLaws.{length-only-map}
 use Rattle.runs.proofs.Sets.{In, Distinct}
-use Rattle.runs.proofs.MembershipLaws.{only-in, in-only, distinct-only, equally-many, upFrom-in, distinct-upFrom}
+use Rattle.runs.proofs.MembershipLaws.{only-in, in-only, distinct-only, map-in, equally-many, upFrom-in, distinct-upFrom}
 use Rattle.cfg.specs.Graph.{CFG}
 use Rattle.fsmd.specs.Layout.{maxBlocks, absent}
 use Rattle.fsmd.specs.Machine.{State, worked, blocksOf, nonzero, blocksRun}
 use Rattle.grouping.specs.Grouping.{Groups}
 use Rattle.placement.specs.Placement.{order}
 use Rattle.placement.proofs.StateOrder.{StateOrder, Arranged}
-use Rattle.state.specs.Wires.{nothing, arrivalsIn, arrivalIn, arrivalMade, stateMade}
+use Rattle.state.specs.Wires.{nothing, arrivalsIn, arrivalIn, stateMade}
 use Rattle.synthesis.specs.Synthesis.{machineFor}
 use Rattle.synthesis.proofs.Environments.{at}
 use Rattle.synthesis.proofs.Arrivals.{arrivals-map, made-arrival}
 use Rattle.synthesis.proofs.OneCycle.{CycleAgrees}
-use Rattle.synthesis.proofs.SynthesisedMachine.{state-at, block-states-are, arrivals-are}
+use Rattle.synthesis.proofs.SynthesisedMachine.{state-at, block-states-are, arrival-at}
 
 module _ (g : CFG) (s : Groups) (room : length (s .states) ≤ maxBlocks) (k y : ℕ) (some : k ≢ absent) (o : StateOrder g s k y) where
   -- a block of a state has a number
@@ -60,21 +60,16 @@ module _ (g : CFG) (s : Groups) (room : length (s .states) ≤ maxBlocks) (k y :
   abbrev placed : ℕ → ℕ
   placed x = arrivalIn g s x (order g s k) nothing
 
-  arrival-at : (x : ℕ) → getD (s .states) x absent ≡ k → listed x ≡ placed x
-  arrival-at x e =
-      ap (λ (l : List ℕ). getD l x 0) (arrivals-are g s)
-      ∙ getD-map-upFrom (arrivalMade g s) (length (s .states)) x 0 (numbered x e)
-      ∙ made-arrival g s k x e some
+  listed-placed : (x : ℕ) → getD (s .states) x absent ≡ k → listed x ≡ placed x
+  listed-placed x e = arrival-at g s x ∙ made-arrival g s k x e some
 
   blocks-counted : (E : List ℕ) → nonzero E (map listed blocks) ≡ nonzero E (arrivalsIn g s (order g s k) nothing)
   blocks-counted E =
       let t : ℕ → Bool = λ r. not (eqb (at E r) 0) in
       length-only-map t listed blocks
-      ∙ equally-many (λ b. t (listed b)) (λ x. t (placed x)) blocks (order g s k) distinct-blocks (o .distinct)
-      (λ x i h. let e = block-in x i in (o .all x e, ap t (sym (arrival-at x e)) ∙ h))
-      (λ x i h. let e = o .mine x i in (in-block x e, ap t (arrival-at x e) ∙ h))
-      ∙ sym (length-only-map t placed (order g s k))
-      ∙ ap (nonzero E) (sym (arrivals-map g s (order g s k) nothing (o .distinct)))
+      ∙ equally-many (λ x. t (listed x)) blocks (order g s k) distinct-blocks (o .distinct) (λ x i. o .all x (block-in x i)) (λ x i. in-block x (o .mine x i))
+      ∙ sym (length-only-map t listed (order g s k))
+      ∙ ap (nonzero E) (map-in listed placed (order g s k) (λ x i. listed-placed x (o .mine x i)) ∙ sym (arrivals-map g s (order g s k) nothing (o .distinct)))
 
 -- a cycle from a starter counts the blocks that the graph runs in it
 pub cycle-blocks : (g : CFG) (s : Groups) → Arranged g s → (sampled : ℕ) (rs : List ℕ) (b : ℕ) → mem b (s .starters) ≡ true

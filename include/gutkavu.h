@@ -28,8 +28,8 @@
  * the same. The flag is clear when a run starts and stays set once raised, so a host that runs a machine piece by piece
  * joins the flags itself.
  *
- * shl, shr and sar shift by the whole second operand, read as unsigned, as IEEE 1800 has it: from 32 up shl and shr give
- * 0, and sar gives 32 copies of the sign bit.
+ * shl, shr and sar shift by the whole second operand, read as unsigned, as IEEE 1800 has it: from 32 up shl and shr
+ * give 0, and sar gives 32 copies of the sign bit.
  */
 #ifndef GUTKAVU_H
 #define GUTKAVU_H
@@ -44,7 +44,7 @@ extern "C" {
 enum {
     GUTKAVU_TEXT_BYTES = 16384,    /* of a text, at most */
     GUTKAVU_GRAPH_WORDS = 2562,    /* of a graph table */
-    GUTKAVU_MACHINE_WORDS = 13698, /* of a machine table */
+    GUTKAVU_MACHINE_WORDS = 13762, /* of a machine table */
     GUTKAVU_REGISTER_WORDS = 16,   /* of a register buffer, at least */
     GUTKAVU_NONE = 255             /* no block, or no state */
 };
@@ -67,10 +67,17 @@ enum {
  * Synthesis makes a state with an ite touch every register, by the wires that choose between its ways; any other state
  * touches those that its blocks write.
  *
- * A table of the layout before has 13634 words and no touch words. It is refused as short (7), and in a longer buffer
- * it is no table of this layout; a host that converts it moves records and wires and writes the touch words. Where it
- * is also from before there was a flag its words c are 0, the reference of register 0: once converted it is admitted
- * and runs as it did, but its flag means nothing. */
+ * The state of a block is below N, or GUTKAVU_NONE where the block is absent. The arrival of a present block is the
+ * reference of a wire of its state, from 16 to 15 plus the state's wire count; that of an absent one is 0. Anything
+ * else is refused (10), in any of the 64 blocks. A cycle runs those blocks of its state whose arrival is nonzero.
+ * Several blocks may have the same reference, and each of them counts.
+ *
+ * A table of the layout before has 13698 words and no arrivals. It is refused as short (7), and in a longer buffer the
+ * words behind it are taken for arrivals. It does not say what they are, so a host synthesises the graph again. One
+ * that has no graph sets all block states to GUTKAVU_NONE and all arrivals to 0: the table is then admitted and runs as
+ * it did, but its blocks count as 0. Before that, a table had 13634 words and no touch words; to convert it, a host
+ * also moves records and wires and writes the touch words. Where it is from before there was a flag its words c are 0,
+ * the reference of register 0: once converted it is admitted and runs as it did, but its flag means nothing. */
 enum {
     GUTKAVU_STARTERS = 2,      /* the starter of each state */
     GUTKAVU_BLOCK_STATES = 66, /* the state of each block, GUTKAVU_NONE for an absent one */
@@ -79,7 +86,8 @@ enum {
     GUTKAVU_RECORD_WORDS = 20,
     GUTKAVU_TOUCH = 19,   /* the touch word of a record */
     GUTKAVU_WIRES = 1410, /* the wires of all states: code, a, b, c */
-    GUTKAVU_WIRE_WORDS = 4
+    GUTKAVU_WIRE_WORDS = 4,
+    GUTKAVU_ARRIVALS = 13698 /* the reference of each block's arrival, 0 for an absent block */
 };
 
 /* Reads a graph's text into a graph table. Refusals 1, 7, then 2 to 5 of the first faulty line, whose number is set in
@@ -101,11 +109,12 @@ uint32_t gutkavu_run_graph(const uint32_t *graph, size_t graph_len, uint32_t *re
                            uint32_t *flag);
 
 /* Runs a machine from a start state on, at most budget cycles. Refusals 7, 10, 12, 9. Sets halted to 1 or 0, the count
- * of cycles run, the halting one included, the next state, GUTKAVU_NONE where it halted, and the flag. Registers from R
- * up keep their words. */
+ * of cycles run, the halting one included, the next state, GUTKAVU_NONE where it halted, the flag, and the number of
+ * blocks run in all its cycles. From the state of a starter that is the number of blocks that the graph runs over the
+ * same arrivals. Registers from R up keep their words. */
 uint32_t gutkavu_run_machine(const uint32_t *machine, size_t machine_len, uint32_t *registers, size_t registers_len,
                              uint32_t start, uint32_t budget, uint32_t *halted, uint32_t *count, uint32_t *next,
-                             uint32_t *flag);
+                             uint32_t *flag, uint64_t *blocks);
 
 /* Runs a graph with words from a start block on, at most budget blocks. Refusals 7, 6, 9, 11. The starter list is a
  * set: order and repeats do not matter. Sets the outcome, the count of blocks run, the halting one included, the next
@@ -117,12 +126,12 @@ uint32_t gutkavu_run_graph_with_words(const uint32_t *graph, size_t graph_len, u
                                       uint32_t *outcome, uint32_t *count, uint32_t *next, uint32_t *flag);
 
 /* Runs a machine with words from a start state on, at most budget cycles. Refusals 7, 10, 9. Sets the outcome, the
- * count of cycles run, the halting one included, the next state, GUTKAVU_NONE where it halted, and the flag. Registers
- * from R up keep their words. */
+ * count of cycles run, the halting one included, the next state, GUTKAVU_NONE where it halted, the flag, and the blocks
+ * run, as above. Registers from R up keep their words. */
 uint32_t gutkavu_run_machine_with_words(const uint32_t *machine, size_t machine_len, uint32_t *registers,
                                         size_t registers_len, uint32_t start, uint32_t budget, const uint32_t *words,
                                         size_t words_len, uint32_t *outcome, uint32_t *count, uint32_t *next,
-                                        uint32_t *flag);
+                                        uint32_t *flag, uint64_t *blocks);
 
 /* Asks whether a state of a machine may change a register. Refusals 7, 10, 9. Sets touched to 1 where bit reg of the
  * state's touch word is set, else to 0. Any reg may be asked about; one not below R is never touched. */

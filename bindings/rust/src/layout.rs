@@ -27,13 +27,14 @@ pub mod graph {
     pub const ENDING: usize = 33;
 }
 
-/// The machine table: numbers of states and registers, starters, block states, records, wires.
+/// The machine table: numbers of states and registers, starters, block states, records, wires,
+/// arrivals.
 pub mod machine {
     pub const STATES: usize = 0;
     pub const REGISTERS: usize = 1;
     /// The starter of each state.
     pub const STARTERS: usize = 2;
-    /// The state of each block.
+    /// The state of each block: below N, or 255 for an absent block; another is refused with 10.
     pub const BLOCK_STATES: usize = STARTERS + super::MOST_STATES;
     /// A record for each state.
     pub const RECORDS: usize = BLOCK_STATES + super::MOST_BLOCKS;
@@ -45,6 +46,10 @@ pub mod machine {
     /// value is nonzero. Bounds do not depend on it. Tables from before there was a flag have 0
     /// there, which is register 0.
     pub const WIRE_WORDS: usize = 4;
+    /// The reference of each block's arrival, which is nonzero in the cycles that run the block. It
+    /// is that of a wire of the block's state, or 0 for an absent block; another is refused with
+    /// 10. Several blocks may have the same.
+    pub const ARRIVALS: usize = WIRES + super::MOST_WIRES * WIRE_WORDS;
 
     // Within a record.
 
@@ -66,5 +71,5 @@ const _: () = {
     assert!(graph::FIRST_BLOCK + MOST_BLOCKS * graph::BLOCK_WORDS == GRAPH_WORDS);
     assert!(machine::NEXT_REGISTERS + REGISTER_WORDS == machine::TOUCH);
     assert!(machine::TOUCH + 1 == machine::RECORD_WORDS);
-    assert!(machine::WIRES + MOST_WIRES * machine::WIRE_WORDS == MACHINE_WORDS);
+    assert!(machine::ARRIVALS + MOST_BLOCKS == MACHINE_WORDS);
 };

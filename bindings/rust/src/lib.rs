@@ -117,14 +117,14 @@ pub use bounds::Bounds;
 pub use graph::Graph;
 pub use machine::Machine;
 pub use refusal::{ReadRefusal, Refusal};
-pub use run::{Outcome, Run, RunWithWords};
+pub use run::{MachineRun, MachineRunWithWords, Outcome, Run, RunWithWords};
 
 /// Bytes of a text, at most.
 pub const TEXT_BYTES: usize = 16_384;
 /// Words of a graph table.
 pub const GRAPH_WORDS: usize = 2_562;
 /// Words of a machine table.
-pub const MACHINE_WORDS: usize = 13_698;
+pub const MACHINE_WORDS: usize = 13_762;
 /// Words of a register buffer, at least.
 pub const REGISTER_WORDS: usize = 16;
 /// No block, or no state.

@@ -1,7 +1,7 @@
 //! A machine, held as its table.
 
 use crate::layout::{machine::*, MOST_BLOCKS, MOST_STATES};
-use crate::{operations, Bounds, Refusal, Run, RunWithWords, MACHINE_WORDS, NONE};
+use crate::{operations, Bounds, MachineRun, MachineRunWithWords, Refusal, MACHINE_WORDS, NONE};
 use std::fmt;
 
 /// A state machine. One made by synthesis runs from each of its states; one made of other words may
@@ -25,8 +25,13 @@ impl Machine {
 
     /// Runs at most `budget` cycles from a start state. Refusals 10, 12, 9. Registers from R up
     /// keep their words.
-    pub fn run(&self, registers: &mut [u32; 16], start: u32, budget: u32) -> Result<Run, Refusal> {
-        Run::answer(operations::run_machine(&self.words[..], registers, start, budget))
+    pub fn run(
+        &self,
+        registers: &mut [u32; 16],
+        start: u32,
+        budget: u32,
+    ) -> Result<MachineRun, Refusal> {
+        MachineRun::answer(operations::run_machine(&self.words[..], registers, start, budget))
     }
 
     /// As `run`, with a list of words for `in`: cycle k, from 0, uses word k. Refusals 10, 9.
@@ -36,10 +41,10 @@ impl Machine {
         start: u32,
         budget: u32,
         words: &[u32],
-    ) -> Result<RunWithWords, Refusal> {
+    ) -> Result<MachineRunWithWords, Refusal> {
         let table = &self.words[..];
         let fields = operations::run_machine_with_words(table, registers, start, budget, words);
-        RunWithWords::answer(fields)
+        MachineRunWithWords::answer(fields)
     }
 
     /// Whether a state may change a register: whether the register's next reference in that state

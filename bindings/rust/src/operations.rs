@@ -35,6 +35,28 @@ pub struct RunWithWordsFields {
     pub flag: u32,
 }
 
+/// As [`RunFields`], with the number of blocks run in all cycles.
+#[derive(Clone, Copy, Debug, PartialEq, Eq)]
+pub struct MachineRunFields {
+    pub number: u32,
+    pub halted: u32,
+    pub count: u32,
+    pub next: u32,
+    pub flag: u32,
+    pub blocks: u64,
+}
+
+/// As [`RunWithWordsFields`], with the number of blocks run in all cycles.
+#[derive(Clone, Copy, Debug, PartialEq, Eq)]
+pub struct MachineRunWithWordsFields {
+    pub number: u32,
+    pub outcome: u32,
+    pub count: u32,
+    pub next: u32,
+    pub flag: u32,
+    pub blocks: u64,
+}
+
 /// `touched` is 1 where the state may change the register, else 0.
 #[derive(Clone, Copy, Debug, PartialEq, Eq)]
 pub struct TouchesFields {
@@ -63,6 +85,7 @@ pub struct CaptureFields {
 
 /// What a field holds before a call, so that one that is not set would show.
 const UNSET: u32 = 0xA5A5_A5A5;
+const UNSET_LONG: u64 = 0xA5A5_A5A5_A5A5_A5A5;
 
 /// Reads a graph's text into a graph table.
 pub fn read(text: &[u8], table: &mut [u32]) -> ReadFields {
@@ -92,13 +115,14 @@ pub fn synthesise(graph: &[u32], machine: &mut [u32]) -> u32 {
     }
 }
 
-fn run(call: raw::Run, table: &[u32], registers: &mut [u32], start: u32, budget: u32) -> RunFields {
+/// Runs a graph from a start block, at most `budget` blocks.
+pub fn run_graph(graph: &[u32], registers: &mut [u32], start: u32, budget: u32) -> RunFields {
     let (mut halted, mut count, mut next, mut flag) = (UNSET, UNSET, UNSET, UNSET);
     // SAFETY: as in `read`.
     let number = unsafe {
-        call(
-            table.as_ptr(),
-            table.len(),
+        raw::gutkavu_run_graph(
+            graph.as_ptr(),
+            graph.len(),
             registers.as_mut_ptr(),
             registers.len(),
             start,
@@ -112,14 +136,32 @@ fn run(call: raw::Run, table: &[u32], registers: &mut [u32], start: u32, budget:
     RunFields { number, halted, count, next, flag }
 }
 
-/// Runs a graph from a start block, at most `budget` blocks.
-pub fn run_graph(graph: &[u32], registers: &mut [u32], start: u32, budget: u32) -> RunFields {
-    run(raw::gutkavu_run_graph, graph, registers, start, budget)
-}
-
 /// Runs a machine from a start state, at most `budget` cycles.
-pub fn run_machine(machine: &[u32], registers: &mut [u32], start: u32, budget: u32) -> RunFields {
-    run(raw::gutkavu_run_machine, machine, registers, start, budget)
+pub fn run_machine(
+    machine: &[u32],
+    registers: &mut [u32],
+    start: u32,
+    budget: u32,
+) -> MachineRunFields {
+    let (mut halted, mut count, mut next, mut flag) = (UNSET, UNSET, UNSET, UNSET);
+    let mut blocks = UNSET_LONG;
+    // SAFETY: as in `read`.
+    let number = unsafe {
+        raw::gutkavu_run_machine(
+            machine.as_ptr(),
+            machine.len(),
+            registers.as_mut_ptr(),
+            registers.len(),
+            start,
+            budget,
+            &mut halted,
+            &mut count,
+            &mut next,
+            &mut flag,
+            &mut blocks,
+        )
+    };
+    MachineRunFields { number, halted, count, next, flag, blocks }
 }
 
 /// Runs a graph from a start block, at most `budget` blocks, with a word for each arrival at a
@@ -162,8 +204,9 @@ pub fn run_machine_with_words(
     start: u32,
     budget: u32,
     words: &[u32],
-) -> RunWithWordsFields {
+) -> MachineRunWithWordsFields {
     let (mut outcome, mut count, mut next, mut flag) = (UNSET, UNSET, UNSET, UNSET);
+    let mut blocks = UNSET_LONG;
     // SAFETY: as in `read`.
     let number = unsafe {
         raw::gutkavu_run_machine_with_words(
@@ -179,9 +222,10 @@ pub fn run_machine_with_words(
             &mut count,
             &mut next,
             &mut flag,
+            &mut blocks,
         )
     };
-    RunWithWordsFields { number, outcome, count, next, flag }
+    MachineRunWithWordsFields { number, outcome, count, next, flag, blocks }
 }
 
 /// Asks whether a state of a machine may change a register, which may be any number.
@@ -223,7 +267,7 @@ pub fn bounds(machine: &[u32], lowest: &mut [u32], highest: &mut [u32], state: u
 /// Compares two recordings of one run, of `registers` registers each.
 pub fn compare_captures(registers: u32, first: &[u8], second: &[u8]) -> CaptureFields {
     let (mut recording, mut differs, mut cycle) = (UNSET, UNSET, UNSET);
-    let (mut line, mut shared) = (u64::from(UNSET), u64::from(UNSET));
+    let (mut line, mut shared) = (UNSET_LONG, UNSET_LONG);
     // SAFETY: as in `read`.
     let number = unsafe {
         raw::gutkavu_compare_captures(

@@ -1,19 +1,5 @@
 //! The functions of `include/gutkavu.h`, as C sees them.
 
-/// "Run graph" and "Run machine" take the same arguments.
-pub type Run = unsafe extern "C" fn(
-    *const u32,
-    usize,
-    *mut u32,
-    usize,
-    u32,
-    u32,
-    *mut u32,
-    *mut u32,
-    *mut u32,
-    *mut u32,
-) -> u32;
-
 extern "C" {
     pub fn gutkavu_read(
         text: *const u8,
@@ -58,6 +44,7 @@ extern "C" {
         count: *mut u32,
         next: *mut u32,
         flag: *mut u32,
+        blocks: *mut u64,
     ) -> u32;
     pub fn gutkavu_run_graph_with_words(
         graph: *const u32,
@@ -88,6 +75,7 @@ extern "C" {
         count: *mut u32,
         next: *mut u32,
         flag: *mut u32,
+        blocks: *mut u64,
     ) -> u32;
     pub fn gutkavu_touches(
         machine: *const u32,

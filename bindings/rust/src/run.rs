@@ -1,6 +1,8 @@
 //! What a run of a graph or a machine answers.
 
-use crate::operations::{RunFields, RunWithWordsFields};
+use crate::operations::{
+    MachineRunFields, MachineRunWithWordsFields, RunFields, RunWithWordsFields,
+};
 use crate::Refusal;
 
 /// A run that was not refused: it halted, or its budget is spent.
@@ -24,6 +26,31 @@ impl Run {
         let halted = fields.halted == 1;
         let next = (!halted).then_some(fields.next);
         Ok(Run { halted, count: fields.count, next, flag: fields.flag == 1 })
+    }
+}
+
+/// A run of a machine that was not refused: as [`Run`], and how many blocks it ran.
+#[derive(Clone, Copy, Debug, PartialEq, Eq, Hash)]
+pub struct MachineRun {
+    /// Whether a halt came.
+    pub halted: bool,
+    /// Cycles run, the halting one included.
+    pub count: u32,
+    /// The state it then stands in; none where it halted.
+    pub next: Option<u32>,
+    /// As in [`Run`]: whether an add or sub went over in a block that the run passed.
+    pub flag: bool,
+    /// Blocks run in all those cycles. From the state of a starter these are exactly the blocks that
+    /// the graph runs over the same arrivals.
+    pub blocks: u64,
+}
+
+impl MachineRun {
+    pub(crate) fn answer(fields: MachineRunFields) -> Result<MachineRun, Refusal> {
+        let MachineRunFields { number, halted, count, next, flag, blocks } = fields;
+        let run = Run::answer(RunFields { number, halted, count, next, flag })?;
+        let Run { halted, count, next, flag } = run;
+        Ok(MachineRun { halted, count, next, flag, blocks })
     }
 }
 
@@ -61,5 +88,31 @@ impl RunWithWords {
         };
         let next = (outcome != Outcome::Halted).then_some(fields.next);
         Ok(RunWithWords { outcome, count: fields.count, next, flag: fields.flag == 1 })
+    }
+}
+
+/// A run of a machine with words that was not refused: as [`RunWithWords`], and how many blocks it
+/// ran.
+#[derive(Clone, Copy, Debug, PartialEq, Eq, Hash)]
+pub struct MachineRunWithWords {
+    pub outcome: Outcome,
+    /// Cycles run, the halting one included.
+    pub count: u32,
+    /// The state it then stands in; none where it halted.
+    pub next: Option<u32>,
+    /// As in [`Run`]: whether an add or sub went over in a block that the run passed.
+    pub flag: bool,
+    /// As in [`MachineRun`]: the blocks run in all those cycles.
+    pub blocks: u64,
+}
+
+impl MachineRunWithWords {
+    pub(crate) fn answer(
+        fields: MachineRunWithWordsFields,
+    ) -> Result<MachineRunWithWords, Refusal> {
+        let MachineRunWithWordsFields { number, outcome, count, next, flag, blocks } = fields;
+        let run = RunWithWords::answer(RunWithWordsFields { number, outcome, count, next, flag })?;
+        let RunWithWords { outcome, count, next, flag } = run;
+        Ok(MachineRunWithWords { outcome, count, next, flag, blocks })
     }
 }

@@ -110,8 +110,8 @@ uint32_t gutkavu_run_graph(const uint32_t *graph, size_t graph_len, uint32_t *re
 
 /* Runs a machine from a start state on, at most budget cycles. Refusals 7, 10, 12, 9. Sets halted to 1 or 0, the count
  * of cycles run, the halting one included, the next state, GUTKAVU_NONE where it halted, the flag, and the number of
- * blocks run in all its cycles. From the state of a starter that is the number of blocks that the graph runs over the
- * same arrivals. Registers from R up keep their words. */
+ * blocks run in all those cycles. On a table as synthesised these are exactly the blocks that the graph runs from the
+ * starter of the start state over the same arrivals. Registers from R up keep their words. */
 uint32_t gutkavu_run_machine(const uint32_t *machine, size_t machine_len, uint32_t *registers, size_t registers_len,
                              uint32_t start, uint32_t budget, uint32_t *halted, uint32_t *count, uint32_t *next,
                              uint32_t *flag, uint64_t *blocks);

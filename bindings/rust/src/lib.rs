@@ -4,7 +4,7 @@
 //! register words.
 //!
 //! ```
-//! use gutkavu::{Graph, Run};
+//! use gutkavu::{Graph, MachineRun};
 //!
 //! let text = "graph,1,2\nblock,0\nadd,0,0,1\nhalt\n";
 //! let graph = Graph::read(text.as_bytes())?;
@@ -14,7 +14,7 @@
 //! let mut registers = [0; 16];
 //! (registers[0], registers[1]) = (12, 30);
 //! let run = machine.run(&mut registers, 0, 1_000)?;
-//! assert_eq!(run, Run { halted: true, count: 1, next: None, flag: false });
+//! assert_eq!(run, MachineRun { halted: true, count: 1, next: None, flag: false, blocks: 1 });
 //! assert_eq!(registers[0], 42);
 //! # Ok::<(), Box<dyn std::error::Error>>(())
 //! ```
@@ -40,7 +40,7 @@
 //! starter. Without a word for an arrival the run is dry.
 //!
 //! ```
-//! use gutkavu::{Graph, Outcome, RunWithWords};
+//! use gutkavu::{Graph, Outcome};
 //!
 //! let text = "graph,1,2\nblock,0\nin,1\nadd,0,0,1\ngoto,0\n";
 //! let graph = Graph::read(text.as_bytes())?;
@@ -48,11 +48,30 @@
 //!
 //! let (mut registers, mut others) = ([0; 16], [0; 16]);
 //! let run = machine.run_with_words(&mut registers, 0, 1_000, &[12, 30])?;
-//! let dry = RunWithWords { outcome: Outcome::Dry, count: 2, next: Some(0), flag: false };
-//! assert_eq!(run, dry);
+//! assert_eq!((run.outcome, run.count, run.next), (Outcome::Dry, 2, Some(0)));
 //! let run = graph.run_with_words(&mut others, 0, 1_000, &[12, 30], machine.starters())?;
-//! assert_eq!(run, dry);
+//! assert_eq!((run.outcome, run.count, run.next), (Outcome::Dry, 2, Some(0)));
 //! assert_eq!((registers[0], registers), (42, others));
+//! # Ok::<(), Box<dyn std::error::Error>>(())
+//! ```
+//!
+//! A cycle of a machine runs one block of its state or several. A run answers how many it ran in
+//! all its cycles: as many as the graph runs over the same arrivals.
+//!
+//! ```
+//! use gutkavu::Graph;
+//!
+//! let text = "graph,3,2\nblock,0\ngoto,1\nblock,1\nin,1\nite,eq,0,1,2,1\nblock,2\ngoto,1\n";
+//! let graph: Graph = text.parse()?;
+//! let machine = graph.synthesise();
+//! assert_eq!(machine.blocks(1).collect::<Vec<_>>(), [1, 2]);
+//!
+//! // Block 2 runs where the word is r0, in the second and in the last cycle.
+//! let words = [9, 0, 9, 0];
+//! let cycles = machine.run_with_words(&mut [0; 16], 0, 4, &words)?;
+//! assert_eq!((cycles.count, cycles.blocks), (4, 6));
+//! let blocks = graph.run_with_words(&mut [0; 16], 0, 1_000, &words, machine.starters())?;
+//! assert_eq!(blocks.count, 6);
 //! # Ok::<(), Box<dyn std::error::Error>>(())
 //! ```
 //!

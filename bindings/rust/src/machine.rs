@@ -15,7 +15,7 @@ pub struct Machine {
 
 impl Machine {
     /// A machine of any words, which a run or a question may refuse; words past the table are not
-    /// taken. Refusal 7, also for the 13,634 words of the layout before touch words.
+    /// taken. Refusal 7, also for the 13,698 words of the layout before arrivals.
     pub fn from_words(words: &[u32]) -> Result<Machine, Refusal> {
         let taken = words.get(..MACHINE_WORDS).ok_or(Refusal::TableShort)?;
         let mut table = Box::new([0; MACHINE_WORDS]);
@@ -25,6 +25,33 @@ impl Machine {
 
     /// Runs at most `budget` cycles from a start state. Refusals 10, 12, 9. Registers from R up
     /// keep their words.
+    ///
+    /// The answer also has the number of blocks run. On a machine made by synthesis these are
+    /// exactly the blocks that the graph runs from the starter of the start state over the same
+    /// arrivals.
+    ///
+    /// ```
+    /// use gutkavu::Graph;
+    ///
+    /// let text = "graph,2,2\nblock,0\nsub,0,0,1\nite,ge,0,1,0,1\nblock,1\nhalt\n";
+    /// let graph: Graph = text.parse()?;
+    /// let machine = graph.synthesise();
+    /// let mut start = [0; 16];
+    /// (start[0], start[1]) = (7, 2);
+    /// let by_graph = graph.run(&mut start.clone(), 0, 1_000)?;
+    /// let by_machine = machine.run(&mut start.clone(), 0, 1_000)?;
+    /// assert_eq!((by_graph.count, by_machine.count, by_machine.blocks), (4, 3, 4));
+    ///
+    /// // Cycle by cycle: block 0, block 0, blocks 0 and 1.
+    /// let (mut registers, mut state, mut blocks) = (start, Some(0), Vec::new());
+    /// while let Some(start) = state {
+    ///     let cycle = machine.run(&mut registers, start, 1)?;
+    ///     blocks.push(cycle.blocks);
+    ///     state = cycle.next;
+    /// }
+    /// assert_eq!(blocks, [1, 1, 2]);
+    /// # Ok::<(), Box<dyn std::error::Error>>(())
+    /// ```
     pub fn run(
         &self,
         registers: &mut [u32; 16],
@@ -103,6 +130,12 @@ impl Machine {
     pub fn state_of(&self, block: u32) -> Option<u32> {
         let index = usize::try_from(block).ok().filter(|&index| index < MOST_BLOCKS)?;
         Some(self.words[BLOCK_STATES + index]).filter(|&state| self.index(state).is_some())
+    }
+
+    /// The reference of a block's arrival, which is nonzero in the cycles that run the block; none
+    /// for a block that is unreachable or not there.
+    pub fn arrival_of(&self, block: u32) -> Option<u32> {
+        self.state_of(block).map(|_| self.words[ARRIVALS + block as usize])
     }
 
     /// The blocks of a state, in rising order.

@@ -40,8 +40,8 @@ pub struct MachineRun {
     pub next: Option<u32>,
     /// As in [`Run`]: whether an add or sub went over in a block that the run passed.
     pub flag: bool,
-    /// Blocks run in all those cycles. From the state of a starter these are exactly the blocks that
-    /// the graph runs over the same arrivals.
+    /// Blocks run in all those cycles. On a machine made by synthesis these are exactly the blocks
+    /// that the graph runs from the starter of the start state over the same arrivals.
     pub blocks: u64,
 }
 

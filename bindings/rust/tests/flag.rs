@@ -2,7 +2,9 @@
 
 use gutkavu::layout::machine::{WIRES, WIRE_WORDS};
 use gutkavu::operations::{run_graph, run_graph_with_words, run_machine, run_machine_with_words};
-use gutkavu::operations::{RunFields, RunWithWordsFields};
+use gutkavu::operations::{
+    MachineRunFields, MachineRunWithWordsFields, RunFields, RunWithWordsFields,
+};
 use gutkavu::{Graph, Machine, Outcome, Refusal};
 use Outcome::{Dry, Halted, Spent};
 
@@ -177,12 +179,14 @@ fn refused_runs_set_it_to_0() {
     let graph = graph(SUM);
     let machine = graph.synthesise();
     let (graph, machine, mut file) = (graph.words(), machine.words(), [5; 16]);
-    let refused = |number| RunFields { number, halted: 0, count: 0, next: 0, flag: 0 };
-    assert_eq!(run_graph(graph, &mut file, 0, 9), refused(12));
-    assert_eq!(run_machine(machine, &mut file, 0, 9), refused(12));
-    let refused = |number| RunWithWordsFields { number, outcome: 0, count: 0, next: 0, flag: 0 };
-    assert_eq!(run_graph_with_words(graph, &mut file, 0, 9, &[1], &[]), refused(11));
-    assert_eq!(run_machine_with_words(machine, &mut file, 1, 9, &[1]), refused(9));
+    let refused = RunFields { number: 12, halted: 0, count: 0, next: 0, flag: 0 };
+    assert_eq!(run_graph(graph, &mut file, 0, 9), refused);
+    let run = run_machine(machine, &mut file, 0, 9);
+    assert_eq!((run.number, run.flag), (12, 0));
+    let refused = RunWithWordsFields { number: 11, outcome: 0, count: 0, next: 0, flag: 0 };
+    assert_eq!(run_graph_with_words(graph, &mut file, 0, 9, &[1], &[]), refused);
+    let run = run_machine_with_words(machine, &mut file, 1, 9, &[1]);
+    assert_eq!((run.number, run.flag), (9, 0));
 }
 
 /// In C's fields it is 1.
@@ -190,15 +194,19 @@ fn refused_runs_set_it_to_0() {
 fn a_raised_flag_is_1() {
     let graph = graph(SUM);
     let (machine, words) = (graph.synthesise(), [HIGHEST as u32, 1]);
-    let dry = |count| RunWithWordsFields { number: 0, outcome: 2, count, next: 0, flag: 1 };
+    let (number, outcome, next, flag) = (0, 2, 0, 1);
     let by_graph = run_graph_with_words(graph.words(), &mut [0; 16], 0, 9, &words, &[0]);
+    assert_eq!(by_graph, RunWithWordsFields { number, outcome, count: 4, next, flag });
     let by_machine = run_machine_with_words(machine.words(), &mut [0; 16], 0, 9, &words);
-    assert_eq!((by_graph, by_machine), (dry(4), dry(2)));
+    let dry = MachineRunWithWordsFields { number, outcome, count: 2, next, flag, blocks: 4 };
+    assert_eq!(by_machine, dry);
     let graph: Graph = "graph,1,1\nblock,0\nadd,0,0,0\nhalt\n".parse().expect("a graph");
     let (machine, start) = (graph.synthesise(), registers(&[LOWEST]));
-    let halted = RunFields { number: 0, halted: 1, count: 1, next: 255, flag: 1 };
-    assert_eq!(run_graph(graph.words(), &mut start.clone(), 0, 9), halted);
-    assert_eq!(run_machine(machine.words(), &mut start.clone(), 0, 9), halted);
+    let (halted, count, next) = (1, 1, 255);
+    let by_graph = run_graph(graph.words(), &mut start.clone(), 0, 9);
+    assert_eq!(by_graph, RunFields { number, halted, count, next, flag });
+    let by_machine = run_machine(machine.words(), &mut start.clone(), 0, 9);
+    assert_eq!(by_machine, MachineRunFields { number, halted, count, next, flag, blocks: 1 });
 }
 
 /// The two differences of state 1 are in blocks 3 and 4, which wires 5 and 6 arrive at.

@@ -2,7 +2,8 @@
 
 use gutkavu::layout::machine::{NEXT_REGISTERS, RECORDS, RECORD_WORDS, TOUCH};
 use gutkavu::operations::{first_touching, run_machine, run_machine_with_words, touches};
-use gutkavu::operations::{FirstTouchingFields, RunFields, RunWithWordsFields, TouchesFields};
+use gutkavu::operations::{FirstTouchingFields, TouchesFields};
+use gutkavu::operations::{MachineRunFields, MachineRunWithWordsFields};
 use gutkavu::{Graph, Machine, Refusal, MACHINE_WORDS, NONE};
 
 /// The touch word of each state, worked out by hand. A state without `ite` touches the registers
@@ -165,9 +166,9 @@ fn refusals_come_in_order_and_set_the_field_to_0() {
     assert_eq!(first_touching(table, 8), fields(0, NONE));
 }
 
-/// The layout before had 13,634 words.
+/// The layout before touch words had 13,634 words.
 #[test]
-fn a_table_of_the_layout_before_is_short() {
+fn a_table_without_touch_words_is_short() {
     let made = machine(TURN);
     let old = &made.words()[..13_634];
     assert_eq!(Machine::from_words(old), Err(Refusal::TableShort));
@@ -184,9 +185,10 @@ fn a_touch_word_with_one_wrong_bit_is_refused() {
         let word = made.words()[place(state, TOUCH)] ^ 1 << bit;
         let wrong = with(&made, state, TOUCH, word);
         let (table, mut file) = (&wrong.words()[..], [5; 16]);
-        let run = RunFields { number: 10, halted: 0, count: 0, next: 0, flag: 0 };
+        let run = MachineRunFields { number: 10, halted: 0, count: 0, next: 0, flag: 0, blocks: 0 };
         assert_eq!(run_machine(table, &mut file, 9, 1), run, "state {state}, bit {bit}");
-        let run = RunWithWordsFields { number: 10, outcome: 0, count: 0, next: 0, flag: 0 };
+        let (outcome, count, next, flag, blocks) = (0, 0, 0, 0, 0);
+        let run = MachineRunWithWordsFields { number: 10, outcome, count, next, flag, blocks };
         assert_eq!(run_machine_with_words(table, &mut file, 9, 1, &[1]), run);
         assert_eq!(file, [5; 16]);
         assert_eq!(touches(table, 9, bit), TouchesFields { number: 10, touched: 0 });

@@ -1,6 +1,6 @@
 //! Runs with words, R-1 of paper 02, by the safe types.
 
-use gutkavu::{Graph, Outcome, Refusal, RunWithWords};
+use gutkavu::{Graph, MachineRunWithWords, Outcome, Refusal, RunWithWords};
 use Outcome::{Dry, Halted, Spent};
 
 /// Adds up its words, and halts on a word of 0.
@@ -25,10 +25,16 @@ fn by_graph(text: &str, budget: u32, words: &[u32]) -> (Result<RunWithWords, Ref
     (answer, registers[0])
 }
 
+/// What a run of the machine answers, but for the blocks, and its first register.
 fn by_machine(text: &str, budget: u32, words: &[u32]) -> (Result<RunWithWords, Refusal>, u32) {
     let mut registers = [0; 16];
     let machine = graph(text).synthesise();
-    (machine.run_with_words(&mut registers, 0, budget, words), registers[0])
+    let answer = machine.run_with_words(&mut registers, 0, budget, words);
+    let without_blocks = |run| {
+        let MachineRunWithWords { outcome, count, next, flag, .. } = run;
+        RunWithWords { outcome, count, next, flag }
+    };
+    (answer.map(without_blocks), registers[0])
 }
 
 #[test]
@@ -127,11 +133,12 @@ fn graph_and_machine_agree_on_the_rate_of_turn() {
         let (mut registers, mut others) = ([7; 16], [7; 16]);
         let words = &words[..length];
         let answer = graph.run_with_words(&mut registers, 0, 1_000, words, machine.starters());
-        let next = u32::from(length > 0);
-        let ended = answer.map(|run| (run.outcome, run.next, run.flag));
-        assert_eq!(ended, Ok((Dry, Some(next), false)));
+        let next = Some(u32::from(length > 0));
+        let RunWithWords { outcome, count, next: block, flag } = answer.expect("a run");
+        assert_eq!((outcome, block, flag), (Dry, next, false));
         let answer = machine.run_with_words(&mut others, 0, 1_000, words);
-        assert_eq!(answer, run(Dry, length as u32, Some(next)));
-        assert_eq!(registers, others);
+        let (cycles, blocks) = (length as u32, count.into());
+        let dry = MachineRunWithWords { outcome: Dry, count: cycles, next, flag: false, blocks };
+        assert_eq!((answer, others), (Ok(dry), registers));
     }
 }

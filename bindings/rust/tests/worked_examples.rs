@@ -1,6 +1,6 @@
 //! The worked examples of the scope paper, by the safe types.
 
-use gutkavu::{Graph, Machine, Refusal, Run, NONE};
+use gutkavu::{Graph, Machine, MachineRun, Refusal, Run, NONE};
 
 const P7: &str = "graph,6,2\nblock,0\ngoto,1\nblock,1\nite,ne,0,1,2,5\nblock,2\n\
 ite,ltu,0,1,3,4\nblock,3\nsub,1,1,0\ngoto,1\nblock,4\nsub,0,0,1\ngoto,1\nblock,5\nhalt\n";
@@ -44,7 +44,7 @@ fn p8_runs_nine_blocks_in_four_cycles() {
     let run = graph.run(&mut by_graph, 0, 1_000);
     assert_eq!(run, Ok(Run { halted: true, count: 9, next: None, flag: false }));
     let run = graph.synthesise().run(&mut by_machine, 0, 1_000);
-    assert_eq!(run, Ok(Run { halted: true, count: 4, next: None, flag: false }));
+    assert_eq!(run, Ok(MachineRun { halted: true, count: 4, next: None, flag: false, blocks: 9 }));
     assert_eq!((by_graph, by_machine), (registers(&[6, 6]), registers(&[6, 6])));
 }
 
@@ -55,9 +55,12 @@ fn budgets_are_spent_before_the_halt() {
     let run = |count, next| Ok(Run { halted: false, count, next: Some(next), flag: false });
     assert_eq!(graph.run(&mut registers(&[12, 18]), 0, 0), run(0, 0));
     assert_eq!(graph.run(&mut registers(&[12, 18]), 0, 8), run(8, 5));
-    assert_eq!(machine.run(&mut registers(&[12, 18]), 0, 0), run(0, 0));
-    assert_eq!(machine.run(&mut registers(&[12, 18]), 0, 3), run(3, 1));
-    assert_eq!(machine.run(&mut registers(&[0, 5]), 0, 1_000), run(1_000, 1));
+    let run = |count, next, blocks| {
+        Ok(MachineRun { halted: false, count, next: Some(next), flag: false, blocks })
+    };
+    assert_eq!(machine.run(&mut registers(&[12, 18]), 0, 0), run(0, 0, 0));
+    assert_eq!(machine.run(&mut registers(&[12, 18]), 0, 3), run(3, 1, 7));
+    assert_eq!(machine.run(&mut registers(&[0, 5]), 0, 1_000), run(1_000, 1, 2_998));
 }
 
 #[test]

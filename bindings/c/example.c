@@ -1,7 +1,7 @@
-/* How a C program reads a graph, synthesises its machine, runs both, without words and with them, asks what a cycle can
- * do to registers known within bounds and which states touch a register, compares a recording of the machine with one
- * of the array, and learns that a sum went over: example SWING TURN ARRAY WRAP, the paths of examples/swing.txt,
- * examples/turn.txt, examples/turn-array.capture and examples/wrap.txt. */
+/* How a C program reads a graph, synthesises its machine, runs both, without words and with them, counts the blocks of
+ * each cycle, asks what a cycle can do to registers known within bounds and which states touch a register, compares a
+ * recording of the machine with one of the array, and learns that a sum went over: example SWING TURN ARRAY WRAP, the
+ * paths of examples/swing.txt, examples/turn.txt, examples/turn-array.capture and examples/wrap.txt. */
 #include "gutkavu.h"
 
 #include <inttypes.h>
@@ -85,18 +85,21 @@ struct halts {
     uint32_t blocks, cycles, flag;
 };
 
-/* Runs graph and machine until they halt; they leave the same registers and answer the same flag. */
+/* Runs graph and machine until they halt; they run the same number of blocks, leave the same registers and answer the
+ * same flag. */
 static struct halts run_both(uint32_t registers[GUTKAVU_REGISTER_WORDS])
 {
     uint32_t others[GUTKAVU_REGISTER_WORDS];
     uint32_t halted, halted_too, next, flag_too;
+    uint64_t blocks_too;
     struct halts both;
     memcpy(others, registers, sizeof others);
     made(gutkavu_run_graph(graph, GUTKAVU_GRAPH_WORDS, registers, GUTKAVU_REGISTER_WORDS, 0, BUDGET, &halted,
                            &both.blocks, &next, &both.flag));
     made(gutkavu_run_machine(machine, GUTKAVU_MACHINE_WORDS, others, GUTKAVU_REGISTER_WORDS, 0, BUDGET, &halted_too,
-                             &both.cycles, &next, &flag_too));
-    if (!halted || !halted_too || both.flag != flag_too || memcmp(registers, others, sizeof others) != 0)
+                             &both.cycles, &next, &flag_too, &blocks_too));
+    bool same = both.blocks == blocks_too && both.flag == flag_too && memcmp(registers, others, sizeof others) == 0;
+    if (!halted || !halted_too || !same)
         fail("graph and machine do not agree");
     return both;
 }
@@ -142,28 +145,45 @@ static void print_wrap(uint32_t limit)
     printf("blocks %" PRIu32 ", cycles %" PRIu32 "\n", both.blocks, both.cycles);
 }
 
-/* Runs graph and machine with a word of the gyro for each cycle. Both are dry when the words end, leave the same
- * registers and answer the same flag. */
+/* Runs graph and machine with a word of the gyro for each cycle. Both are dry when the words end, having run the same
+ * number of blocks, leave the same registers and answer the same flag. */
 static void print_turn(void)
 {
     uint32_t registers[GUTKAVU_REGISTER_WORDS], others[GUTKAVU_REGISTER_WORDS];
     uint32_t outcome, outcome_too, blocks, cycles, next, flag, flag_too;
+    uint64_t blocks_too;
     memcpy(registers, limits, sizeof registers);
     memcpy(others, limits, sizeof others);
     uint32_t number = gutkavu_run_machine(machine, GUTKAVU_MACHINE_WORDS, others, GUTKAVU_REGISTER_WORDS, 0, BUDGET,
-                                          &outcome, &cycles, &next, &flag);
+                                          &outcome, &cycles, &next, &flag, &blocks_too);
     printf("  without words: refused %" PRIu32 "\n", number);
     made(gutkavu_run_graph_with_words(graph, GUTKAVU_GRAPH_WORDS, registers, GUTKAVU_REGISTER_WORDS, 0, BUDGET, words,
                                       word_count, machine + GUTKAVU_STARTERS, machine[0], &outcome, &blocks, &next,
                                       &flag));
     made(gutkavu_run_machine_with_words(machine, GUTKAVU_MACHINE_WORDS, others, GUTKAVU_REGISTER_WORDS, 0, BUDGET,
-                                        words, word_count, &outcome_too, &cycles, &next, &flag_too));
+                                        words, word_count, &outcome_too, &cycles, &next, &flag_too, &blocks_too));
     bool dry = outcome == GUTKAVU_DRY && outcome_too == GUTKAVU_DRY;
-    if (!dry || flag != flag_too || memcmp(registers, others, sizeof registers) != 0)
+    bool same = blocks == blocks_too && flag == flag_too && memcmp(registers, others, sizeof registers) == 0;
+    if (!dry || !same)
         fail("graph and machine do not agree");
     printf("  %zu words: lowest %" PRId32 ", ", word_count, (int32_t)registers[1]);
     printf("highest %" PRId32 ", outside %" PRIu32 "; ", (int32_t)registers[2], registers[5]);
     printf("dry after blocks %" PRIu32 ", cycles %" PRIu32 "\n", blocks, cycles);
+}
+
+/* Runs the machine with words, a cycle a call; it does not halt. */
+static void print_blocks(void)
+{
+    uint32_t registers[GUTKAVU_REGISTER_WORDS], state = 0, outcome, count, flag;
+    uint64_t blocks;
+    memcpy(registers, limits, sizeof registers);
+    printf("  blocks in each cycle:");
+    for (size_t cycle = 0; cycle < word_count; cycle++) {
+        made(gutkavu_run_machine_with_words(machine, GUTKAVU_MACHINE_WORDS, registers, GUTKAVU_REGISTER_WORDS, state, 1,
+                                            words + cycle, 1, &outcome, &count, &state, &flag, &blocks));
+        printf(" %" PRIu64, blocks);
+    }
+    printf("\n");
 }
 
 /* The registers that each state touches, and the first state that touches each register; there is none for the register
@@ -204,6 +224,7 @@ static size_t replace(const char *text, const char *old, const char *new, char *
 static void record(char *out)
 {
     uint32_t registers[GUTKAVU_REGISTER_WORDS], state = 0, outcome = GUTKAVU_SPENT, count, flag;
+    uint64_t blocks;
     memcpy(registers, limits, sizeof registers);
     for (size_t cycle = 0; outcome == GUTKAVU_SPENT; cycle++) {
         out += sprintf(out, "%zu,%" PRIu32, cycle, state);
@@ -211,7 +232,8 @@ static void record(char *out)
             out += sprintf(out, ",%" PRIu32, registers[i]);
         out += sprintf(out, "\n");
         made(gutkavu_run_machine_with_words(machine, GUTKAVU_MACHINE_WORDS, registers, GUTKAVU_REGISTER_WORDS, state, 1,
-                                            words + cycle, word_count - cycle, &outcome, &count, &state, &flag));
+                                            words + cycle, word_count - cycle, &outcome, &count, &state, &flag,
+                                            &blocks));
     }
 }
 
@@ -276,6 +298,7 @@ int main(int count, char **arguments)
     compile(text, load(arguments[2], text));
     printf("rate of turn\n");
     print_turn();
+    print_blocks();
     printf("touched registers\n");
     print_touched();
     load(arguments[3], text);

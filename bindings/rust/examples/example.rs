@@ -1,8 +1,8 @@
 //! How a Rust program reads a graph, synthesises its machine, runs both, without words and with
-//! them, asks what a cycle can do to registers known within bounds and which states touch a
-//! register, compares a recording of the machine with one of the array, and learns that a sum went
-//! over: `example SWING TURN ARRAY WRAP`, the paths of examples/swing.txt, examples/turn.txt,
-//! examples/turn-array.capture and examples/wrap.txt.
+//! them, counts the blocks of each cycle, asks what a cycle can do to registers known within bounds
+//! and which states touch a register, compares a recording of the machine with one of the array,
+//! and learns that a sum went over: `example SWING TURN ARRAY WRAP`, the paths of
+//! examples/swing.txt, examples/turn.txt, examples/turn-array.capture and examples/wrap.txt.
 
 use gutkavu::captures::{self, Comparison, Line, Recording};
 use gutkavu::{Bounds, Graph, Machine, Outcome};
@@ -34,7 +34,8 @@ struct Halts {
     flag: bool,
 }
 
-/// Runs graph and machine until they halt; they leave the same registers and answer the same flag.
+/// Runs graph and machine until they halt; they run the same number of blocks, leave the same
+/// registers and answer the same flag.
 fn run_both(
     graph: &Graph,
     machine: &Machine,
@@ -44,7 +45,8 @@ fn run_both(
     let by_graph = graph.run(registers, 0, BUDGET)?;
     let by_machine = machine.run(&mut others, 0, BUDGET)?;
     let halted = by_graph.halted && by_machine.halted;
-    if !halted || by_graph.flag != by_machine.flag || *registers != others {
+    let left = (u64::from(by_graph.count), by_graph.flag, *registers);
+    if !halted || left != (by_machine.blocks, by_machine.flag, others) {
         return Err("graph and machine do not agree".into());
     }
     Ok(Halts { blocks: by_graph.count, cycles: by_machine.count, flag: by_graph.flag })
@@ -89,7 +91,7 @@ fn print_wrap(graph: &Graph, machine: &Machine, limit: u32) -> Result<(), Box<dy
 }
 
 /// Runs graph and machine with a word of the gyro for each cycle. Both are dry when the words end,
-/// leave the same registers and answer the same flag.
+/// having run the same number of blocks, leave the same registers and answer the same flag.
 fn print_turn(graph: &Graph, machine: &Machine) -> Result<(), Box<dyn Error>> {
     let (mut registers, mut others) = (LIMITS, LIMITS);
     if let Err(refused) = machine.run(&mut others, 0, BUDGET) {
@@ -99,12 +101,27 @@ fn print_turn(graph: &Graph, machine: &Machine) -> Result<(), Box<dyn Error>> {
     let by_graph = graph.run_with_words(&mut registers, 0, BUDGET, &WORDS, starters)?;
     let by_machine = machine.run_with_words(&mut others, 0, BUDGET, &WORDS)?;
     let dry = [by_graph.outcome, by_machine.outcome] == [Outcome::Dry; 2];
-    if !dry || by_graph.flag != by_machine.flag || registers != others {
+    let left = (u64::from(by_graph.count), by_graph.flag, registers);
+    if !dry || left != (by_machine.blocks, by_machine.flag, others) {
         return Err("graph and machine do not agree".into());
     }
     let (lowest, highest, outside) = (registers[1] as i32, registers[2] as i32, registers[5]);
     print!("  {} words: lowest {lowest}, highest {highest}, outside {outside}; ", WORDS.len());
     println!("dry after blocks {}, cycles {}", by_graph.count, by_machine.count);
+    Ok(())
+}
+
+/// Runs the machine with words, a cycle a call, until it halts or the words end.
+fn print_blocks(machine: &Machine) -> Result<(), Box<dyn Error>> {
+    let (mut registers, mut state) = (LIMITS, Some(0));
+    print!("  blocks in each cycle:");
+    for word in WORDS {
+        let Some(start) = state else { break };
+        let run = machine.run_with_words(&mut registers, start, 1, &[word])?;
+        print!(" {}", run.blocks);
+        state = run.next;
+    }
+    println!();
     Ok(())
 }
 
@@ -212,6 +229,7 @@ fn main() -> Result<(), Box<dyn Error>> {
     let machine = graph.synthesise();
     println!("rate of turn");
     print_turn(&graph, &machine)?;
+    print_blocks(&machine)?;
     println!("touched registers");
     print_touched(&machine)?;
     println!("array against model");

@@ -1,6 +1,7 @@
 /* Times this library against an earlier one, both in one process: compare-libraries TEXT.. tools/compare-libraries
  * builds and runs it. Each library has tables of its own, since the machine table's layout may differ. The functions
- * called here must have the same form in both: earlier.h is the earlier header with `earlier_` before its names. */
+ * called here must have the same form in both, but that the earlier runs of a machine need not answer blocks, as they
+ * do since R-7. earlier.h is the earlier header with `earlier_` before its names. */
 #include "earlier.h"
 #include "gutkavu.h"
 
@@ -10,16 +11,26 @@
 #include <string.h>
 #include <time.h>
 
-#define SAME_FORM(function)                                                                                            \
-    _Static_assert(__builtin_types_compatible_p(__typeof__(function), __typeof__(earlier_##function)),                 \
+/* The forms of a machine's runs: today's, and that of before R-7. */
+typedef __typeof__(gutkavu_run_machine) machine_run;
+typedef uint32_t machine_run_before(const uint32_t *, size_t, uint32_t *, size_t, uint32_t, uint32_t, uint32_t *,
+                                    uint32_t *, uint32_t *, uint32_t *);
+typedef __typeof__(gutkavu_run_machine_with_words) words_run;
+typedef uint32_t words_run_before(const uint32_t *, size_t, uint32_t *, size_t, uint32_t, uint32_t, const uint32_t *,
+                                  size_t, uint32_t *, uint32_t *, uint32_t *, uint32_t *);
+
+#define HAS_FORM(function, form) __builtin_types_compatible_p(__typeof__(function), form)
+#define SAME_FORM_OR(function, before)                                                                                 \
+    _Static_assert(HAS_FORM(earlier_##function, __typeof__(function)) || HAS_FORM(earlier_##function, before),         \
                    #function " has another form in the earlier library")
+#define SAME_FORM(function) SAME_FORM_OR(function, __typeof__(function))
 SAME_FORM(gutkavu_read);
 SAME_FORM(gutkavu_write);
 SAME_FORM(gutkavu_synthesise);
 SAME_FORM(gutkavu_run_graph);
-SAME_FORM(gutkavu_run_machine);
+SAME_FORM_OR(gutkavu_run_machine, machine_run_before);
 SAME_FORM(gutkavu_run_graph_with_words);
-SAME_FORM(gutkavu_run_machine_with_words);
+SAME_FORM_OR(gutkavu_run_machine_with_words, words_run_before);
 SAME_FORM(gutkavu_touches);
 SAME_FORM(gutkavu_first_touching);
 SAME_FORM(gutkavu_bounds);
@@ -45,9 +56,12 @@ struct library {
     __typeof__(gutkavu_write) *write;
     __typeof__(gutkavu_synthesise) *synthesise;
     __typeof__(gutkavu_run_graph) *run_graph;
-    __typeof__(gutkavu_run_machine) *run_machine;
     __typeof__(gutkavu_run_graph_with_words) *run_graph_with_words;
-    __typeof__(gutkavu_run_machine_with_words) *run_machine_with_words;
+    /* Of each run of a machine, the form that the library has; the other is null. */
+    machine_run *run_machine;
+    machine_run_before *run_machine_before;
+    words_run *run_machine_with_words;
+    words_run_before *run_machine_with_words_before;
     __typeof__(gutkavu_touches) *touches;
     __typeof__(gutkavu_first_touching) *first_touching;
     __typeof__(gutkavu_bounds) *bounds;
@@ -58,14 +72,17 @@ struct library {
     uint32_t made[MOST_WORDS]; /* what read, write and synthesise make */
 };
 
+#define IN_FORM(form, function) __builtin_choose_expr(HAS_FORM(function, form), function, (form *)NULL)
 #define LIBRARY(before, BEFORE)                                                                                        \
     {.read = before##gutkavu_read,                                                                                     \
      .write = before##gutkavu_write,                                                                                   \
      .synthesise = before##gutkavu_synthesise,                                                                         \
      .run_graph = before##gutkavu_run_graph,                                                                           \
-     .run_machine = before##gutkavu_run_machine,                                                                       \
      .run_graph_with_words = before##gutkavu_run_graph_with_words,                                                     \
-     .run_machine_with_words = before##gutkavu_run_machine_with_words,                                                 \
+     .run_machine = IN_FORM(machine_run, before##gutkavu_run_machine),                                                 \
+     .run_machine_before = IN_FORM(machine_run_before, before##gutkavu_run_machine),                                   \
+     .run_machine_with_words = IN_FORM(words_run, before##gutkavu_run_machine_with_words),                             \
+     .run_machine_with_words_before = IN_FORM(words_run_before, before##gutkavu_run_machine_with_words),               \
      .touches = before##gutkavu_touches,                                                                               \
      .first_touching = before##gutkavu_first_touching,                                                                 \
      .bounds = before##gutkavu_bounds,                                                                                 \
@@ -131,6 +148,7 @@ static uint32_t call_bounds(struct library *of, uint32_t most)
 static uint32_t call(struct library *of, const struct row *row)
 {
     uint32_t r[GUTKAVU_REGISTER_WORDS], outcome = 0, count = 0, next = 0, flag = 0, number = 0;
+    uint64_t blocks = 0;
     const size_t g = GUTKAVU_GRAPH_WORDS, m = of->machine_words, f = GUTKAVU_REGISTER_WORDS;
     const uint32_t budget = row->budget, *starters = of->machine + GUTKAVU_STARTERS;
     memcpy(r, file, sizeof r);
@@ -148,15 +166,22 @@ static uint32_t call(struct library *of, const struct row *row)
         number = of->run_graph(of->graph, g, r, f, 0, budget, &outcome, &count, &next, &flag);
         break;
     case MACHINE:
-        number = of->run_machine(of->machine, m, r, f, 0, budget, &outcome, &count, &next, &flag);
+        if (of->run_machine)
+            number = of->run_machine(of->machine, m, r, f, 0, budget, &outcome, &count, &next, &flag, &blocks);
+        else
+            number = of->run_machine_before(of->machine, m, r, f, 0, budget, &outcome, &count, &next, &flag);
         break;
     case GRAPH_WITH_WORDS:
         number = of->run_graph_with_words(of->graph, g, r, f, 0, budget, words, WORDS, starters, of->machine[0],
                                           &outcome, &count, &next, &flag);
         break;
     case MACHINE_WITH_WORDS:
-        number = of->run_machine_with_words(of->machine, m, r, f, 0, budget, words, WORDS, &outcome, &count, &next,
-                                            &flag);
+        if (of->run_machine_with_words)
+            number = of->run_machine_with_words(of->machine, m, r, f, 0, budget, words, WORDS, &outcome, &count, &next,
+                                                &flag, &blocks);
+        else
+            number = of->run_machine_with_words_before(of->machine, m, r, f, 0, budget, words, WORDS, &outcome, &count,
+                                                       &next, &flag);
         break;
     case TOUCHES:
         number = of->touches(of->machine, m, of->machine[0] - 1, 0, &count);
@@ -167,7 +192,7 @@ static uint32_t call(struct library *of, const struct row *row)
     case BOUNDS:
         return call_bounds(of, budget);
     }
-    kept += r[0] + outcome + count + next + flag;
+    kept += r[0] + outcome + count + next + flag + (uint32_t)blocks;
     return number;
 }
 

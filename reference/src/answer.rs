@@ -5,7 +5,7 @@ use crate::listing::listing;
 use crate::operations::{
     bounds, compare_captures, first_touching, read, run_graph, run_graph_with_words, run_machine,
     run_machine_with_words, synthesise, touches, write, CaptureAnswer, FirstTouchingAnswer,
-    ReadAnswer, RunAnswer, TouchesAnswer, WordsRunAnswer, WriteAnswer,
+    MachineAnswer, ReadAnswer, RunAnswer, TouchesAnswer, WordsRunAnswer, WriteAnswer,
 };
 
 /// What a run answered, and the digest of its registers after.
@@ -32,9 +32,9 @@ pub struct Answer {
     pub synthesise: u32,
     pub machine_digest: u64,
     pub run_graph: Ran<RunAnswer>,
-    pub run_machine: Ran<RunAnswer>,
+    pub run_machine: Ran<MachineAnswer<RunAnswer>>,
     pub run_graph_with_words: Ran<WordsRunAnswer>,
-    pub run_machine_with_words: Ran<WordsRunAnswer>,
+    pub run_machine_with_words: Ran<MachineAnswer<WordsRunAnswer>>,
     pub listing_length: usize,
     pub listing_digest: u64,
     pub captures: CaptureAnswer,
@@ -137,14 +137,25 @@ pub fn answer(case: &Case) -> Answer {
     }
 }
 
-fn run_fields(ran: &Ran<RunAnswer>) -> [u64; 6] {
-    let RunAnswer { number, halted, count, next, flag } = ran.answer;
-    [number.into(), halted.into(), count.into(), next.into(), flag.into(), ran.registers]
+fn run_fields(answer: RunAnswer) -> [u64; 5] {
+    let RunAnswer { number, halted, count, next, flag } = answer;
+    [number.into(), halted.into(), count.into(), next.into(), flag.into()]
 }
 
-fn words_run_fields(ran: &Ran<WordsRunAnswer>) -> [u64; 6] {
-    let WordsRunAnswer { number, outcome, count, next, flag } = ran.answer;
-    [number.into(), outcome.into(), count.into(), next.into(), flag.into(), ran.registers]
+fn words_run_fields(answer: WordsRunAnswer) -> [u64; 5] {
+    let WordsRunAnswer { number, outcome, count, next, flag } = answer;
+    [number.into(), outcome.into(), count.into(), next.into(), flag.into()]
+}
+
+/// The fields of a graph's run, then the registers.
+fn of_graph<A: Copy>(ran: &Ran<A>, fields: fn(A) -> [u64; 5]) -> Vec<u64> {
+    [&fields(ran.answer)[..], &[ran.registers]].concat()
+}
+
+/// The fields of a machine's run, then the blocks, then the registers.
+fn of_machine<A: Copy>(ran: &Ran<MachineAnswer<A>>, fields: fn(A) -> [u64; 5]) -> Vec<u64> {
+    let MachineAnswer { run, blocks } = ran.answer;
+    [&fields(run)[..], &[blocks, ran.registers]].concat()
 }
 
 fn capture_fields(answer: CaptureAnswer) -> [u64; 6] {
@@ -165,10 +176,10 @@ impl Answer {
             u64::from(self.synthesise),
             self.machine_digest,
         ];
-        fields.extend(run_fields(&self.run_graph));
-        fields.extend(run_fields(&self.run_machine));
-        fields.extend(words_run_fields(&self.run_graph_with_words));
-        fields.extend(words_run_fields(&self.run_machine_with_words));
+        fields.extend(of_graph(&self.run_graph, run_fields));
+        fields.extend(of_machine(&self.run_machine, run_fields));
+        fields.extend(of_graph(&self.run_graph_with_words, words_run_fields));
+        fields.extend(of_machine(&self.run_machine_with_words, words_run_fields));
         fields.extend([self.listing_length as u64, self.listing_digest]);
         fields.extend(capture_fields(self.captures));
         fields.extend([u64::from(self.touches.number), self.touches.touched.into()]);

@@ -3,7 +3,7 @@
 pub const MAX_CASE_TEXT: usize = 20_000;
 pub const MAX_GRAPH_BUFFER: usize = 2_600;
 pub const MAX_OUTPUT_BUFFER: usize = 17_000;
-pub const MAX_MACHINE_BUFFER: usize = 13_764;
+pub const MAX_MACHINE_BUFFER: usize = 13_828;
 pub const MAX_REGISTER_BUFFER: usize = 20;
 pub const MAX_PATCHES: usize = 64;
 pub const MAX_WORDS: usize = 64;
@@ -65,7 +65,7 @@ impl Case {
             graph_length: 2_562,
             graph_patches: Vec::new(),
             output_length: 16_384,
-            machine_length: 13_698,
+            machine_length: 13_762,
             machine_patches: Vec::new(),
             registers: vec![0; 16],
             start_block: 0,

@@ -16,17 +16,20 @@ use reference::meeting::{self, meetings, Meeting};
 use reference::operation::Operation;
 
 /// So many cases hit every number that the papers name, every outcome, every flag at each end of a
-/// run and every pair that can meet.
+/// run, fewer blocks than cycles, as many and more at each end of a machine's run, and every pair
+/// that can meet.
 const CASES_FOR_ALL: usize = 2_000;
 
 /// What a case hits: a number that an operation answers, 0 included; an outcome: how a run with
 /// words ends, what a comparison of captures finds, whether a register is touched, or whether any
-/// state touches it; a run's flag, with how the run ends; two refusals that apply to one call.
+/// state touches it; a run's flag, with how the run ends; how many blocks a machine's run has beside
+/// its cycles, likewise; two refusals that apply to one call.
 #[derive(Clone, Copy, Debug, PartialEq, Eq, PartialOrd, Ord)]
 enum Hit {
     Number(Operation, u64),
     Outcome(Operation, u64),
     Flag(Operation, u64, u64),
+    Blocks(Operation, u64, u64),
     Met(Meeting),
 }
 
@@ -39,6 +42,9 @@ impl Hit {
             }
             Hit::Flag(operation, end, flag) => {
                 format!("flag of {},{end},{flag}", operation.name())
+            }
+            Hit::Blocks(operation, end, kind) => {
+                format!("blocks of {},{end},{kind}", operation.name())
             }
             Hit::Met(meeting) => format!("{}: {}", meeting.operation.name(), meeting.name()),
         }
@@ -59,6 +65,9 @@ fn count_hits(tally: &mut Tally<Hit>, compared: &Compared) {
     if let Some((end, flag)) = operation.flag(compared.found) {
         tally.count(Hit::Flag(operation, end, flag), 1);
     }
+    if let Some((end, kind)) = operation.block_kind(compared.found) {
+        tally.count(Hit::Blocks(operation, end, kind), 1);
+    }
 }
 
 fn tally_all(cases: &Cases, count: usize, library: &impl Library) -> Tally<Hit> {
@@ -74,19 +83,20 @@ fn tally_all(cases: &Cases, count: usize, library: &impl Library) -> Tally<Hit> 
     })
 }
 
-/// Every number that the papers name for an operation, every outcome, every flag, every pair that
-/// can meet.
+/// Every number that the papers name for an operation, every outcome, every flag, every kind of
+/// block count, every pair that can meet.
 fn named() -> impl Iterator<Item = Hit> {
     let answered = Operation::ALL.into_iter().flat_map(|one| {
         let numbers = one.numbers().iter().map(move |&number| Hit::Number(one, number));
         let outcomes = one.outcomes().iter().map(move |&outcome| Hit::Outcome(one, outcome));
         let flags = one.flags().into_iter().map(move |(end, flag)| Hit::Flag(one, end, flag));
-        numbers.chain(outcomes).chain(flags)
+        let blocks = one.blocks().into_iter().map(move |(end, kind)| Hit::Blocks(one, end, kind));
+        numbers.chain(outcomes).chain(flags).chain(blocks)
     });
     answered.chain(meeting::possible().into_iter().map(Hit::Met))
 }
 
-/// A line for each number, outcome and flag, then one for each operation with the pairs met there.
+/// A line for each number, outcome, flag and kind of block count, then one for each operation with the pairs met there.
 fn lines(tally: &Tally<Hit>) -> String {
     let met = |(hit, &cases): (&Hit, &usize)| match hit {
         Hit::Met(meeting) => Some((*meeting, cases)),

@@ -1,6 +1,7 @@
 //! The state machine as types: states, wires, references.
 
 use crate::graph::{sign_extend, Binary, Comparison};
+use std::collections::BTreeMap;
 
 pub const MAX_STATES: usize = 64;
 pub const MAX_WIRES: usize = 3_072;
@@ -35,6 +36,8 @@ pub struct State {
     pub wires: Vec<Wire>,
     pub next_state: Source,
     pub next_registers: Vec<Source>,
+    /// The wire of each block's arrival, by the blocks of the state.
+    pub arrivals: BTreeMap<usize, usize>,
 }
 
 #[derive(Clone, Debug, PartialEq, Eq)]
@@ -49,6 +52,12 @@ impl State {
     pub fn touches(&self, register: usize) -> bool {
         let next = self.next_registers.get(register);
         next.is_some_and(|&next| next != Source::Register(register))
+    }
+
+    /// How many of its blocks are arrived at in a cycle, given the words of its wires. Blocks that
+    /// share a wire are counted each by itself.
+    pub fn blocks_run(&self, wires: &[u32]) -> u64 {
+        self.arrivals.values().filter(|&&wire| wires[wire] != 0).count() as u64
     }
 }
 

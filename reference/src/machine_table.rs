@@ -1,11 +1,11 @@
-//! A machine as its table of 13,698 words, and any such table checked.
+//! A machine as its table of 13,762 words, and any such table checked.
 
 use crate::graph::{Binary, Comparison, COPY, IN, MAX_BLOCKS, MAX_REGISTERS, SET, SIGN_EXTEND};
 use crate::grouping::Grouping;
 use crate::machine::{Machine, Source, State, Wire, MAX_STATES, MAX_WIRES};
-use std::collections::BTreeSet;
+use std::collections::{BTreeMap, BTreeSet};
 
-pub const MACHINE_WORDS: usize = 13_698;
+pub const MACHINE_WORDS: usize = ARRIVALS_AT + MAX_BLOCKS;
 pub const STARTERS_AT: usize = 2;
 pub const BLOCK_STATES_AT: usize = STARTERS_AT + MAX_STATES;
 pub const RECORDS_AT: usize = BLOCK_STATES_AT + MAX_BLOCKS;
@@ -15,6 +15,8 @@ pub const TOUCH_AT: usize = NEXT_REGISTERS_AT + MAX_REGISTERS;
 pub const RECORD_WORDS: usize = TOUCH_AT + 1;
 pub const WIRES_AT: usize = RECORDS_AT + MAX_STATES * RECORD_WORDS;
 pub const WIRE_WORDS: usize = 4;
+/// Where the references of the blocks' arrivals stand, one for each of 64 blocks.
+pub const ARRIVALS_AT: usize = WIRES_AT + MAX_WIRES * WIRE_WORDS;
 
 pub const AND_NOT: u32 = 18;
 pub const CHOOSE: u32 = 19;
@@ -65,6 +67,12 @@ fn append(words: &mut Vec<u32>, part: impl IntoIterator<Item = u32>, length: usi
     words.resize(end, pad);
 }
 
+/// The reference of a block's arrival, 0 for an absent block.
+fn arrival_word(grouping: &Grouping, machine: &Machine, block: usize) -> u32 {
+    let state = grouping.state_of.get(&block);
+    state.map_or(0, |&state| reference(Source::Wire(machine.states[state].arrivals[&block])))
+}
+
 pub fn encode(grouping: &Grouping, machine: &Machine) -> Vec<u32> {
     let mut words = vec![machine.states.len() as u32, machine.registers as u32];
     let starters = grouping.starters.iter().map(|&block| block as u32);
@@ -77,8 +85,9 @@ pub fn encode(grouping: &Grouping, machine: &Machine) -> Vec<u32> {
     words.resize(WIRES_AT, 0);
     let wires = machine.states.iter().flat_map(|state| &state.wires);
     words.extend(wires.flat_map(|&wire| wire_words(wire)));
-    assert!(words.len() <= MACHINE_WORDS);
-    words.resize(MACHINE_WORDS, 0);
+    assert!(words.len() <= ARRIVALS_AT);
+    words.resize(ARRIVALS_AT, 0);
+    words.extend((0..MAX_BLOCKS).map(|block| arrival_word(grouping, machine, block)));
     words
 }
 
@@ -144,6 +153,7 @@ fn decode_state(table: &[u32], state: usize, registers: usize) -> Option<State> 
         wires: wires?,
         next_state: all.source(record[2])?,
         next_registers: next_registers?,
+        arrivals: BTreeMap::new(),
     };
     is_touch_word(record[TOUCH_AT], &state).then_some(state)
 }
@@ -153,6 +163,21 @@ fn wires_are_apart(states: &[State]) -> bool {
     let mut owned = BTreeSet::new();
     let ranges = states.iter().map(|state| state.first..state.first + state.wires.len());
     ranges.flatten().all(|wire| owned.insert(wire))
+}
+
+/// Adds the arrival of a block to its state, as the block's two words say; None where they are wrong:
+/// a state that is none, a reference that is no wire of it, or one of an absent block.
+fn decode_block(table: &[u32], block: usize, states: &mut [State]) -> Option<()> {
+    let (state, reference) = (table[BLOCK_STATES_AT + block], table[ARRIVALS_AT + block]);
+    if state == NO_STATE {
+        return (reference == 0).then_some(());
+    }
+    let state = states.get_mut(usize::try_from(state).ok()?)?;
+    let wires = Scope { registers: 0, wires: state.wires.len() };
+    if let Source::Wire(wire) = wires.source(reference)? {
+        state.arrivals.insert(block, wire);
+    }
+    Some(())
 }
 
 /// The machine a table holds, where it is not refused 10.
@@ -165,6 +190,7 @@ pub fn decode(table: &[u32]) -> Option<Machine> {
     }
     let list: Option<Vec<State>> =
         (0..states).map(|state| decode_state(table, state, registers)).collect();
-    let machine = Machine { registers, states: list? };
+    let mut machine = Machine { registers, states: list? };
+    (0..MAX_BLOCKS).try_for_each(|block| decode_block(table, block, &mut machine.states))?;
     wires_are_apart(&machine.states).then_some(machine)
 }

@@ -118,11 +118,11 @@ impl Operation {
             Operation::Read => &["number", "line"],
             Operation::Write => &["number", "length"],
             Operation::Synthesise | Operation::Bounds => &["number"],
-            Operation::RunGraph | Operation::RunMachine => {
-                &["number", "halted", "count", "next", "flag"]
-            }
-            Operation::RunGraphWithWords | Operation::RunMachineWithWords => {
-                &["number", "outcome", "count", "next", "flag"]
+            Operation::RunGraph => &["number", "halted", "count", "next", "flag"],
+            Operation::RunMachine => &["number", "halted", "count", "next", "flag", "blocks"],
+            Operation::RunGraphWithWords => &["number", "outcome", "count", "next", "flag"],
+            Operation::RunMachineWithWords => {
+                &["number", "outcome", "count", "next", "flag", "blocks"]
             }
             Operation::CompareCaptures => {
                 &["number", "recording", "line", "shared", "differs", "cycle"]
@@ -200,6 +200,25 @@ impl Operation {
     pub fn flag(self, fields: Fields) -> Option<(u64, u64)> {
         let [number, end, _, _, flag, _] = fields;
         (number == 0 && !self.flags().is_empty()).then_some((end, flag))
+    }
+
+    /// How a machine's run can end, each with fewer blocks than cycles (0), as many (1) and more (2).
+    pub fn blocks(self) -> Vec<(u64, u64)> {
+        match self {
+            Operation::RunMachine | Operation::RunMachineWithWords => {
+                let mut ends: Vec<u64> = self.flags().into_iter().map(|(end, _)| end).collect();
+                ends.dedup();
+                ends.into_iter().flat_map(|end| [0, 1, 2].map(|kind| (end, kind))).collect()
+            }
+            _ => Vec::new(),
+        }
+    }
+
+    /// Which of these an answer gives that is no refusal.
+    pub fn block_kind(self, fields: Fields) -> Option<(u64, u64)> {
+        let [number, end, count, _, _, blocks] = fields;
+        let kind = 1 + u64::from(blocks > count) - u64::from(blocks < count);
+        (number == 0 && !self.blocks().is_empty()).then_some((end, kind))
     }
 
     /// Which of its outcomes an answer gives that is no refusal.

@@ -39,7 +39,7 @@ impl RunAnswer {
     }
 
     fn of(run: Result<Run, u32>) -> RunAnswer {
-        let Run { outcome, count, next, flag } = match run {
+        let Run { outcome, count, next, flag, .. } = match run {
             Ok(run) => run,
             Err(number) => return RunAnswer::refused(number),
         };
@@ -60,11 +60,25 @@ pub struct WordsRunAnswer {
 impl WordsRunAnswer {
     fn of(run: Result<Run, u32>) -> WordsRunAnswer {
         match run {
-            Ok(Run { outcome, count, next, flag }) => {
+            Ok(Run { outcome, count, next, flag, .. }) => {
                 WordsRunAnswer { number: 0, outcome: outcome as u32, count, next, flag }
             }
             Err(number) => WordsRunAnswer { number, outcome: 0, count: 0, next: 0, flag: false },
         }
+    }
+}
+
+/// What a machine's run answers: the fields of any run, and the blocks run over all its cycles.
+#[derive(Clone, Copy, Debug, PartialEq, Eq)]
+pub struct MachineAnswer<A> {
+    pub run: A,
+    pub blocks: u64,
+}
+
+impl<A> MachineAnswer<A> {
+    /// No block is run by a run that is refused.
+    fn of(run: Result<Run, u32>, answer: fn(Result<Run, u32>) -> A) -> MachineAnswer<A> {
+        MachineAnswer { run: answer(run), blocks: run.map_or(0, |run| run.blocks) }
     }
 }
 
@@ -249,8 +263,13 @@ pub fn run_graph(table: &[u32], registers: &mut [u32], start: u32, budget: u32) 
     RunAnswer::of(graph_alone(table, registers, start, budget))
 }
 
-pub fn run_machine(table: &[u32], registers: &mut [u32], start: u32, budget: u32) -> RunAnswer {
-    RunAnswer::of(machine_alone(table, registers, start, budget))
+pub fn run_machine(
+    table: &[u32],
+    registers: &mut [u32],
+    start: u32,
+    budget: u32,
+) -> MachineAnswer<RunAnswer> {
+    MachineAnswer::of(machine_alone(table, registers, start, budget), RunAnswer::of)
 }
 
 pub fn run_graph_with_words(
@@ -270,8 +289,9 @@ pub fn run_machine_with_words(
     start: u32,
     budget: u32,
     words: &[u32],
-) -> WordsRunAnswer {
-    WordsRunAnswer::of(machine_with_words(table, registers, start, budget, words))
+) -> MachineAnswer<WordsRunAnswer> {
+    let run = machine_with_words(table, registers, start, budget, words);
+    MachineAnswer::of(run, WordsRunAnswer::of)
 }
 
 pub fn compare_captures(registers: u32, first: &[u8], second: &[u8]) -> CaptureAnswer {

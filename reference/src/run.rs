@@ -21,6 +21,8 @@ pub struct Run {
     pub next: u32,
     /// Raised by a step that raised it, and clear before the first.
     pub flag: bool,
+    /// Blocks run in all steps.
+    pub blocks: u64,
 }
 
 /// What one block, or one cycle, came to.
@@ -30,6 +32,8 @@ pub struct Step {
     pub next: Option<usize>,
     /// Whether an add or sub went over in a block that was run.
     pub over: bool,
+    /// How many blocks were run: one in a graph, in a machine those that are arrived at.
+    pub blocks: u64,
 }
 
 /// Runs one block on the word of the last arrival.
@@ -47,7 +51,7 @@ pub fn graph_step(graph: &Graph, block: usize, registers: &mut [u32], word: u32)
         }
         Ending::Halt => None,
     };
-    Step { next, over }
+    Step { next, over, blocks: 1 }
 }
 
 /// Runs one cycle on the word sampled at its start.
@@ -64,7 +68,8 @@ pub fn machine_cycle(machine: &Machine, state: usize, registers: &mut [u32], wor
     let next = read(state.next_state) as usize;
     let after: Vec<u32> = state.next_registers.iter().map(|&source| read(source)).collect();
     registers[..after.len()].copy_from_slice(&after);
-    Step { next: (next < machine.states.len()).then_some(next), over }
+    let next = (next < machine.states.len()).then_some(next);
+    Step { next, over, blocks: state.blocks_run(&wires) }
 }
 
 /// A word for every arrival, for runs of what reads none.
@@ -81,23 +86,24 @@ fn repeat(
     is_arrival: impl Fn(usize) -> bool,
     mut step: impl FnMut(usize, u32) -> Step,
 ) -> Run {
-    let (mut at, mut flag) = (start, false);
+    let (mut at, mut flag, mut blocks) = (start, false, 0);
     let mut sampled = words.next();
     for count in 0..budget {
         let Some(word) = sampled else {
-            return Run { outcome: Outcome::Dry, count, next: at as u32, flag };
+            return Run { outcome: Outcome::Dry, count, next: at as u32, flag, blocks };
         };
-        let Step { next, over } = step(at, word);
-        flag |= over;
-        let Some(next) = next else {
-            return Run { outcome: Outcome::Halted, count: count + 1, next: NONE, flag };
+        let done = step(at, word);
+        flag |= done.over;
+        blocks += done.blocks;
+        let Some(next) = done.next else {
+            return Run { outcome: Outcome::Halted, count: count + 1, next: NONE, flag, blocks };
         };
         at = next;
         if is_arrival(at) {
             sampled = words.next();
         }
     }
-    Run { outcome: Outcome::Spent, count: budget, next: at as u32, flag }
+    Run { outcome: Outcome::Spent, count: budget, next: at as u32, flag, blocks }
 }
 
 pub fn run_graph(

@@ -1,6 +1,6 @@
 //! How many cases hit each refusal number of each operation, each outcome of a run, of a comparison
-//! of captures and of a question about registers, each flag at each end of a run, and each pair of
-//! refusals that meet.
+//! of captures and of a question about registers, each flag at each end of a run, each kind of block
+//! count at each end of a machine's run, and each pair of refusals that meet.
 
 use crate::answer::{answer, buffers_of, Answer};
 use crate::case::Case;
@@ -74,11 +74,13 @@ fn capture_outcome(answer: CaptureAnswer) -> u32 {
     u32::from(answer.shared > 0) + u32::from(answer.differs)
 }
 
-/// Counts by what is counted and its number or outcome; flags by the run and how it ended.
+/// Counts by what is counted and its number or outcome; flags and kinds of block counts by the run
+/// and how it ended.
 #[derive(Default)]
 pub struct Stats {
     counts: BTreeMap<(Counted, u32), usize>,
     flags: BTreeMap<(Operation, u32, bool), usize>,
+    blocks: BTreeMap<(Operation, u64, u64), usize>,
     met: BTreeMap<Meeting, usize>,
 }
 
@@ -88,9 +90,9 @@ impl Stats {
     }
 
     fn add(&mut self, case: &Case, answer: &Answer) {
-        let (graph, machine) = (answer.run_graph.answer, answer.run_machine.answer);
+        let (graph, machine) = (answer.run_graph.answer, answer.run_machine.answer.run);
         let graph_words = answer.run_graph_with_words.answer;
-        let machine_words = answer.run_machine_with_words.answer;
+        let machine_words = answer.run_machine_with_words.answer.run;
         let (captures, touches, first) = (answer.captures, answer.touches, answer.first_touching);
         self.count(Counted::Read, answer.read.number);
         self.count(Counted::Write, answer.write.number);
@@ -127,9 +129,9 @@ impl Stats {
     }
 
     fn add_flags(&mut self, answer: &Answer) {
-        let (graph, machine) = (answer.run_graph.answer, answer.run_machine.answer);
+        let (graph, machine) = (answer.run_graph.answer, answer.run_machine.answer.run);
         let graph_words = answer.run_graph_with_words.answer;
-        let machine_words = answer.run_machine_with_words.answer;
+        let machine_words = answer.run_machine_with_words.answer.run;
         let runs = [
             (graph.number, Operation::RunGraph, u32::from(graph.halted), graph.flag),
             (machine.number, Operation::RunMachine, u32::from(machine.halted), machine.flag),
@@ -151,6 +153,28 @@ impl Stats {
         }
     }
 
+    fn add_blocks(&mut self, answer: &Answer) {
+        let (alone, words) = (answer.run_machine.answer, answer.run_machine_with_words.answer);
+        let fields = |number: u32, end: u32, count: u32, blocks| {
+            [number.into(), end.into(), count.into(), 0, 0, blocks]
+        };
+        let runs = [
+            (
+                Operation::RunMachine,
+                fields(alone.run.number, alone.run.halted.into(), alone.run.count, alone.blocks),
+            ),
+            (
+                Operation::RunMachineWithWords,
+                fields(words.run.number, words.run.outcome, words.run.count, words.blocks),
+            ),
+        ];
+        for (run, fields) in runs {
+            if let Some((end, kind)) = run.block_kind(fields) {
+                *self.blocks.entry((run, end, kind)).or_insert(0) += 1;
+            }
+        }
+    }
+
     fn add_meetings(&mut self, case: &Case) {
         let (graph, machine) = buffers_of(case);
         for meeting in faults(case, &graph, &machine).iter().flat_map(meetings) {
@@ -164,6 +188,7 @@ impl Stats {
             let answer = answer(case);
             stats.add(case, &answer);
             stats.add_flags(&answer);
+            stats.add_blocks(&answer);
             stats.add_meetings(case);
         }
         stats
@@ -178,12 +203,17 @@ impl Stats {
         self.flags.get(&(run, end, flag)).copied().unwrap_or(0)
     }
 
+    /// Runs of a machine that ended so with fewer blocks than cycles (0), as many (1) or more (2).
+    pub fn blocks(&self, run: Operation, end: u64, kind: u64) -> usize {
+        self.blocks.get(&(run, end, kind)).copied().unwrap_or(0)
+    }
+
     pub fn met(&self, meeting: &Meeting) -> usize {
         self.met.get(meeting).copied().unwrap_or(0)
     }
 
-    /// One line for each count: name, number, cases; one for each flag: run, end, flag, cases; then
-    /// one for each operation with its pairs.
+    /// One line for each count: name, number, cases; one for each flag: run, end, flag, cases; one for
+    /// each kind of block count: run, end, kind, cases; then one for each operation with its pairs.
     pub fn print(&self) -> String {
         let line = |(&(counted, number), count): (&(Counted, u32), &usize)| {
             format!("{},{number},{count}\n", counted.name())
@@ -191,8 +221,11 @@ impl Stats {
         let flag = |(&(run, end, flag), count): (&(Operation, u32, bool), &usize)| {
             format!("flag of {},{end},{},{count}\n", run.name(), u32::from(flag))
         };
-        let flags = self.flags.iter().map(flag);
+        let block = |(&(run, end, kind), count): (&(Operation, u64, u64), &usize)| {
+            format!("blocks of {},{end},{kind},{count}\n", run.name())
+        };
+        let (flags, blocks) = (self.flags.iter().map(flag), self.blocks.iter().map(block));
         let pairs = [meeting::print(&self.met)];
-        self.counts.iter().map(line).chain(flags).chain(pairs).collect()
+        self.counts.iter().map(line).chain(flags).chain(blocks).chain(pairs).collect()
     }
 }

@@ -4,6 +4,7 @@ use crate::graph::{Binary, Ending, Graph, Instruction};
 use crate::grouping::{group, Grouping};
 use crate::machine::{Machine, Source, State, Wire};
 use crate::placement::by_looking;
+use std::collections::BTreeMap;
 
 /// A way out of a placed block: when it is taken, and the registers then.
 #[derive(Clone)]
@@ -21,6 +22,8 @@ struct Builder<'a> {
     grouping: &'a Grouping,
     wires: Vec<Wire>,
     edges: Vec<Edge>,
+    /// The wire of each placed block's arrival.
+    arrivals: BTreeMap<usize, usize>,
 }
 
 impl Builder<'_> {
@@ -67,8 +70,16 @@ impl Builder<'_> {
         values[instruction.target()] = self.add(wire);
     }
 
+    /// A block is arrived at by a wire: the starter's own, or one of an ite or a join before it.
+    fn note(&mut self, block: usize, arrival: Source) {
+        if let Source::Wire(wire) = arrival {
+            self.arrivals.insert(block, wire);
+        }
+    }
+
     fn place(&mut self, block: usize) {
         let (arrival, mut values) = self.arrive(block);
+        self.note(block, arrival);
         let graph = self.graph;
         for &instruction in &graph.blocks[block].instructions {
             self.instruct(instruction, arrival, &mut values);
@@ -107,12 +118,14 @@ impl Builder<'_> {
             next_state = self.add(Wire::Choose(edge.taken, number, next_state));
             self.merge_values(edge, &mut next_registers);
         }
-        State { first, wires: self.wires, next_state, next_registers }
+        let Builder { wires, arrivals, .. } = self;
+        State { first, wires, next_state, next_registers, arrivals }
     }
 }
 
 fn build_state(graph: &Graph, grouping: &Grouping, state: usize, first: usize) -> State {
-    let mut builder = Builder { graph, grouping, wires: Vec::new(), edges: Vec::new() };
+    let (wires, edges, arrivals) = (Vec::new(), Vec::new(), BTreeMap::new());
+    let mut builder = Builder { graph, grouping, wires, edges, arrivals };
     for block in by_looking(graph, grouping, state) {
         builder.place(block);
     }

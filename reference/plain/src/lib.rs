@@ -1,6 +1,7 @@
 //! The plain program: the eleven operations as plain Rust on flat arrays, with the same checks and
 //! the same algorithms as the proved library. Nothing is allocated.
 
+pub mod block_count;
 pub mod bounds;
 pub mod capture;
 pub mod graph_admission;
@@ -46,6 +47,7 @@ pub const RECORDS: usize = 130;
 pub const RECORD_WORDS: usize = 20;
 pub const WIRE_WORDS: usize = 1_410;
 pub const WIRES: usize = 3_072;
+pub const ARRIVALS: usize = 13_698;
 /// Where in a record its next registers begin, and its touch word.
 pub const NEXT: usize = 3;
 pub const TOUCH: usize = 19;

@@ -1,5 +1,6 @@
 //! Which machine tables are admitted: the conditions of refusal 10.
 
+use crate::block_count::blocks_fit;
 use crate::touch::touch_word;
 use crate::{BLOCKS, NEXT, RECORDS, RECORD_WORDS, REGISTERS, TOUCH, WIRES, WIRE_WORDS};
 
@@ -81,6 +82,7 @@ pub fn admitted(table: &[u32]) -> Option<bool> {
     let (states, mut reads) = (states as usize, false);
     let fits = (0..states).all(|k| span(table, k).1 <= WIRES as u64)
         && all_apart(table, states)
-        && (0..states).all(|k| state_fits(table, k, registers, &mut reads));
+        && (0..states).all(|k| state_fits(table, k, registers, &mut reads))
+        && blocks_fit(table, states as u32);
     fits.then_some(reads)
 }

@@ -1,10 +1,11 @@
 //! "Run machine", without words and with them.
 
+use crate::block_count::Arrivals;
 use crate::machine_admission::{self, record, wires};
 use crate::value::value;
 use crate::words::{Unread, Words};
-use crate::{dry, halted, refused, spent, without_words, NEXT, REGISTERS, WIRES};
-use gutkavu::operations::{RunFields, RunWithWordsFields};
+use crate::{dry, halted, refused, spent, NEXT, REGISTERS, WIRES};
+use gutkavu::operations::{MachineRunFields, MachineRunWithWordsFields, RunWithWordsFields};
 use gutkavu::MACHINE_WORDS;
 
 /// One cycle: `words` holds the registers, and behind them room for the wires. Gives the next state.
@@ -40,8 +41,9 @@ fn run(
     start: u32,
     budget: u32,
     mut inputs: impl Words,
-) -> RunWithWordsFields {
+) -> MachineRunWithWordsFields {
     let (states, used) = (table[0], table[1] as usize);
+    let (arrivals, mut blocks) = (Arrivals::of(table), 0);
     let mut words = [0; REGISTERS + WIRES];
     words[..used].copy_from_slice(&registers[..used]);
     let (mut state, mut count, mut flag) = (start, 0, false);
@@ -56,10 +58,23 @@ fn run(
             break dry(count, state, flag);
         };
         count += 1;
-        state = cycle(table, state as usize, used, &mut words, input, &mut flag);
+        let from = state as usize;
+        state = cycle(table, from, used, &mut words, input, &mut flag);
+        blocks += arrivals.count(from, &words);
     };
     registers[..used].copy_from_slice(&words[..used]);
-    answer
+    with_blocks(answer, blocks)
+}
+
+fn with_blocks(fields: RunWithWordsFields, blocks: u64) -> MachineRunWithWordsFields {
+    let RunWithWordsFields { number, outcome, count, next, flag } = fields;
+    MachineRunWithWordsFields { number, outcome, count, next, flag, blocks }
+}
+
+/// A run without words is never dry.
+fn without_words(fields: MachineRunWithWordsFields) -> MachineRunFields {
+    let MachineRunWithWordsFields { number, outcome, count, next, flag, blocks } = fields;
+    MachineRunFields { number, halted: outcome, count, next, flag, blocks }
 }
 
 /// Whether the table holds code 20, or the refusal 7 or 10.
@@ -71,11 +86,16 @@ fn checked(table: &[u32], registers: &[u32]) -> Result<bool, u32> {
     machine_admission::admitted(table).ok_or(10)
 }
 
-pub fn run_machine(table: &[u32], registers: &mut [u32], start: u32, budget: u32) -> RunFields {
+pub fn run_machine(
+    table: &[u32],
+    registers: &mut [u32],
+    start: u32,
+    budget: u32,
+) -> MachineRunFields {
     without_words(match checked(table, registers) {
-        Err(number) => refused(number),
-        Ok(true) => refused(12),
-        Ok(_) if start >= table[0] => refused(9),
+        Err(number) => with_blocks(refused(number), 0),
+        Ok(true) => with_blocks(refused(12), 0),
+        Ok(_) if start >= table[0] => with_blocks(refused(9), 0),
         Ok(_) => run(table, registers, start, budget, Unread),
     })
 }
@@ -86,10 +106,10 @@ pub fn run_machine_with_words(
     start: u32,
     budget: u32,
     words: &[u32],
-) -> RunWithWordsFields {
+) -> MachineRunWithWordsFields {
     match checked(table, registers) {
-        Err(number) => refused(number),
-        Ok(_) if start >= table[0] => refused(9),
+        Err(number) => with_blocks(refused(number), 0),
+        Ok(_) if start >= table[0] => with_blocks(refused(9), 0),
         Ok(_) => run(table, registers, start, budget, words.iter()),
     }
 }

@@ -129,12 +129,14 @@ impl<'a> State<'a> {
         }
     }
 
-    pub fn place(&mut self, graph: &[u32], x: u8, is_starter: bool) {
+    /// The reference of its arrival.
+    pub fn place(&mut self, graph: &[u32], x: u8, is_starter: bool) -> u32 {
         let arrival = if is_starter { self.start() } else { self.join(x) };
         let block = block(graph, x as usize);
         let code = block[1..ENDING].chunks_exact(4).take(block[0] as usize);
         code.for_each(|words| self.instruction(words, arrival));
         self.ending(&block[ENDING..], arrival);
+        arrival
     }
 
     /// The exits; the reference of the next state. What edges are left lead to starters, or halt.

@@ -5,7 +5,8 @@ use crate::placement::place;
 use crate::state::{Edges, State};
 use crate::touch::touch_word;
 use crate::{
-    graph_admission, BLOCK_STATES, NEXT, RECORDS, RECORD_WORDS, STARTERS, TOUCH, WIRE_WORDS,
+    graph_admission, ARRIVALS, BLOCKS, BLOCK_STATES, NEXT, RECORDS, RECORD_WORDS, STARTERS, TOUCH,
+    WIRE_WORDS,
 };
 use gutkavu::{GRAPH_WORDS, MACHINE_WORDS};
 
@@ -23,14 +24,15 @@ fn fill(graph: &[u32], table: &mut [u32]) {
     table[1] = graph[1];
     copy(&mut table[STARTERS..], &grouping.starters);
     copy(&mut table[BLOCK_STATES..], &grouping.states);
-    let mut pending = Edges::none();
+    let (mut pending, mut arrivals) = (Edges::none(), [0; BLOCKS]);
     let mut first = 0;
     for k in 0..grouping.count {
         let order = place(&edges, &grouping, graph[0] as usize, k as u8);
         let (records, wires) = table.split_at_mut(WIRE_WORDS);
         let mut state = State::new(&mut wires[4 * first..], registers, &mut pending);
         for &block in &order.blocks[..order.count] {
-            state.place(graph, block, grouping.is_starter[block as usize]);
+            let is_starter = grouping.is_starter[block as usize];
+            arrivals[block as usize] = state.place(graph, block, is_starter);
         }
         let next = state.leave(&grouping);
         let (count, values) = (state.count, state.values);
@@ -40,6 +42,7 @@ fn fill(graph: &[u32], table: &mut [u32]) {
         record[TOUCH] = touch_word(&values[..registers]);
         first += count;
     }
+    table[ARRIVALS..].copy_from_slice(&arrivals);
 }
 
 pub fn synthesise(graph: &[u32], machine: &mut [u32]) -> u32 {

@@ -6,7 +6,8 @@ use reference::answer::{fresh_bytes, fresh_words, patch};
 use reference::case::{Asked, Bounds, Captures, Case};
 use reference::operation::{Fields, Operation};
 use reference::operations::{
-    self, CaptureAnswer, FirstTouchingAnswer, RunAnswer, TouchesAnswer, WordsRunAnswer,
+    self, CaptureAnswer, FirstTouchingAnswer, MachineAnswer, RunAnswer, TouchesAnswer,
+    WordsRunAnswer,
 };
 
 /// What an operation answered, and the first place of its buffers that differs. The buffers have
@@ -81,14 +82,22 @@ fn run_graph(library: &impl Library, graph: &[u32], case: &Case) -> Compared {
     }
 }
 
+/// The fields of a machine's run, the blocks being the last.
+pub fn machine_fields<A>(answer: MachineAnswer<A>, fields: fn(A) -> Fields) -> Fields {
+    let mut fields = fields(answer.run);
+    fields[5] = answer.blocks;
+    fields
+}
+
 fn run_machine(library: &impl Library, machine: &[u32], case: &Case) -> Compared {
     let (start, budget) = (case.start_state, case.cycle_budget);
     let mut registers = case.registers.clone();
     let (mut lent_machine, mut lent_registers) = (Lent::new(machine), Lent::new(&registers));
     let found = library.run_machine(&mut lent_machine, &mut lent_registers, start, budget);
+    let answer = operations::run_machine(machine, &mut registers, start, budget);
     Compared {
         operation: Operation::RunMachine,
-        expected: run_fields(operations::run_machine(machine, &mut registers, start, budget)),
+        expected: machine_fields(answer, run_fields),
         found,
         differing: (lent_machine.differing("machine table", machine))
             .or_else(|| lent_registers.differing("registers", &registers)),
@@ -133,7 +142,7 @@ fn run_machine_with_words(library: &impl Library, machine: &[u32], case: &Case) 
     let answer = operations::run_machine_with_words(machine, &mut registers, start, budget, words);
     Compared {
         operation: Operation::RunMachineWithWords,
-        expected: words_fields(answer),
+        expected: machine_fields(answer, words_fields),
         found,
         differing: (lent_machine.differing("machine table", machine))
             .or_else(|| lent_registers.differing("registers", &registers))

@@ -2,7 +2,8 @@
 
 use super::lent::Lent;
 use gutkavu::operations::{
-    self, CaptureFields, FirstTouchingFields, RunFields, RunWithWordsFields, TouchesFields,
+    self, CaptureFields, FirstTouchingFields, MachineRunFields, MachineRunWithWordsFields,
+    RunFields, RunWithWordsFields, TouchesFields,
 };
 use reference::operation::Fields;
 
@@ -75,6 +76,16 @@ fn words_fields(fields: RunWithWordsFields) -> Fields {
     padded(&[fields.number, fields.outcome, fields.count, fields.next, fields.flag])
 }
 
+fn machine_fields(fields: MachineRunFields) -> Fields {
+    let MachineRunFields { number, halted, count, next, flag, blocks } = fields;
+    [number.into(), halted.into(), count.into(), next.into(), flag.into(), blocks]
+}
+
+fn machine_words_fields(fields: MachineRunWithWordsFields) -> Fields {
+    let MachineRunWithWordsFields { number, outcome, count, next, flag, blocks } = fields;
+    [number.into(), outcome.into(), count.into(), next.into(), flag.into(), blocks]
+}
+
 fn capture_fields(fields: CaptureFields) -> Fields {
     let CaptureFields { number, recording, line, shared, differs, cycle } = fields;
     [number.into(), recording.into(), line, shared, differs.into(), cycle.into()]
@@ -112,7 +123,7 @@ impl Library for Proved {
         start: u32,
         budget: u32,
     ) -> Fields {
-        run_fields(operations::run_machine(machine.body(), registers.body_mut(), start, budget))
+        machine_fields(operations::run_machine(machine.body(), registers.body_mut(), start, budget))
     }
 
     fn run_graph_with_words(
@@ -138,7 +149,8 @@ impl Library for Proved {
         words: &mut Lent<u32>,
     ) -> Fields {
         let (table, copy) = (machine.body(), registers.body_mut());
-        words_fields(operations::run_machine_with_words(table, copy, start, budget, words.body()))
+        let ran = operations::run_machine_with_words(table, copy, start, budget, words.body());
+        machine_words_fields(ran)
     }
 
     fn compare_captures(

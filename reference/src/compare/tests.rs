@@ -1,7 +1,8 @@
 //! The comparison finds every kind of difference: it is tried on libraries that are made to differ.
 
 use super::check::{
-    capture_fields, check, first_touching_fields, run_fields, touches_fields, words_fields,
+    capture_fields, check, first_touching_fields, machine_fields, run_fields, touches_fields,
+    words_fields,
 };
 use super::lent::{Differing, Element, Lent};
 use super::library::{padded, Library, Proved};
@@ -110,7 +111,8 @@ impl Library for Changed {
         budget: u32,
     ) -> Fields {
         let answer = operations::run_machine(machine.body(), registers.body_mut(), start, budget);
-        self.apply(Operation::RunMachine, run_fields(answer), &mut [machine, registers])
+        let fields = machine_fields(answer, run_fields);
+        self.apply(Operation::RunMachine, fields, &mut [machine, registers])
     }
 
     fn run_graph_with_words(
@@ -140,7 +142,7 @@ impl Library for Changed {
         let (table, copy) = (machine.body(), registers.body_mut());
         let answer = operations::run_machine_with_words(table, copy, start, budget, words.body());
         let lent: &mut [&mut dyn Buffer] = &mut [machine, registers, words];
-        self.apply(Operation::RunMachineWithWords, words_fields(answer), lent)
+        self.apply(Operation::RunMachineWithWords, machine_fields(answer, words_fields), lent)
     }
 
     fn compare_captures(
@@ -203,7 +205,7 @@ fn nothing_changed_is_no_difference() {
     assert!((0..200).all(|index| differing(&cases.get(index), &same).is_empty()));
 }
 
-/// Two fields have 64 bits, so a high bit is changed too.
+/// Some fields have 64 bits, so a high bit is changed too.
 #[test]
 fn every_changed_field_is_a_difference() {
     for operation in Operation::ALL {
@@ -249,7 +251,7 @@ fn places_are_printed() {
     );
     assert_eq!(
         printed(Operation::RunMachine, Change::Place(0, -1)),
-        "machine table of length 13698, index -1 in the guard before it: \
+        "machine table of length 13762, index -1 in the guard before it: \
          3235774527 expected, 3235774464 found"
     );
     assert_eq!(
@@ -279,11 +281,11 @@ fn places_are_printed() {
 fn places_of_questions_are_printed() {
     assert_eq!(
         printed(Operation::Touches, Change::Place(0, 0)),
-        "machine table of length 13698, index 0: 2 expected, 3235774464 found"
+        "machine table of length 13762, index 0: 2 expected, 3235774464 found"
     );
     assert_eq!(
         printed(Operation::FirstTouching, Change::End(0)),
-        "machine table of length 13698, index 13698 in the guard after it: \
+        "machine table of length 13762, index 13762 in the guard after it: \
          3235774464 expected, 3235774465 found"
     );
 }
@@ -454,13 +456,13 @@ fn outcomes_of_captures() {
     assert_eq!(outcome([17, 1, 1, 0, 0, 0]), None);
 }
 
-/// A number, an outcome, a flag or a pair that no case hits fails a long run, and not a short one.
+/// A number, an outcome, a flag, a kind of block count or a pair that no case hits fails a long run, and not a short one.
 #[test]
 fn numbers_that_are_not_hit_are_reported() {
     let same = Changed(Operation::Read, Change::Nothing);
     let mut tally = tally_all(&Cases::of(1), 2_000, &same);
     assert!(outcome(1, 2_000, &tally).is_ok());
-    assert_eq!(named().count(), 61 + 20 + 107);
+    assert_eq!(named().count(), 61 + 20 + 15 + 107);
     for hit in named() {
         let cases = tally.counts.remove(&hit).expect("a hit");
         let text = outcome(1, 2_000, &tally).expect_err("one is missing");

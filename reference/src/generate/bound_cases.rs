@@ -1,11 +1,13 @@
 //! Cases of bounds that do not depend on the seed: each rule at its edges, each refusal.
 
+use super::block_words::arrival_at;
 use super::bound_words::{bounds, word, Ends, FULL, LEAST, MOST};
 use super::examples::P7;
 use super::fixed::own_starters;
 use super::machine_damage::{record, wire_at};
+use super::mends::mended;
 use super::touch_cases::FOUR;
-use super::touch_words::{mended, touch_at};
+use super::touch_words::touch_at;
 use crate::answer::buffers_of;
 use crate::case::{Bounds, Case};
 use crate::machine_table::NEXT_REGISTERS_AT;
@@ -359,11 +361,12 @@ fn lengths() -> Vec<Case> {
 /// What is wrong with a call; each two meet.
 type Spoil = fn(&mut Case);
 
-const SPOILS: [Spoil; 6] = [
-    |case| case.machine_length = 13_697,
+const SPOILS: [Spoil; 7] = [
+    |case| case.machine_length = 13_761,
     |case| case.bounds.lowest.truncate(15),
     |case| case.bounds.highest.truncate(15),
     |case| case.machine_patches.push((touch_at(0) as u32, 1)),
+    |case| case.machine_patches.push((arrival_at(0) as u32, 0)),
     |case| case.asked.state = 4,
     |case| (case.bounds.lowest[1], case.bounds.highest[1]) = (5, 4),
 ];

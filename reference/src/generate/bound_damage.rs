@@ -1,9 +1,11 @@
 //! Wires of any code in place of a state's own, so that each rule of the bounds meets each other.
 
 use super::machine_damage::{patch, record, wire_at, Table};
-use super::touch_words::mended;
+use super::mends::mended;
 use super::words;
+use crate::answer;
 use crate::case::{Patch, MAX_PATCHES};
+use crate::machine_table::decode;
 use crate::random::Random;
 
 /// Codes with a rule of their own more often than those that are full.
@@ -33,13 +35,14 @@ fn wire(random: &mut Random, registers: usize, wire: usize) -> [usize; 4] {
     }
 }
 
-/// The first wires of a state, the references behind them and its touch word.
+/// The first wires of a state, the references behind them and its touch word. The other wires are given
+/// up where there is room for what blocks then need.
 pub fn patches(random: &mut Random, words: &[u32], state: usize) -> Vec<Patch> {
     let table = Table { words };
     let registers = table.registers();
     let most = (MAX_PATCHES - 3 - registers) / 4;
     let count = table.count(state).min(random.between(2, most));
-    let mut patches = vec![patch(record(state) + 1, count)];
+    let mut patches = Vec::new();
     for index in 0..count {
         let at = wire_at(table.first(state) + index);
         patches
@@ -52,5 +55,12 @@ pub fn patches(random: &mut Random, words: &[u32], state: usize) -> Vec<Patch> {
         let next = random.pick(&[any, any, last, wire]);
         patches.push(patch(record(state) + slot, next));
     }
-    mended(words, patches)
+    let shorter = [&[patch(record(state) + 1, count)], &patches[..]].concat();
+    let whole = |patches: &Vec<Patch>| {
+        let mut table = words.to_vec();
+        answer::patch(&mut table, patches);
+        decode(&table).is_some()
+    };
+    let shorter = Some(mended(words, shorter)).filter(whole);
+    shorter.unwrap_or_else(|| mended(words, patches))
 }

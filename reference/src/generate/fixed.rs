@@ -1,8 +1,10 @@
 //! Cases that do not depend on the seed: examples, each named fault, sweeps.
 
 use super::examples::{self, P12, P7};
-use super::touch_words::mended;
-use super::{bound_cases, capture_cases, shift_cases, sum_cases, touch_cases, word_cases};
+use super::mends::mended;
+use super::{
+    block_cases, bound_cases, capture_cases, shift_cases, sum_cases, touch_cases, word_cases,
+};
 use crate::answer::buffers_of;
 use crate::case::{Asked, Case};
 use crate::graph::{Block, Comparison, Ending, Graph, Instruction, MAX_BLOCKS, MAX_REGISTERS};
@@ -109,8 +111,8 @@ fn graph_sweep() -> Vec<Case> {
     (0..2 + 3 * 40).chain([122, 155, 2_560, 2_561, 2_562]).map(change).collect()
 }
 
-/// Every word of P7's machine that may be read, and some that may not. Where a touch word is wrong
-/// by that, another case has the right one.
+/// Every word of P7's machine that may be read, and some that may not. Where a touch word or a block's
+/// word is wrong by that, another case has the right one.
 fn machine_sweep() -> Vec<Case> {
     let records = RECORDS_AT..RECORDS_AT + 2 * RECORD_WORDS + 3;
     let wires = WIRES_AT..WIRES_AT + 21 * 4;
@@ -198,5 +200,6 @@ pub fn cases() -> Vec<Case> {
     with_bounds(&mut cases);
     cases.extend(bound_cases::cases());
     cases.extend(shift_cases::cases());
+    cases.extend(block_cases::cases());
     with_captures(cases)
 }

@@ -1,17 +1,23 @@
 //! Patches on machine tables: refused ones, and ones that must be run.
 
 use super::arrival_damage::{another_arrival, bad_arrival, no_arrivals};
+use super::block_damage::wrong;
+use super::block_words::{absent, state_at, words_of};
+use super::mends::mended;
 use super::touch_damage::one_bit;
-use super::touch_words::{mended, touch_at};
+use super::touch_words::touch_at;
 use super::words;
 use crate::case::{Patch, MAX_PATCHES};
+use crate::graph::MAX_BLOCKS;
 use crate::machine_table::{
-    MACHINE_WORDS, RECORDS_AT, RECORD_WORDS, STARTERS_AT, WIRES_AT, WIRE_WORDS,
+    ARRIVALS_AT, BLOCK_STATES_AT, MACHINE_WORDS, RECORDS_AT, RECORD_WORDS, STARTERS_AT, WIRES_AT,
+    WIRE_WORDS,
 };
 use crate::random::Random;
 
 const MAX: u32 = u32::MAX;
 const ALL_WIRES: usize = 3_072;
+const FEW_BLOCKS: usize = 20;
 
 /// A table that synthesis made, and where its parts stand.
 pub struct Table<'a> {
@@ -33,6 +39,28 @@ impl Table<'_> {
 
     pub fn count(&self, state: usize) -> usize {
         self.words[record(state) + 1] as usize
+    }
+
+    /// The code of a wire, counted within its state.
+    pub fn code(&self, state: usize, wire: usize) -> u32 {
+        self.words[wire_at(self.first(state) + wire)]
+    }
+
+    /// The state of a block, if it is in one.
+    pub fn owner(&self, block: usize) -> Option<usize> {
+        let state = self.words[state_at(block)] as usize;
+        (state < self.states()).then_some(state)
+    }
+
+    fn blocks_of(&self, state: usize) -> usize {
+        (0..MAX_BLOCKS).filter(|&block| self.owner(block) == Some(state)).count()
+    }
+
+    /// A state with so few blocks that there is room to make each of them absent.
+    fn state_of_few(&self, random: &mut Random) -> Option<usize> {
+        let few = |&state: &usize| self.blocks_of(state) <= FEW_BLOCKS;
+        let states: Vec<usize> = (0..self.states()).filter(few).collect();
+        (!states.is_empty()).then(|| random.pick(&states))
     }
 
     fn end(&self) -> usize {
@@ -121,7 +149,8 @@ fn wire_range(random: &mut Random, table: &Table) -> Vec<Patch> {
 
 /// A state without wires whose first wire is past the last one; nothing else is wrong.
 fn empty_past_the_end(random: &mut Random, table: &Table) -> Vec<Patch> {
-    let state = table.state(random);
+    let any = table.state(random);
+    let state = table.state_of_few(random).unwrap_or(any);
     let first = random.pick(&[3_073, 3_073, 3_074, 4_096, 65_536, 2_147_483_648, MAX]);
     let mut patches = vec![(record(state) as u32, first), patch(record(state) + 1, 0)];
     patches.extend(register_record(random, state, table.registers()));
@@ -197,7 +226,7 @@ fn another_code(random: &mut Random, table: &Table) -> Vec<Patch> {
     vec![patch(at, random.between(1, 20))]
 }
 
-/// Kinds that are always refused, once their touch words are right.
+/// Kinds that are always refused, once their touch words and block words are right.
 pub const REFUSED: [Damage; 8] = [
     state_count, register_count, wire_range, empty_past_the_end, empty_past_the_end, sharing,
     unknown_code, bad_arrival,
@@ -205,9 +234,9 @@ pub const REFUSED: [Damage; 8] = [
 
 /// One of those that are refused, for any table whose N and R are right.
 pub fn refused(random: &mut Random, table: &Table) -> Vec<Patch> {
-    let kinds: [Damage; 8] = [
+    let kinds: [Damage; 11] = [
         state_count, state_count, register_count, register_count, wire_range, empty_past_the_end,
-        bad_next, one_bit,
+        bad_next, one_bit, wrong, wrong, wrong,
     ];
     random.pick(&kinds)(random, table)
 }
@@ -216,9 +245,9 @@ pub fn refused(random: &mut Random, table: &Table) -> Vec<Patch> {
 const MOSTLY_REFUSED: [Damage; 6] =
     [bad_operand, bad_operand, bad_next, sliding, fewer_registers, another_code];
 
-fn starters_and_blocks(random: &mut Random, _: &Table) -> Vec<Patch> {
+fn starters(random: &mut Random, _: &Table) -> Vec<Patch> {
     (0..3)
-        .map(|_| patch(random.between(STARTERS_AT, RECORDS_AT - 1), random.word() as usize))
+        .map(|_| patch(random.between(STARTERS_AT, BLOCK_STATES_AT - 1), random.word() as usize))
         .collect()
 }
 
@@ -246,8 +275,8 @@ fn next_from_r(random: &mut Random, table: &Table) -> Vec<Patch> {
 
 fn wires_of_no_state(random: &mut Random, table: &Table) -> Vec<Patch> {
     let free = wire_at(table.end());
-    let mut patches = vec![patch(free, 77), patch(MACHINE_WORDS - 1, 5)];
-    patches.push(patch(random.between(free, MACHINE_WORDS - 1), random.word() as usize));
+    let mut patches = vec![patch(free, 77), patch(ARRIVALS_AT - 1, 5)];
+    patches.push(patch(random.between(free, ARRIVALS_AT - 1), random.word() as usize));
     patches
 }
 
@@ -299,11 +328,14 @@ fn another_operand(random: &mut Random, table: &Table) -> Vec<Patch> {
 }
 
 /// More or fewer states; a record of zeros has no wires, and all its registers become register 0.
+/// Only a few blocks lose their states.
 fn another_n(random: &mut Random, table: &Table) -> Vec<Patch> {
     let n = table.states();
     let more = (n + 1).min(64);
     let any = random.between(n, 64);
-    vec![patch(0, random.pick(&[more, more, 64, (n - 1).max(1), 1, any]))]
+    let chosen = random.pick(&[more, more, 64, (n - 1).max(1), 1, any]);
+    let lost: usize = (chosen..n).map(|state| table.blocks_of(state)).sum();
+    vec![patch(0, if lost > FEW_BLOCKS { more } else { chosen })]
 }
 
 /// The added ones become register 0, which every touch word says; with 64 states there is no room.
@@ -325,6 +357,9 @@ fn moved_to_the_end(random: &mut Random, table: &Table) -> Vec<Patch> {
     let mut patches = vec![patch(record(state), to)];
     patches.extend(wires.map(|(i, &word)| patch(wire_at(to) + i, word as usize)));
     if patches.len() > MAX_PATCHES || to < table.end() {
+        if table.blocks_of(state) > FEW_BLOCKS {
+            return another_literal(random, table);
+        }
         patches = vec![patch(record(state), ALL_WIRES), patch(record(state) + 1, 0)];
         patches.extend(register_record(random, state, table.registers()));
     }
@@ -333,7 +368,8 @@ fn moved_to_the_end(random: &mut Random, table: &Table) -> Vec<Patch> {
 
 /// A state without wires inside, or at an end of, another's range; an added one if there is room.
 fn empty_inside(random: &mut Random, table: &Table) -> Vec<Patch> {
-    let (mut state, other) = (table.state(random), table.state(random));
+    let other = table.state(random);
+    let mut state = table.state_of_few(random).unwrap_or(other);
     let (first, count) = (table.first(other), table.count(other));
     let inside = first + random.below(count);
     let ends = [first, first + 1, first + count - 1, first + count, ALL_WIRES];
@@ -382,12 +418,16 @@ fn free_wires(random: &mut Random, at: usize, count: usize, registers: usize) ->
     patches
 }
 
-/// The first wires of a state replaced by any others, the rest given up.
+/// The first wires of a state replaced by any others, the rest given up, unless there are so many
+/// blocks that there would be no room for other arrivals.
 fn rewritten_state(random: &mut Random, table: &Table) -> Vec<Patch> {
     let state = table.state(random);
     let r = table.registers();
     let count = table.count(state).min(random.between(2, 9));
-    let mut patches = vec![patch(record(state) + 1, count)];
+    let mut patches = Vec::new();
+    if table.blocks_of(state) <= 7 {
+        patches.push(patch(record(state) + 1, count));
+    }
     patches.extend(free_wires(random, wire_at(table.first(state)), count, r));
     for slot in 2..3 + r {
         let reference = random.below(r + count);
@@ -399,20 +439,21 @@ fn rewritten_state(random: &mut Random, table: &Table) -> Vec<Patch> {
 }
 
 fn past_the_table(random: &mut Random, _: &Table) -> Vec<Patch> {
-    (0..3).map(|_| patch(random.between(MACHINE_WORDS, 13_784), random.word() as usize)).collect()
+    (0..3).map(|_| patch(random.between(MACHINE_WORDS, 13_848), random.word() as usize)).collect()
 }
 
-/// Kinds that are never refused, once their touch words are right.
+/// Kinds that are never refused, once their touch words and block words are right.
 pub const KEPT: [Damage; 29] = [
-    another_arrival, no_arrivals, input_wire, input_wire, input_wire, starters_and_blocks,
-    records_from_n, next_from_r, wires_of_no_state, unused_operands, another_literal,
-    another_literal, another_next, another_operand, another_n, more_registers, moved_to_the_end,
-    moved_to_the_end, empty_inside, empty_inside, empty_inside, empty_inside, empty_inside,
-    added_state, added_state, rewritten_state, rewritten_state, rewritten_state, past_the_table,
+    another_arrival, no_arrivals, input_wire, input_wire, input_wire, starters, records_from_n,
+    next_from_r, wires_of_no_state, unused_operands, another_literal, another_literal,
+    another_next, another_operand, another_n, more_registers, moved_to_the_end, moved_to_the_end,
+    empty_inside, empty_inside, empty_inside, empty_inside, empty_inside, added_state, added_state,
+    rewritten_state, rewritten_state, rewritten_state, past_the_table,
 ];
 
-/// Patches for a table that synthesis made. Where they change next references, the touch words are
-/// mostly made right again, so that the table is judged and run by the rest of it.
+/// Patches for a table that synthesis made. Where they change next references, states or their wires,
+/// the touch words and block words are mostly made right again, so that the table is judged and run
+/// by the rest of it.
 pub fn patches(random: &mut Random, words: &[u32]) -> Vec<Patch> {
     let table = Table { words };
     let kinds: &[Damage] = match random.below(100) {
@@ -431,14 +472,39 @@ pub fn patches(random: &mut Random, words: &[u32]) -> Vec<Patch> {
     patches
 }
 
-/// A small machine written by patches alone into a buffer that synthesis
-/// left as it was: every word not written must go unread.
+/// Blocks of a machine of states with so many wires: the first, some others and the last, each in a
+/// state that has a wire, or absent.
+fn bare_blocks(random: &mut Random, wires: &[usize]) -> Vec<Patch> {
+    let some = random.between(1, 63);
+    let mut blocks = vec![0];
+    blocks.extend([some, 63].into_iter().filter(|_| random.percent(40)));
+    let mut words = |block| {
+        let state = random.below(wires.len());
+        match wires[state] > 0 && random.percent(80) {
+            true => words_of(block, state, 16 + random.below(wires[state])),
+            false => absent(block),
+        }
+    };
+    blocks.into_iter().flat_map(&mut words).collect()
+}
+
+/// Words in places that are not read.
+fn unread_words(random: &mut Random, states: usize) -> Vec<Patch> {
+    let starter = random.between(STARTERS_AT, BLOCK_STATES_AT - 1);
+    let record = random.between(record(states), WIRES_AT - 1);
+    let wire = random.between(wire_at(100), ARRIVALS_AT - 1);
+    [starter, record, wire].map(|at| patch(at, random.word() as usize)).to_vec()
+}
+
+/// A small machine written by patches over one of a single block: every other word that is not of a
+/// block must go unread.
 pub fn bare_machine(random: &mut Random) -> Vec<Patch> {
     let (states, r) = (random.between(1, 3), random.between(1, 4));
     let mut patches = vec![patch(0, states), patch(1, r)];
-    let mut first = random.below(20);
+    let (mut first, mut wires) = (random.below(20), Vec::new());
     for state in 0..states {
         let count = random.between(0, 3);
+        wires.push(count);
         patches.push(patch(record(state), first));
         patches.push(patch(record(state) + 1, count));
         let mut touched = 0;
@@ -454,6 +520,8 @@ pub fn bare_machine(random: &mut Random) -> Vec<Patch> {
         patches.extend(free_wires(random, wire_at(first), count, r));
         first += count + random.below(3);
     }
+    patches.extend(bare_blocks(random, &wires));
+    patches.extend(unread_words(random, states));
     patches.truncate(MAX_PATCHES);
     patches
 }

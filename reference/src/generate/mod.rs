@@ -2,6 +2,9 @@
 //! which bounds.
 
 pub mod arrival_damage;
+pub mod block_cases;
+pub mod block_damage;
+pub mod block_words;
 pub mod bound_cases;
 mod bound_damage;
 pub mod bound_words;
@@ -16,6 +19,7 @@ pub mod graph_damage;
 pub mod graphs;
 mod lists;
 pub mod machine_damage;
+pub mod mends;
 mod questions;
 mod row;
 mod runs;
@@ -53,10 +57,11 @@ enum Aim {
     Bounds,
     Several,
     Shifts,
+    Blocks,
 }
 
 fn aim(random: &mut Random) -> Aim {
-    match random.below(1_064) {
+    match random.below(1_164) {
         0..=79 => Aim::Valid,
         80..=209 => Aim::Text,
         210..=220 => Aim::LongText,
@@ -69,13 +74,25 @@ fn aim(random: &mut Random) -> Aim {
         680..=733 => Aim::Touches,
         734..=881 => Aim::Bounds,
         882..=999 => Aim::Several,
-        _ => Aim::Shifts,
+        1_000..=1_063 => Aim::Shifts,
+        _ => Aim::Blocks,
     }
+}
+
+/// Of the blocks only the first is reached, so that the machine has one; seldom there is no graph.
+fn bare_text(random: &mut Random) -> Vec<u8> {
+    if random.percent(15) {
+        return texts::damaged(random);
+    }
+    let (blocks, registers) = (random.pick(&[1, 1, 2, 9]), random.between(1, 16));
+    let blocks: Vec<String> = (0..blocks).map(|block| format!("block,{block}\nhalt\n")).collect();
+    format!("graph,{},{registers}\n{}", blocks.len(), blocks.concat()).into_bytes()
 }
 
 fn text(random: &mut Random, aim: Aim) -> Vec<u8> {
     match aim {
-        Aim::Text | Aim::BareMachine => texts::damaged(random),
+        Aim::Text => texts::damaged(random),
+        Aim::BareMachine => bare_text(random),
         Aim::LongText => texts::long_text(random),
         Aim::Valid => print(&graphs::graph(random)).into_bytes(),
         Aim::Sums => print(&graphs::sum_graph(random)).into_bytes(),
@@ -114,7 +131,7 @@ fn buffers(random: &mut Random, aim: Aim, case: &mut Case) {
     };
     if random.percent(20) {
         case.graph_length = random.pick(&[2_563, 2_570, 2_600]);
-        case.machine_length = random.pick(&[13_699, 13_698, 13_764]);
+        case.machine_length = random.pick(&[13_763, 13_762, 13_828]);
     }
     if aim == Aim::Buffers {
         short_buffers(random, case);
@@ -124,8 +141,9 @@ fn buffers(random: &mut Random, aim: Aim, case: &mut Case) {
     }
 }
 
-/// Lengths of short machine buffers; 13,634 words were a table before records had touch words.
-pub const SHORT_MACHINES: [u32; 8] = [13_697, 13_697, 13_634, 10_000, 1_410, 2, 1, 0];
+/// Lengths of short machine buffers; 13,698 words were a table before it had the arrivals of blocks,
+/// 13,634 before records had touch words.
+pub const SHORT_MACHINES: [u32; 9] = [13_761, 13_761, 13_698, 13_698, 13_634, 1_410, 2, 1, 0];
 
 fn short_buffers(random: &mut Random, case: &mut Case) {
     match random.below(6) {
@@ -134,12 +152,12 @@ fn short_buffers(random: &mut Random, case: &mut Case) {
         2 | 3 => case.registers.truncate(random.pick(&[15, 0, 1, 8, 15])),
         4 => {
             case.graph_length = 2_561;
-            case.machine_length = 13_697;
+            case.machine_length = 13_761;
         }
         _ => {
             case.registers.truncate(15);
             case.graph_length = random.pick(&[2_561, 2_562]);
-            case.machine_length = random.pick(&[13_697, 13_698]);
+            case.machine_length = random.pick(&[13_761, 13_762]);
         }
     }
 }
@@ -160,6 +178,9 @@ fn damage(random: &mut Random, aim: Aim, case: &mut Case) {
     if aim == Aim::MachineTable && made {
         case.machine_patches = machine_damage::patches(random, &machine);
     }
+    if aim == Aim::Blocks && made && random.percent(85) {
+        case.machine_patches = block_damage::patches(random, &machine);
+    }
     if aim == Aim::Touches && made {
         case.machine_patches = touch_damage::patches(random, &machine);
     }
@@ -173,7 +194,7 @@ fn damage(random: &mut Random, aim: Aim, case: &mut Case) {
             case.machine_patches = bound_damage::patches(random, &machine, state);
         }
     }
-    if aim == Aim::BareMachine && !made {
+    if aim == Aim::BareMachine {
         case.machine_patches = machine_damage::bare_machine(random);
         if random.percent(15) {
             case.machine_patches.pop();

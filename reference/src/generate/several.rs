@@ -1,13 +1,13 @@
 //! Cases with several faults at once, so that every two refusals of a call meet.
 
 use super::machine_damage::{self, Table};
-use super::{faulty_lines, graph_damage, graphs, lists, words, SHORT_MACHINES};
+use super::{block_words, faulty_lines, graph_damage, graphs, lists, words, SHORT_MACHINES};
 use crate::answer::{buffers_of, patch};
 use crate::case::{Case, Patch, MAX_PATCHES, MAX_STARTERS};
 use crate::graph::Graph;
 use crate::graph_table::{self, ENDING_OFFSET};
 use crate::grouping::group;
-use crate::machine_table::{self, MACHINE_WORDS};
+use crate::machine_table::{self, BLOCK_STATES_AT, MACHINE_WORDS, RECORDS_AT};
 use crate::parse::parse;
 use crate::print::print;
 use crate::random::Random;
@@ -89,12 +89,19 @@ fn spoil_graph(random: &mut Random, wishes: Wishes, case: &mut Case) {
     };
 }
 
+/// Zeros, but that all blocks are absent.
+fn without_blocks() -> Vec<u32> {
+    let mut table = vec![0; MACHINE_WORDS];
+    table[BLOCK_STATES_AT..RECORDS_AT].fill(block_words::ABSENT as u32);
+    table
+}
+
 /// A small machine in place of what synthesis made or left, with an `in` or without.
 fn small_machine(random: &mut Random, reads_words: bool) -> Vec<Patch> {
     let mut patches = Vec::new();
     for _ in 0..12 {
         patches = machine_damage::bare_machine(random);
-        let mut table = vec![0; MACHINE_WORDS];
+        let mut table = without_blocks();
         patch(&mut table, &patches);
         if reads_words {
             patches.truncate(MAX_PATCHES - 4);
@@ -122,7 +129,8 @@ fn spoil_machine(random: &mut Random, wishes: Wishes, case: &mut Case) {
         Some(_) if wishes.reads_words && random.percent(60) => {
             machine_damage::input_wire(random, &Table { words: &table })
         }
-        _ => small_machine(random, wishes.reads_words),
+        Some(_) => block_words::mended(&table, small_machine(random, wishes.reads_words)),
+        None => small_machine(random, wishes.reads_words),
     };
     if wishes.refused {
         let (_, mut words) = buffers_of(case);

@@ -1,9 +1,11 @@
 //! Cases of questions about registers that do not depend on the seed.
 
+use super::block_words;
 use super::examples::P7;
 use super::fixed::own_starters;
 use super::machine_damage::record;
-use super::touch_words::{mended, touch_at};
+use super::mends::mended;
+use super::touch_words::touch_at;
 use crate::answer::buffers_of;
 use crate::case::{Asked, Case, Patch};
 use crate::machine_table::{NEXT_REGISTERS_AT, WIRES_AT};
@@ -127,8 +129,10 @@ fn references() -> Vec<Case> {
 fn counts() -> Vec<Case> {
     let mut cases = Vec::new();
     for (states, register) in [(1, 0), (2, 0), (2, 1), (3, 1), (3, 2), (3, 3)] {
-        cases.push(patched(FOUR, (states - 1, register), vec![(0, states)]));
-        cases.push(patched(FOUR, (states, register), vec![(0, states)]));
+        let (_, made) = buffers_of(&case(FOUR, 0, 0));
+        let fewer = block_words::mended(&made, vec![(0, states)]);
+        cases.push(patched(FOUR, (states - 1, register), fewer.clone()));
+        cases.push(patched(FOUR, (states, register), fewer));
     }
     for asked in [(4, 0), (4, 1), (5, 1)] {
         cases.extend(both(FOUR, asked, &[(0, 5)]));
@@ -152,10 +156,10 @@ fn counts() -> Vec<Case> {
 /// Short buffers, exact ones and longer ones, asked about a state that there is and one that there
 /// is not; words behind the table are not read.
 fn lengths() -> Vec<Case> {
-    let lengths = [13_697, 13_634, 13_698, 13_699, 13_764, 1_410, 2, 1, 0];
+    let lengths = [13_761, 13_698, 13_634, 13_762, 13_763, 13_828, 1_410, 2, 1, 0];
     let of = |length| {
         [(3, 2), (9, 2)].map(|asked| {
-            let mut case = patched(FOUR, asked, vec![(13_698, 7), (13_763, u32::MAX)]);
+            let mut case = patched(FOUR, asked, vec![(13_762, 7), (13_827, u32::MAX)]);
             case.machine_length = length;
             case
         })

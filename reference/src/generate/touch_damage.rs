@@ -2,7 +2,8 @@
 //! one wrong, and other references whose touch words are right.
 
 use super::machine_damage::{patch, record, Damage, Table};
-use super::touch_words::{mended, touch_at, touch_word};
+use super::mends::mended;
+use super::touch_words::{touch_at, touch_word};
 use crate::case::{Patch, MAX_PATCHES};
 use crate::machine_table::NEXT_REGISTERS_AT;
 use crate::random::Random;

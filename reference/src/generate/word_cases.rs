@@ -2,6 +2,8 @@
 
 use super::examples::{P11, P12, P7, P9};
 use super::fixed::own_starters;
+use super::mends::mended;
+use crate::answer::buffers_of;
 use crate::case::Case;
 use crate::machine_table::WIRES_AT;
 
@@ -102,7 +104,8 @@ fn machine_tables() -> Vec<Case> {
     let at = (WIRES_AT + 4 * 5) as u32;
     let free = (WIRES_AT + 4 * 20) as u32;
     let wild = vec![(at, 20), (at + 1, u32::MAX), (at + 2, 33), (at + 3, 15)];
-    let kinds = [vec![(at, 20)], wild, vec![(at, 21)], vec![(free, 20)], vec![(at, 20), (0, 1)]];
+    let fewer = mended(&buffers_of(&Case::plain(P7.as_bytes())).1, vec![(at, 20), (0, 1)]);
+    let kinds = [vec![(at, 20)], wild, vec![(at, 21)], vec![(free, 20)], fewer];
     let patched = |patches| {
         let mut case = case(P7, &RATES, 6);
         case.registers[..2].copy_from_slice(&[12, 18]);

@@ -1,5 +1,5 @@
-//! Demand 3 executed, on equal words: whole machine runs against the graph's own runs, flags
-//! included.
+//! Demand 3 executed, on equal words: whole machine runs against the graph's own runs, flags and
+//! numbers of blocks included.
 
 mod common;
 
@@ -10,8 +10,7 @@ use reference::graph_table;
 use reference::grouping::{group, Grouping};
 use reference::machine_table::MACHINE_WORDS;
 use reference::operations::{
-    run_graph, run_graph_with_words, run_machine, run_machine_with_words, synthesise, RunAnswer,
-    WordsRunAnswer,
+    self, run_graph, run_graph_with_words, synthesise, MachineAnswer, RunAnswer, WordsRunAnswer,
 };
 use reference::random::Random;
 use reference::run::{graph_step, Step};
@@ -60,7 +59,7 @@ impl Made {
         let size = grouping.blocks_of(state).len();
         for blocks_run in 1..=size {
             assert_eq!(grouping.state_of[&at], state, "a cycle leaves its state");
-            let Step { next, over } = graph_step(&self.graph, at, &mut registers, word);
+            let Step { next, over, .. } = graph_step(&self.graph, at, &mut registers, word);
             flag |= over;
             match next {
                 Some(block) if !grouping.starters.contains(&block) => at = block,
@@ -108,13 +107,15 @@ impl Made {
     fn check_cycles(&self, begin: &Begin, moments: &[Moment], k: usize) {
         let mut registers = begin.registers.to_vec();
         let start = begin.state as u32;
+        let (table, words) = (&self.machine, begin.words);
         let answer =
-            run_machine_with_words(&self.machine, &mut registers, start, k as u32, begin.words);
-        assert_eq!(answer, self.expected(moments, k));
+            operations::run_machine_with_words(table, &mut registers, start, k as u32, words);
+        assert_eq!(answer.run, self.expected(moments, k));
         let passed = &moments[..=k.min(moments.len() - 1)];
+        assert_eq!(answer.blocks, blocks_run(passed));
         assert_eq!(registers, self.whole(&passed[passed.len() - 1], begin));
-        self.check_graph_run(begin, passed, answer.outcome);
-        if !self.graph.reads_words() && answer.outcome != DRY {
+        self.check_graph_run(begin, passed, answer.run.outcome);
+        if !self.graph.reads_words() && answer.run.outcome != DRY {
             self.check_without_words(begin, k, answer, &registers);
         }
     }
@@ -126,7 +127,7 @@ impl Made {
 
     /// The graph's run on the same words: with the blocks of those cycles, one less, and more.
     fn check_graph_run(&self, begin: &Begin, moments: &[Moment], outcome: u32) {
-        let blocks: usize = moments.iter().map(|moment| moment.blocks_run).sum();
+        let blocks = blocks_run(moments);
         let last = &moments[moments.len() - 1];
         let start = self.starters[begin.state];
         let run = |budget: u32| {
@@ -158,14 +159,20 @@ impl Made {
         &self,
         begin: &Begin,
         k: usize,
-        on_words: WordsRunAnswer,
+        on_words: MachineAnswer<WordsRunAnswer>,
         after: &[u32],
     ) {
         let mut registers = begin.registers.to_vec();
-        let answer = run_machine(&self.machine, &mut registers, begin.state as u32, k as u32);
-        assert_eq!(as_with_words(answer), on_words);
+        let start = begin.state as u32;
+        let answer = operations::run_machine(&self.machine, &mut registers, start, k as u32);
+        assert_eq!((as_with_words(answer.run), answer.blocks), (on_words.run, on_words.blocks));
         assert_eq!(registers, after);
     }
+}
+
+/// The blocks that the graph runs up to the last of these arrivals.
+fn blocks_run(moments: &[Moment]) -> u64 {
+    moments.iter().map(|moment| moment.blocks_run as u64).sum()
 }
 
 /// The answer of a run without words as that of one with them.

@@ -4,6 +4,7 @@ mod common;
 
 use reference::answer::{answer, digest, Answer};
 use reference::case::{read_cases, Asked, Bounds, Captures, Case};
+use reference::generate::examples::P7;
 use reference::generate::sum_cases::one;
 use reference::generate::touch_cases::FOUR;
 use reference::generate::{cases, fixed};
@@ -123,7 +124,7 @@ fn runs_go_dry_at_many_counts() {
     for (_, answer) in stored() {
         let dry = |ran: WordsRunAnswer| (ran.outcome == 2).then_some(ran.count);
         graph.extend(dry(answer.run_graph_with_words.answer));
-        machine.extend(dry(answer.run_machine_with_words.answer));
+        machine.extend(dry(answer.run_machine_with_words.answer.run));
     }
     for counts in [graph, machine] {
         assert!((0..8).all(|count| counts.contains(&count)), "{counts:?}");
@@ -132,7 +133,7 @@ fn runs_go_dry_at_many_counts() {
 }
 
 /// Where both runs of a case begin at one starter on the machine's starters and both go dry, they
-/// do so with equal registers and flags, as tables without patches must.
+/// do so with equal registers, flags and numbers of blocks, as tables without patches must.
 #[test]
 fn many_cases_go_dry_together() {
     let mut together = 0;
@@ -145,11 +146,13 @@ fn many_cases_go_dry_together() {
         let paired = starters.get(case.start_state as usize) == Some(&(case.start_block as usize));
         let patched = !case.graph_patches.is_empty() || !case.machine_patches.is_empty();
         let (graph, machine) = (answer.run_graph_with_words, answer.run_machine_with_words);
-        let dry = graph.answer.outcome == 2 && machine.answer.outcome == 2;
+        let ran = machine.answer.run;
+        let dry = graph.answer.outcome == 2 && ran.outcome == 2;
         if paired && dry && !patched && list == starters.iter().copied().collect() {
             assert_eq!(graph.registers, machine.registers);
-            assert_eq!(graph.answer.flag, machine.answer.flag);
-            assert_eq!(graph.answer.next as usize, starters[machine.answer.next as usize]);
+            assert_eq!(graph.answer.flag, ran.flag);
+            assert_eq!(u64::from(graph.answer.count), machine.answer.blocks);
+            assert_eq!(graph.answer.next as usize, starters[ran.next as usize]);
             together += 1;
         }
     }
@@ -168,7 +171,7 @@ fn all_fixed_cases_are_stored() {
 fn stored_cases_stay_small() {
     let mut stream = Vec::new();
     stored().iter().for_each(|(case, _)| case.append_to(&mut stream));
-    assert!(stream.len() < 5_500_000, "{}", stream.len());
+    assert!(stream.len() < 7_000_000, "{}", stream.len());
 }
 
 #[test]
@@ -179,9 +182,9 @@ fn digests() {
 }
 
 #[test]
-fn answer_lines_have_forty_seven_fields() {
+fn answer_lines_have_forty_nine_fields() {
     for case in cases(8, 40) {
-        assert_eq!(answer(&case).line().split(',').count(), 47);
+        assert_eq!(answer(&case).line().split(',').count(), 49);
     }
 }
 
@@ -192,7 +195,7 @@ fn captures_in_the_line() {
     let end = |case: &Case| {
         let line = answer(case).line();
         let fields: Vec<&str> = line.split(',').collect();
-        fields[32..40].join(",")
+        fields[34..42].join(",")
     };
     let listed = format!("12,{}", digest(b"refused,3,1\n"));
     assert_eq!(end(&case), format!("{listed},0,0,0,0,0,0"));
@@ -207,7 +210,8 @@ fn captures_in_the_line() {
     assert_eq!(end(&case), format!("{listed},18,2,2,0,0,0"));
 }
 
-/// In each of the four runs the flag stands behind next and before the digest of the registers.
+/// In each of the four runs the flag stands behind next; in a machine's the blocks are behind it; the
+/// last is the digest of the registers.
 #[test]
 fn flags_in_the_line() {
     let mut case = Case::plain(one("add").as_bytes());
@@ -217,10 +221,43 @@ fn flags_in_the_line() {
     let fields: Vec<&str> = line.split(',').collect();
     case.registers[2] = 2_147_483_648;
     let registers = digest(&case.registers).to_string();
-    for (run, flag) in ["1", "0", "1", "0"].into_iter().enumerate() {
-        // Each run halts in its first block or cycle; in the machine the sum counts where r3 does.
-        let expected = ["0", "1", "1", "255", flag, &registers];
-        assert_eq!(fields[8 + 6 * run..14 + 6 * run], expected);
+    // Each run halts in its first block or cycle; in the machine the sum counts where r3 does.
+    let of_graph = ["0", "1", "1", "255", "1", &registers];
+    let of_machine = ["0", "1", "1", "255", "0", "1", &registers];
+    assert_eq!(fields[8..14], of_graph);
+    assert_eq!(fields[14..21], of_machine);
+    assert_eq!(fields[21..27], of_graph);
+    assert_eq!(fields[27..34], of_machine);
+}
+
+/// The blocks of several cycles, and of runs that are refused.
+#[test]
+fn blocks_in_the_line() {
+    let mut case = Case::plain(P7.as_bytes());
+    case.registers[..2].copy_from_slice(&[12, 18]);
+    case.words.truncate(2);
+    let mut blocks = |budget, patches: &[(u32, u32)]| {
+        (case.cycle_budget, case.machine_patches) = (budget, patches.to_vec());
+        let line = answer(&case).line();
+        let fields: Vec<&str> = line.split(',').collect();
+        [fields[14], fields[19], fields[27], fields[32]].join(",")
+    };
+    assert_eq!(blocks(0, &[]), "0,0,0,0");
+    assert_eq!(blocks(1, &[]), "0,1,0,1");
+    assert_eq!(blocks(9, &[]), "0,9,0,4");
+    assert_eq!(blocks(9, &[(13_698, 0)]), "10,0,10,0");
+}
+
+/// Each machine's run ends in each way with fewer blocks than cycles, as many and more.
+#[test]
+fn every_kind_of_block_count_is_hit() {
+    let stats = Stats::of(&common::stored_cases());
+    for run in Operation::ALL {
+        for (end, kind) in run.blocks() {
+            let hits = stats.blocks(run, end, kind);
+            println!("{run:?} {end} {kind}: {hits}");
+            assert!(hits >= 20, "{run:?} {end} {kind}: {hits}");
+        }
     }
 }
 
@@ -234,14 +271,16 @@ fn questions_in_the_line() {
         case.machine_patches = patches.to_vec();
         let line = answer(&case).line();
         let fields: Vec<&str> = line.split(',').collect();
-        fields[40..44].join(",")
+        fields[42..46].join(",")
     };
     assert_eq!(end(0, 1, &[]), "0,0,0,2");
     assert_eq!(end(3, 1, &[]), "0,1,0,2");
     assert_eq!(end(3, 3, &[]), "0,0,0,255");
     assert_eq!(end(4, 0, &[]), "9,0,0,1");
     assert_eq!(end(4, 0, &[(1, 17)]), "10,0,10,0");
-    assert_eq!(end(0, 0, &[(0, 3)]), "0,0,0,1");
+    assert_eq!(end(0, 0, &[(0, 3)]), "10,0,10,0");
+    let gone: Vec<(u32, u32)> = (3..7).flat_map(|n| [(66 + n, 255), (13_698 + n, 0)]).collect();
+    assert_eq!(end(0, 0, &[&[(0, 3)], &gone[..]].concat()), "0,0,0,1");
 }
 
 /// The last three fields are those of the bounds: number, digests of lowest and highest after.
@@ -254,7 +293,7 @@ fn bounds_end_the_line() {
         case.bounds = Bounds { lowest: words(lowest), highest: words(highest) };
         let line = answer(&case).line();
         let fields: Vec<&str> = line.split(',').collect();
-        fields[44..].join(",")
+        fields[46..].join(",")
     };
     let line = |number: u32, lowest: &[i32], highest: &[i32]| {
         let words = |list: &[i32]| list.iter().map(|&value| value as u32).collect::<Vec<u32>>();
@@ -290,10 +329,10 @@ fn questions_and_bounds_end_the_case() {
     }
 }
 
-/// A machine buffer of a case has at most 13,764 words.
+/// A machine buffer of a case has at most 13,828 words.
 #[test]
 fn longest_machine_buffer() {
-    for (length, read) in [(13_764, true), (13_765, false)] {
+    for (length, read) in [(13_828, true), (13_829, false)] {
         let mut case = Case::plain(b"");
         case.machine_length = length;
         let mut stream = Vec::new();
@@ -353,9 +392,9 @@ fn runs_are_short() {
     for (_, answer) in stored() {
         let counts = [
             answer.run_graph.answer.count,
-            answer.run_machine.answer.count,
+            answer.run_machine.answer.run.count,
             answer.run_graph_with_words.answer.count,
-            answer.run_machine_with_words.answer.count,
+            answer.run_machine_with_words.answer.run.count,
         ];
         assert!(counts.iter().all(|&count| count <= 20_000), "{counts:?}");
     }

@@ -2,6 +2,7 @@
 
 mod common;
 
+use common::blocks::mend_blocks;
 use common::*;
 use reference::generate::examples::{
     one_comparison, one_instruction, P10, P11, P12, P7, P9, SEVEN,
@@ -9,8 +10,8 @@ use reference::generate::examples::{
 use reference::graph_table::GRAPH_WORDS;
 use reference::grouping::group;
 use reference::listing::listing;
-use reference::machine_table::{MACHINE_WORDS, RECORDS_AT, WIRES_AT};
-use reference::operations::{run_machine, synthesise};
+use reference::machine_table::{ARRIVALS_AT, MACHINE_WORDS, RECORDS_AT, WIRES_AT};
+use reference::operations::synthesise;
 
 #[test]
 fn p1_empty_text() {
@@ -97,8 +98,8 @@ fn p7_starters_and_listing() {
     assert_eq!(listing(P7.as_bytes()), "states,2,20\n0,0,1,2\n1,1,5,18\n");
 }
 
-/// The wires of P7, worked out by hand from paper 01 and, in the two subs, from R-2; and the touch
-/// words of R-4: state 0 keeps both registers, state 1 may change both.
+/// The wires of P7, worked out by hand from paper 01 and, in the two subs, from R-2; the touch words
+/// of R-4: state 0 keeps both registers, state 1 may change both; and the arrivals of R-7.
 #[test]
 fn p7_wires() {
     let wires: [[u32; 4]; 20] = [
@@ -134,6 +135,8 @@ fn p7_wires() {
     table.push(3);
     table.resize(WIRES_AT, 0);
     table.extend(wires.iter().flatten());
+    table.resize(ARRIVALS_AT, 0);
+    table.extend([16, 16, 18, 21, 22, 19]);
     table.resize(MACHINE_WORDS, 0);
     assert_eq!(machine_table_of(P7), table);
 }
@@ -155,7 +158,8 @@ fn equal_targets_join_with_themselves() {
     ];
     let flat: Vec<u32> = wires.iter().flatten().copied().collect();
     assert_eq!(machine[WIRES_AT..WIRES_AT + 32], flat[..]);
-    assert_eq!(machine[WIRES_AT + 32..], vec![0; MACHINE_WORDS - WIRES_AT - 32][..]);
+    assert_eq!(machine[WIRES_AT + 32..ARRIVALS_AT], vec![0; ARRIVALS_AT - WIRES_AT - 32][..]);
+    assert_eq!(machine[ARRIVALS_AT..ARRIVALS_AT + 3], [16, 21, 0]);
     assert_eq!(machine[RECORDS_AT..RECORDS_AT + 4], [0, 8, 23, 22]);
 }
 
@@ -255,6 +259,7 @@ fn registers_swap_in_one_cycle() {
     table[RECORDS_AT..RECORDS_AT + 5].copy_from_slice(&[0, 1, 16, 1, 0]);
     table[RECORDS_AT + 19] = 3;
     table[WIRES_AT..WIRES_AT + 4].copy_from_slice(&[1, 0, 0, 0]);
+    mend_blocks(&mut table);
     let mut registers = registers(&[3, 8]);
     assert_eq!(run_machine(&table, &mut registers, 0, 3), spent(3, 0));
     assert_eq!(registers[..2], [8, 3]);

@@ -29,9 +29,9 @@ impl Stored {
     /// The trace of each of the four runs that is not refused, with the flag answered.
     fn traces(&self) -> [Option<(Trace, bool)>; 4] {
         let Answer { run_graph, run_machine, .. } = &self.answer;
-        let (graph, machine) = (run_graph.answer, run_machine.answer);
+        let (graph, machine) = (run_graph.answer, run_machine.answer.run);
         let graph_words = self.answer.run_graph_with_words.answer;
-        let machine_words = self.answer.run_machine_with_words.answer;
+        let machine_words = self.answer.run_machine_with_words.answer.run;
         let (case, words) = (&self.case, Some(&self.case.words[..]));
         let on_graph = |words| graph_trace(&self.graph, case, words);
         let on_machine = |words| machine_trace(&self.machine, case, words);

@@ -10,9 +10,7 @@ use reference::generate::sum_cases::{
 use reference::generate::word_cases::SUM;
 use reference::graph::{Binary, Comparison};
 use reference::machine_table::{MACHINE_WORDS, RECORDS_AT, RECORD_WORDS, WIRES_AT};
-use reference::operations::{
-    run_graph, run_graph_with_words, run_machine, run_machine_with_words, RunAnswer, WordsRunAnswer,
-};
+use reference::operations::{run_graph, run_graph_with_words, RunAnswer, WordsRunAnswer};
 
 const MOST: u32 = 2_147_483_647;
 const LEAST: u32 = 2_147_483_648;

@@ -2,26 +2,27 @@
 
 mod common;
 
+use common::blocks::mend_blocks;
 use common::touch::mend;
 use common::*;
 use reference::answer::patch;
 use reference::case::MAX_PATCHES;
 use reference::generate::examples::P7;
 use reference::generate::machine_damage::{Damage, Table, KEPT, REFUSED};
-use reference::generate::touch_damage::{RIGHT, WRONG};
-use reference::generate::touch_words::mended;
+use reference::generate::mends::mended;
+use reference::generate::{block_damage, touch_damage};
 use reference::machine_table::{self, MACHINE_WORDS, RECORDS_AT, RECORD_WORDS, WIRES_AT};
-use reference::operations::{run_machine, run_machine_with_words};
 use reference::random::Random;
 use reference::synthesis::synthesise;
 
-/// P7 on 12 and 18 with these words changed, and touch words that are right again.
+/// P7 on 12 and 18 with these words changed, and touch words and words of blocks that are right again.
 fn run_changed(patches: &[(usize, u32)]) -> (u32, Vec<u32>) {
     let mut table = machine_table_of(P7);
     for &(at, word) in patches {
         table[at] = word;
     }
     mend(&mut table);
+    mend_blocks(&mut table);
     let mut words = registers(&[12, 18]);
     let answer = run_machine(&table, &mut words, 0, 100);
     if answer.number != 0 {
@@ -158,9 +159,10 @@ fn code_20() {
     let mut table = machine_table_of(P7);
     wild.iter().for_each(|&(at, word)| table[at] = word);
     // With one state the wire belongs to none that can be run.
-    table[0] = 1;
-    assert_eq!(run_machine(&table, &mut registers(&[12, 18]), 0, 9), halted(1));
-    table[0] = 2;
+    let mut alone = table.clone();
+    alone[0] = 1;
+    mend_blocks(&mut alone);
+    assert_eq!(run_machine(&alone, &mut registers(&[12, 18]), 0, 9), halted(1));
     // Wire 5 says whether state 1 goes on to block 5, so a nonzero word halts it.
     let run = |words: &[u32]| {
         let mut registers = registers(&[12, 18]);
@@ -173,10 +175,10 @@ fn code_20() {
 
 #[test]
 fn words_not_read() {
-    is_unread(&[(2, 77), (3, u32::MAX), (65, 1), (66, 9), (129, u32::MAX)]);
+    is_unread(&[(2, 77), (3, u32::MAX), (65, 1)]);
     is_unread(&[(STATE_2, u32::MAX), (STATE_2 + 1, 5), (STATE_2 + 2, 99), (WIRES_AT - 1, 9)]);
     is_unread(&[(STATE_1 + 5, 99), (STATE_1 + 18, u32::MAX), (RECORDS_AT + 5, 15)]);
-    is_unread(&[(wire(20), 99), (MACHINE_WORDS - 1, 3)]);
+    is_unread(&[(wire(20), 99), (wire(3_072) - 1, 3)]);
     is_unread(&[(wire(0) + 2, 99), (wire(0) + 3, 99), (wire(3) + 3, 99), (wire(8) + 3, 99)]);
 }
 
@@ -190,6 +192,8 @@ fn next_states_not_below_n_halt() {
     }
     let mut table = machine_table_of(P7);
     table[0] = 1;
+    assert_eq!(run_machine(&table, &mut registers(&[12, 18]), 1, 9), refused(10));
+    mend_blocks(&mut table);
     assert_eq!(run_machine(&table, &mut registers(&[12, 18]), 0, 9), halted(1));
     assert_eq!(run_machine(&table, &mut registers(&[12, 18]), 1, 9), refused(9));
 }
@@ -199,10 +203,11 @@ fn next_states_not_below_n_halt() {
 fn a_halting_cycle_takes_its_registers() {
     let mut table = vec![u32::MAX; MACHINE_WORDS];
     (table[0], table[1]) = (1, 2);
+    mend_blocks(&mut table);
     table[RECORDS_AT..RECORDS_AT + 5].copy_from_slice(&[3_070, 2, 17, 17, 16]);
     table[RECORDS_AT + 19] = 3;
     table[wire(3_070)..wire(3_070) + 3].copy_from_slice(&[18, 0, 1]);
-    table[wire(3_071)..].copy_from_slice(&[19, 16, 1, 0]);
+    table[wire(3_071)..wire(3_072)].copy_from_slice(&[19, 16, 1, 0]);
     let mut words = registers(&[0xF0F0, 0xFF00, 5]);
     assert_eq!(run_machine(&table, &mut words, 0, 7), halted(1));
     assert_eq!(words, registers(&[0xFF00, 0x00F0, 5]));
@@ -236,9 +241,11 @@ fn generated_damage() {
         };
         assert!(REFUSED.iter().all(|damage| !accepted(damage, true)));
         assert!(KEPT.iter().all(|damage| accepted(damage, true)));
-        assert!(WRONG.iter().all(|damage| !accepted(damage, false)));
+        let wrong = || touch_damage::WRONG.iter().chain(&block_damage::WRONG);
+        assert!(wrong().all(|damage| !accepted(damage, false)));
         // Nothing else is wrong with these.
-        assert!(WRONG.iter().all(|damage| accepted(damage, true)));
-        assert!(RIGHT.iter().all(|damage| accepted(damage, false)));
+        assert!(wrong().all(|damage| accepted(damage, true)));
+        assert!(touch_damage::RIGHT.iter().all(|damage| accepted(damage, false)));
+        assert!(block_damage::RIGHT.iter().all(|damage| accepted(damage, false)));
     }
 }

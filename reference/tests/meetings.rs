@@ -52,9 +52,9 @@ fn answered(operation: Operation, answer: &Answer) -> Refused {
         Operation::Write => answer.write.number,
         Operation::Synthesise => answer.synthesise,
         Operation::RunGraph => answer.run_graph.answer.number,
-        Operation::RunMachine => answer.run_machine.answer.number,
+        Operation::RunMachine => answer.run_machine.answer.run.number,
         Operation::RunGraphWithWords => answer.run_graph_with_words.answer.number,
-        Operation::RunMachineWithWords => answer.run_machine_with_words.answer.number,
+        Operation::RunMachineWithWords => answer.run_machine_with_words.answer.run.number,
         Operation::Touches => answer.touches.number,
         Operation::FirstTouching => answer.first_touching.number,
         Operation::Bounds => answer.bounds.number,
@@ -264,7 +264,8 @@ fn faults_behind_short_buffers_are_real() {
         let registers = lengthened(&one.case.registers, 16);
         let made = synthesise(&graph, &mut lengthened(&[], MACHINE_WORDS));
         let ran = run_graph(&graph, &mut registers.clone(), one.case.start_block, 0).number;
-        let cycled = run_machine(&machine, &mut registers.clone(), one.case.start_state, 0).number;
+        let cycled =
+            run_machine(&machine, &mut registers.clone(), one.case.start_state, 0).run.number;
         let (state, register) = (one.case.asked.state, one.case.asked.register);
         let asked = touches(&machine, state, register).number;
         let searched = first_touching(&machine, register).number;

@@ -3,12 +3,13 @@
 
 use gutkavu::captures::Line;
 use gutkavu::operations::{
-    compare_captures, FirstTouchingFields, RunFields, RunWithWordsFields, TouchesFields,
+    compare_captures, FirstTouchingFields, MachineRunFields, MachineRunWithWordsFields, RunFields,
+    RunWithWordsFields, TouchesFields,
 };
 use reference::answer::buffers_of;
 use reference::case::{Asked, Bounds, Case};
 use reference::generate;
-use reference::operations::{self, RunAnswer, WordsRunAnswer};
+use reference::operations::{self, MachineAnswer, RunAnswer, WordsRunAnswer};
 use reference::random::Random;
 use std::collections::BTreeSet;
 
@@ -22,6 +23,17 @@ fn words(length: u32) -> Vec<u32> {
 fn fields(answer: RunAnswer) -> RunFields {
     let RunAnswer { number, halted, count, next, flag } = answer;
     RunFields { number, halted: halted.into(), count, next, flag: flag.into() }
+}
+
+fn machine_fields(answer: MachineAnswer<RunAnswer>) -> MachineRunFields {
+    let MachineAnswer { run, blocks } = answer;
+    let RunFields { number, halted, count, next, flag } = fields(run);
+    MachineRunFields { number, halted, count, next, flag, blocks }
+}
+
+/// Whether a machine's run has as many blocks as cycles, fewer or more.
+fn beside(blocks: u64, count: u32) -> u32 {
+    1 + u32::from(blocks > count.into()) - u32::from(blocks < count.into())
 }
 
 fn texts_agree(case: &Case, graph: &[u32], seen: &mut Seen) {
@@ -58,7 +70,8 @@ fn runs_agree(case: &Case, graph: &[u32], machine: &[u32], seen: &mut Seen) {
     let (start, budget) = (case.start_state, case.cycle_budget);
     let second = operations::run_machine(machine, &mut x, start, budget);
     let plain = plain::run_machine(machine, &mut y, start, budget);
-    assert_eq!((fields(second), x), (plain, y));
+    assert_eq!((machine_fields(second), x), (plain, y));
+    seen.insert(("the blocks of a machine", beside(plain.blocks, plain.count)));
     seen.insert(("run machine", plain.number));
     seen.insert(("the flag of a machine", plain.flag));
 }
@@ -66,6 +79,12 @@ fn runs_agree(case: &Case, graph: &[u32], machine: &[u32], seen: &mut Seen) {
 fn fields_with_words(answer: WordsRunAnswer) -> RunWithWordsFields {
     let WordsRunAnswer { number, outcome, count, next, flag } = answer;
     RunWithWordsFields { number, outcome, count, next, flag: flag.into() }
+}
+
+fn machine_fields_with_words(answer: MachineAnswer<WordsRunAnswer>) -> MachineRunWithWordsFields {
+    let MachineAnswer { run, blocks } = answer;
+    let RunWithWordsFields { number, outcome, count, next, flag } = fields_with_words(run);
+    MachineRunWithWordsFields { number, outcome, count, next, flag, blocks }
 }
 
 fn graph_runs_with_words_agree(case: &Case, graph: &[u32], seen: &mut Seen) {
@@ -86,7 +105,8 @@ fn machine_runs_with_words_agree(case: &Case, machine: &[u32], seen: &mut Seen) 
     let words = &case.words[..];
     let second = operations::run_machine_with_words(machine, &mut x, start, budget, words);
     let plain = plain::run_machine_with_words(machine, &mut y, start, budget, words);
-    assert_eq!((fields_with_words(second), x), (plain, y));
+    assert_eq!((machine_fields_with_words(second), x), (plain, y));
+    seen.insert(("the blocks of a machine with words", beside(plain.blocks, plain.count)));
     seen.insert(("run machine with words", plain.number));
     seen.insert(("the outcome of a machine", plain.outcome));
     seen.insert(("the flag of a machine with words", plain.flag));
@@ -121,7 +141,7 @@ fn bounds_agree(case: &Case, machine: &[u32], seen: &mut Seen) {
 #[test]
 fn the_plain_program_gives_what_the_second_gives() {
     let mut seen = Seen::new();
-    for case in generate::cases(31, 5_500) {
+    for case in generate::cases(31, 7_000) {
         let (graph, machine) = buffers_of(&case);
         texts_agree(&case, &graph, &mut seen);
         machines_agree(&case, &graph, &mut seen);
@@ -145,6 +165,8 @@ fn the_plain_program_gives_what_the_second_gives() {
         ("the flag of a machine", &[0, 1]),
         ("the flag of a graph with words", &[0, 1]),
         ("the flag of a machine with words", &[0, 1]),
+        ("the blocks of a machine", &[0, 1, 2]),
+        ("the blocks of a machine with words", &[0, 1, 2]),
         ("touches", &[0, 7, 9, 10]),
         ("whether it is touched", &[0, 1]),
         ("first touching", &[0, 7, 10]),

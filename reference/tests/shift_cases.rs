@@ -7,7 +7,7 @@ use common::bounds::{answer as bounds_by, Answered, Call, Ends, Reading as Bound
 use common::shifted_runs::{graph_run, machine_run, Ended, Shift};
 use common::shifts::{is_shift, shifted, Place, Reading, PLACES, WRONG};
 use common::traces::{graph_trace, machine_trace, Words};
-use reference::answer::{answer, buffers_of, digest, Answer, Ran};
+use reference::answer::{answer, buffers_of, digest, Answer};
 use reference::case::Case;
 use reference::generate::words::AMOUNTS;
 use reference::graph::{signed, Binary, Graph};
@@ -33,14 +33,14 @@ struct Stored {
     bounded: Answered,
 }
 
-fn fields(ran: &Ran<RunAnswer>) -> Option<Fields> {
-    let RunAnswer { number, halted, count, next, flag } = ran.answer;
-    (number == 0).then_some((halted.into(), count, next, flag, ran.registers))
+fn fields(answer: RunAnswer, registers: u64) -> Option<Fields> {
+    let RunAnswer { number, halted, count, next, flag } = answer;
+    (number == 0).then_some((halted.into(), count, next, flag, registers))
 }
 
-fn fields_with_words(ran: &Ran<WordsRunAnswer>) -> Option<Fields> {
-    let WordsRunAnswer { number, outcome, count, next, flag } = ran.answer;
-    (number == 0).then_some((outcome, count, next, flag, ran.registers))
+fn fields_with_words(answer: WordsRunAnswer, registers: u64) -> Option<Fields> {
+    let WordsRunAnswer { number, outcome, count, next, flag } = answer;
+    (number == 0).then_some((outcome, count, next, flag, registers))
 }
 
 fn of_ended(ended: Ended) -> Fields {
@@ -72,11 +72,13 @@ impl Stored {
             events.map(|event| (event.op.code(), event.x, event.y)).collect()
         };
         let Answer { run_graph, run_machine, .. } = &answer;
+        let (graph_words, machine_words) =
+            (&answer.run_graph_with_words, &answer.run_machine_with_words);
         let answered = [
-            fields(run_graph),
-            fields(run_machine),
-            fields_with_words(&answer.run_graph_with_words),
-            fields_with_words(&answer.run_machine_with_words),
+            fields(run_graph.answer, run_graph.registers),
+            fields(run_machine.answer.run, run_machine.registers),
+            fields_with_words(graph_words.answer, graph_words.registers),
+            fields_with_words(machine_words.answer.run, machine_words.registers),
         ];
         let run = |run: usize| answered[run].map(|fields| (fields, shifts(PLACES[run])));
         let runs = [0, 1, 2, 3].map(run);

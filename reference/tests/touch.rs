@@ -10,10 +10,9 @@ use reference::generate::machine_damage;
 use reference::generate::touch_cases::{
     ALL_TOUCH, ENDS_TOUCH, FOUR, LAST_TOUCHES, NONE_TOUCHES, WORDS_OF_FOUR,
 };
-use reference::machine_table::{MACHINE_WORDS, RECORDS_AT, RECORD_WORDS, WIRES_AT};
+use reference::machine_table::{ARRIVALS_AT, MACHINE_WORDS, RECORDS_AT, RECORD_WORDS, WIRES_AT};
 use reference::operations::{
-    first_touching, run_machine, run_machine_with_words, synthesise, touches, FirstTouchingAnswer,
-    TouchesAnswer,
+    first_touching, synthesise, touches, FirstTouchingAnswer, TouchesAnswer,
 };
 use reference::print::print;
 use reference::random::Random;
@@ -50,7 +49,7 @@ fn refused_both(table: &[u32], state: u32, register: u32) -> (u32, u32) {
 
 #[test]
 fn the_layout() {
-    assert_eq!((RECORD_WORDS, WIRES_AT, MACHINE_WORDS), (20, 1_410, 13_698));
+    assert_eq!((RECORD_WORDS, WIRES_AT, MACHINE_WORDS), (20, 1_410, 13_762));
     assert_eq!(RECORDS_AT, 130);
     assert_eq!(touch_at(0), 149);
 }
@@ -303,7 +302,7 @@ fn orders_of_refusals() {
             assert_eq!(refused_both(&wrong, state, register), (10, 10));
             assert_eq!(refused_both(&wrong[..MACHINE_WORDS - 1], state, register), (7, 7));
         }
-        for length in [0, 1, 2, 1_410, 13_634, 13_697] {
+        for length in [0, 1, 2, 1_410, 13_634, 13_698, 13_761] {
             assert_eq!(refused_both(&table[..length], 0, register), (7, 7));
             assert_eq!(refused_both(&table[..length], 9, register), (7, 7));
         }
@@ -322,7 +321,7 @@ fn tables_from_before() {
         let mut old = table[..RECORDS_AT].to_vec();
         let records = table[RECORDS_AT..WIRES_AT].chunks(RECORD_WORDS);
         records.for_each(|record| old.extend(&record[..19]));
-        old.extend(&table[WIRES_AT..]);
+        old.extend(&table[WIRES_AT..ARRIVALS_AT]);
         assert_eq!(old.len(), 13_634);
         assert_eq!(refused_both(&old, 0, 0), (7, 7));
         old.resize(MACHINE_WORDS, 0);

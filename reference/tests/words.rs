@@ -7,9 +7,7 @@ use reference::generate::examples::{P11, P12, P7, P9};
 use reference::generate::word_cases::{LOST_INPUT, RATES, SUM, WATCH};
 use reference::listing::listing;
 use reference::machine_table::{MACHINE_WORDS, RECORDS_AT, WIRES_AT};
-use reference::operations::{
-    run_graph, run_graph_with_words, run_machine, run_machine_with_words, WordsRunAnswer,
-};
+use reference::operations::{run_graph, run_graph_with_words, WordsRunAnswer};
 
 /// Both blocks read a word; block 1 is an arrival where the list of starters says so.
 const TWO_READS: &str =

@@ -2,6 +2,7 @@
 
 #![allow(dead_code)]
 
+pub mod blocks;
 pub mod bounds;
 pub mod flags;
 pub mod recordings;
@@ -16,8 +17,7 @@ use reference::graph::{Block, Comparison, Ending, Graph};
 use reference::graph_table::GRAPH_WORDS;
 use reference::machine_table::MACHINE_WORDS;
 use reference::operations::{
-    read, run_graph, run_graph_with_words, run_machine, run_machine_with_words, synthesise,
-    ReadAnswer, RunAnswer, WordsRunAnswer,
+    self, read, run_graph, run_graph_with_words, synthesise, ReadAnswer, RunAnswer, WordsRunAnswer,
 };
 use reference::parse::parse;
 use reference::random::Random;
@@ -73,6 +73,21 @@ pub fn registers(words: &[u32]) -> Vec<u32> {
     let mut registers = vec![0; 16];
     registers[..words.len()].copy_from_slice(words);
     registers
+}
+
+/// A machine's run without its count of blocks.
+pub fn run_machine(table: &[u32], registers: &mut [u32], start: u32, budget: u32) -> RunAnswer {
+    operations::run_machine(table, registers, start, budget).run
+}
+
+pub fn run_machine_with_words(
+    table: &[u32],
+    registers: &mut [u32],
+    start: u32,
+    budget: u32,
+    words: &[u32],
+) -> WordsRunAnswer {
+    operations::run_machine_with_words(table, registers, start, budget, words).run
 }
 
 pub fn on_graph(text: &str, words: &[u32], budget: u32) -> (RunAnswer, Vec<u32>) {

@@ -42,7 +42,7 @@ fn block_step(graph: &Graph, at: usize, registers: &mut [u32], word: u32, shift:
         Ending::Ite { f, .. } => Some(f),
         Ending::Halt => None,
     };
-    Step { next, over }
+    Step { next, over, blocks: 1 }
 }
 
 fn cycle(machine: &Machine, at: usize, registers: &mut [u32], word: u32, shift: Shift) -> Step {
@@ -60,7 +60,8 @@ fn cycle(machine: &Machine, at: usize, registers: &mut [u32], word: u32, shift: 
     let next = read(&state.next_state) as usize;
     let after: Vec<u32> = state.next_registers.iter().map(read).collect();
     registers[..after.len()].copy_from_slice(&after);
-    Step { next: (next < machine.states.len()).then_some(next), over }
+    let next = (next < machine.states.len()).then_some(next);
+    Step { next, over, blocks: state.blocks_run(&wires) }
 }
 
 /// Steps until a halt, the end of the budget or of the words; None where that takes too long.
@@ -77,7 +78,7 @@ fn run(
         let Some(word) = sampled(words, arrival) else {
             return Some(Ended { outcome: 2, count, next: at as u32, flag, registers });
         };
-        let Step { next, over } = step(at, &mut registers, word);
+        let Step { next, over, .. } = step(at, &mut registers, word);
         flag |= over;
         let Some(next) = next else {
             return Some(Ended { outcome: 1, count: count + 1, next: 255, flag, registers });

@@ -34,6 +34,9 @@ const CODES: [&str; 20] = [
     "ge", "ltu", "geu", "and not", "choose", "in",
 ];
 
+const BESIDE_CYCLES: [&str; 3] =
+    ["fewer blocks than cycles", "as many blocks as cycles", "more blocks than cycles"];
+
 /// What is counted, so that a check of nothing shows.
 #[derive(Clone, Copy, Debug, PartialEq, Eq, PartialOrd, Ord)]
 enum Counted {
@@ -51,6 +54,9 @@ enum Counted {
     Shift(usize, usize),
     Ended(&'static str),
     Flags,
+    Blocks,
+    /// Runs with fewer blocks than cycles, with as many and with more.
+    BlocksBeside(usize),
     Differing,
 }
 
@@ -59,7 +65,8 @@ impl Counted {
     fn all() -> Vec<Counted> {
         use Counted::*;
         let mut all = vec![Graphs, Unreachable, ManyBlocks, Patched, Wires, ManyWires];
-        all.extend([Runs, FromOthers, Cycles, Flags]);
+        all.extend([Runs, FromOthers, Cycles, Flags, Blocks]);
+        all.extend((0..BESIDE_CYCLES.len()).map(BlocksBeside));
         all.extend((0..CODES.len()).map(Code));
         let shifts = (0..SHIFTS.len()).flat_map(|one| (0..AMOUNTS.len()).map(move |k| (one, k)));
         all.extend(shifts.map(|(shift, kind)| Shift(shift, kind)));
@@ -84,6 +91,8 @@ impl Counted {
             }
             Counted::Ended(name) => return format!("runs that ended {name}"),
             Counted::Flags => "runs with the flag raised",
+            Counted::Blocks => "blocks run",
+            Counted::BlocksBeside(kind) => return format!("runs with {}", BESIDE_CYCLES[kind]),
             Counted::Differing => "runs that differ",
         };
         String::from(name)
@@ -153,8 +162,11 @@ impl Subject {
 }
 
 fn count_runs(tally: &mut Tally<Counted>, judged: &Judged) {
-    for &Told { cycles, end, flag, .. } in &judged.runs {
+    for &Told { cycles, end, flag, blocks, .. } in &judged.runs {
         tally.count(Counted::Cycles, cycles);
+        tally.count(Counted::Blocks, blocks as usize);
+        let kind = 1 + blocks.cmp(&(cycles as u64)) as isize;
+        tally.count(Counted::BlocksBeside(kind as usize), 1);
         tally.count(Counted::Flags, usize::from(flag));
         end.into_iter().for_each(|end| tally.count(Counted::Ended(end_name(end)), 1));
     }

@@ -188,11 +188,16 @@ pub const RIGHT: [Damage; 10] = [
     made_absent, made_absent, made_absent, made_present, moved,
 ];
 
+/// One of them.
+pub fn right(random: &mut Random, table: &Table) -> Vec<Patch> {
+    random.pick(&RIGHT)(random, table)
+}
+
 /// Patches for a table that synthesis made.
 pub fn patches(random: &mut Random, words: &[u32]) -> Vec<Patch> {
     let table = Table { words };
     match random.percent(37) {
         true => wrong(random, &table),
-        false => random.pick(&RIGHT)(random, &table),
+        false => right(random, &table),
     }
 }

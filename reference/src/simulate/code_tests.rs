@@ -49,6 +49,7 @@ fn codes_machine() -> Machine {
             .into_iter()
             .chain([Source::Wire(0)])
             .collect(),
+        arrivals: BTreeMap::new(),
     };
     Machine { registers: 4, states: (1..=20).map(state).collect() }
 }
@@ -201,8 +202,8 @@ fn the_simulator_gives_what_was_worked_out_by_hand() {
     for (number, (line, &row)) in lines.iter().zip(&rows).enumerate() {
         let ((code, [a, b, c], value), flag) = (row, u32::from(raises_the_flag(row)));
         let expected = format!(
-            "run {number} cycle 1 count 1 state 000000ff halted 1 flag {flag} registers \
-             {a:08x} {b:08x} {c:08x} {value:08x}"
+            "run {number} cycle 1 count 1 state 000000ff halted 1 flag {flag} blocks 0 \
+             registers {a:08x} {b:08x} {c:08x} {value:08x}"
         );
         assert_eq!(*line, expected, "code {code}");
     }

@@ -71,6 +71,15 @@ fn wire(index: usize, wire: Wire) -> String {
     text
 }
 
+/// Each block of the state by itself, where its arrival is nonzero.
+fn blocks(state: &State) -> String {
+    let arrivals = state.arrivals.values();
+    let counted = |&wire: &usize| {
+        format!("        ran = ran + 64'({} != 32'd0);\n", source(Source::Wire(wire)))
+    };
+    arrivals.map(counted).collect()
+}
+
 fn declared(kind: &str, names: &[String]) -> String {
     match names.is_empty() {
         true => String::new(),
@@ -78,7 +87,7 @@ fn declared(kind: &str, names: &[String]) -> String {
     }
 }
 
-/// The wires in order, then the next state and registers by their references.
+/// The wires in order, the blocks arrived at, then the next state and registers by their references.
 fn state(index: usize, state: &State) -> String {
     let wires: Vec<String> = (0..state.wires.len()).map(|wire| format!("w{wire}")).collect();
     let sums = (0..).zip(&state.wires).filter(|(_, wire)| matches!(wire, Wire::Sum(..)));
@@ -86,8 +95,9 @@ fn state(index: usize, state: &State) -> String {
     let mut text = format!("      32'd{index}: begin : state_{index}\n");
     text += &declared("logic [31:0]", &wires);
     text += &declared("logic signed [32:0]", &exact);
-    text += "        over = 1'b0;\n";
+    text += "        over = 1'b0;\n        ran = 64'd0;\n";
     text.extend(state.wires.iter().enumerate().map(|(index, &one)| wire(index, one)));
+    text += &blocks(state);
     text += &format!("        next_state = {};\n", source(state.next_state));
     for (register, &next) in state.next_registers.iter().enumerate() {
         text += &format!("        next_r{register} = {};\n", source(next));
@@ -111,12 +121,14 @@ fn head(registers: usize) -> String {
   input logic [{last}:0] contents,
   output logic [31:0] state,
   output logic halted, flag,
+  output logic [63:0] blocks,
   output logic [{last}:0] registers
 );
   localparam logic signed [32:0] LEAST = -33'sd2147483648, MOST = 33'sd2147483647;
   logic [31:0] sampled, next_state;
   logic [31:0] {names};
   logic over;
+  logic [63:0] ran;
   assign registers = {packed};
 ",
         last = 32 * registers - 1,
@@ -131,12 +143,13 @@ fn clocked(states: usize, registers: usize) -> String {
     format!(
         "  always_ff @(posedge clock)
     if (load) begin
-      {{state, halted, flag, sampled}} <= {{start, 1'b0, 1'b0, word}};
+      {{state, halted, flag, blocks, sampled}} <= {{start, 1'b0, 1'b0, 64'd0, word}};
       {now} <= contents;
     end else if (!halted) begin
       state <= next_state < 32'd{states} ? next_state : {NO_STATE};
       halted <= !(next_state < 32'd{states});
       flag <= flag | over;
+      blocks <= blocks + ran;
       sampled <= word;
       {now} <= {next};
     end
@@ -151,7 +164,7 @@ pub fn design(machine: &Machine) -> String {
     let registers = machine.registers;
     let mut text = head(registers) + "  always_comb\n    case (state)\n";
     text.extend(machine.states.iter().enumerate().map(|(index, one)| state(index, one)));
-    text += "      default: begin\n        {over, next_state} = 'x;\n";
+    text += "      default: begin\n        {over, ran, next_state} = 'x;\n";
     text += &format!("        {} = 'x;\n      end\n    endcase\n", packed("next_", registers));
     text + &clocked(machine.states.len(), registers)
 }

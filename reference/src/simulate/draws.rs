@@ -4,7 +4,8 @@ use super::test_bench::{Start, MOST};
 use reference::answer;
 use reference::case::Patch;
 use reference::generate::graphs::{self, Size};
-use reference::generate::{machine_damage, words};
+use reference::generate::machine_damage::Table;
+use reference::generate::{block_damage, machine_damage, words};
 use reference::graph::{Binary, Graph, Instruction, MAX_BLOCKS, MAX_INSTRUCTIONS, MAX_REGISTERS};
 use reference::grouping::Tour;
 use reference::machine_table::{decode, AND_NOT, CHOOSE, WIRES_AT, WIRE_WORDS};
@@ -105,12 +106,13 @@ fn other_arrivals(random: &mut Random, table: &[u32]) -> Vec<Patch> {
     patches
 }
 
-/// Patches of about a third of the tables, which leave them admitted: synthesis alone would never
-/// choose by a word above 1, nor halt by another word than 255.
+/// Patches of almost half of the tables, which leave them admitted: synthesis alone would never
+/// choose by a word above 1, halt by another word than 255, nor run a cycle without a block.
 pub fn patches(random: &mut Random, table: &[u32]) -> Vec<Patch> {
     let patches = match random.below(10) {
         0..=3 => machine_damage::patches(random, table),
-        4 | 5 => other_arrivals(random, table),
+        4 => other_arrivals(random, table),
+        5 | 6 => block_damage::right(random, &Table { words: table }),
         _ => Vec::new(),
     };
     let mut patched = table.to_vec();

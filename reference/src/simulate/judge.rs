@@ -2,12 +2,13 @@
 
 use super::design::design;
 use super::test_bench::{test_bench, Start, AMOUNTS, SHIFTS};
-use gutkavu::operations::RunWithWordsFields;
+use gutkavu::operations::MachineRunWithWordsFields;
 use reference::machine_table::decode;
 use reference::run::Outcome;
 
 /// As `gutkavu::operations::run_machine_with_words`.
-pub type Run<'a> = dyn Fn(&[u32], &mut [u32], u32, u32, &[u32]) -> RunWithWordsFields + Sync + 'a;
+pub type Run<'a> =
+    dyn Fn(&[u32], &mut [u32], u32, u32, &[u32]) -> MachineRunWithWordsFields + Sync + 'a;
 
 /// What a source prints.
 pub type Simulator<'a> = dyn Fn(&str) -> Result<String, String> + Sync + 'a;
@@ -20,7 +21,7 @@ pub struct Sides<'a> {
 
 /// What the library answers to one run with one budget.
 struct Answer {
-    fields: RunWithWordsFields,
+    fields: MachineRunWithWordsFields,
     registers: [u32; 16],
 }
 
@@ -37,7 +38,7 @@ impl Answer {
 
     /// As the bench prints it. Registers that the machine does not have must stay.
     fn form(&self, registers: usize, start: &Start) -> String {
-        let RunWithWordsFields { number, count, next, flag, .. } = self.fields;
+        let MachineRunWithWordsFields { number, count, next, flag, blocks, .. } = self.fields;
         if number != 0 {
             return format!("refused {number}");
         }
@@ -45,7 +46,8 @@ impl Answer {
         let words = self.registers[..registers].iter().map(|word| format!(" {word:08x}"));
         let kept = self.registers[registers..] == start.registers[registers..];
         let words: String = words.chain((!kept).then(|| " and others".into())).collect();
-        format!("count {count} state {next:08x} halted {halted} flag {flag} registers{words}")
+        let told = format!("count {count} state {next:08x} halted {halted} flag {flag}");
+        format!("{told} blocks {blocks} registers{words}")
     }
 
     fn end(&self) -> Option<Outcome> {
@@ -70,6 +72,7 @@ pub struct Told {
     /// None where it was refused.
     pub end: Option<Outcome>,
     pub flag: bool,
+    pub blocks: u64,
 }
 
 impl Told {
@@ -105,7 +108,7 @@ impl Told {
         let cycles = lines.len() - usize::from(end == Some(Outcome::Halted) && !lines.is_empty());
         let name = end.map_or("otherwise", end_name);
         lines.push(format!("run {number} ends {name} {}", last.form(registers, start)));
-        Told { lines, cycles, end, flag: last.fields.flag == 1 }
+        Told { lines, cycles, end, flag: last.fields.flag == 1, blocks: last.fields.blocks }
     }
 }
 

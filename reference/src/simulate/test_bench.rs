@@ -81,7 +81,8 @@ fn head(registers: usize) -> String {
   logic [31:0] start, word, state;
   logic [{last}:0] contents, registers;
   logic halted, flag;
-  machine dut(clock, load, start, word, contents, state, halted, flag, registers);
+  logic [63:0] blocks;
+  machine dut(clock, load, start, word, contents, state, halted, flag, blocks, registers);
   integer cycle, count, kind;
   integer amounts [0:{kinds}];
   task worked_out(input integer first, input [31:0] amount);
@@ -99,8 +100,9 @@ fn head(registers: usize) -> String {
 fn tasks(registers: usize) -> String {
     let words: Vec<String> =
         (0..registers).map(|r| format!("registers[{} +: 32]", 32 * r)).collect();
-    let form = format!("count %0d state %h halted %b flag %b registers{}", " %h".repeat(registers));
-    let values = format!("count, state, halted, flag, {}", words.join(", "));
+    let words_form = " %h".repeat(registers);
+    let form = format!("count %0d state %h halted %b flag %b blocks %0d registers{words_form}");
+    let values = format!("count, state, halted, flag, blocks, {}", words.join(", "));
     let bits = 32 * registers - 1;
     let list = 32 * MOST - 1;
     format!(

@@ -6,7 +6,7 @@ use super::judge::{end_name, judge, Judged, Run, Sides, Simulator};
 use super::test_bench::{test_bench, Start};
 use super::{outcome, simulate, tally_all, Counted, Subject};
 use crate::tally::MOST_REPORTS;
-use gutkavu::operations::{self, RunWithWordsFields};
+use gutkavu::operations::{self, MachineRunWithWordsFields};
 use reference::generate::examples::P7;
 use reference::generate::fixed::largest_graphs;
 use reference::machine_table::{decode, WIRES_AT, WIRE_WORDS};
@@ -67,12 +67,14 @@ const SOURCE: &str = "module machine(
   input logic [63:0] contents,
   output logic [31:0] state,
   output logic halted, flag,
+  output logic [63:0] blocks,
   output logic [63:0] registers
 );
   localparam logic signed [32:0] LEAST = -33'sd2147483648, MOST = 33'sd2147483647;
   logic [31:0] sampled, next_state;
   logic [31:0] r0, next_r0, r1, next_r1;
   logic over;
+  logic [63:0] ran;
   assign registers = {r1, r0};
   always_comb
     case (state)
@@ -80,6 +82,7 @@ const SOURCE: &str = "module machine(
         logic [31:0] w0, w1, w2, w3, w4;
         logic signed [32:0] e2;
         over = 1'b0;
+        ran = 64'd0;
         w0 = 32'd1;
         w1 = sampled;
         w2 = r0 + w1;
@@ -87,23 +90,25 @@ const SOURCE: &str = "module machine(
         over = over | ((e2 < LEAST | e2 > MOST) & (w0 != 32'd0));
         w3 = $signed(w2) >>> w1;
         w4 = 32'd0;
+        ran = ran + 64'(w0 != 32'd0);
         next_state = w4;
         next_r0 = w3;
         next_r1 = w1;
       end
       default: begin
-        {over, next_state} = 'x;
+        {over, ran, next_state} = 'x;
         {next_r1, next_r0} = 'x;
       end
     endcase
   always_ff @(posedge clock)
     if (load) begin
-      {state, halted, flag, sampled} <= {start, 1'b0, 1'b0, word};
+      {state, halted, flag, blocks, sampled} <= {start, 1'b0, 1'b0, 64'd0, word};
       {r1, r0} <= contents;
     end else if (!halted) begin
       state <= next_state < 32'd1 ? next_state : 32'd255;
       halted <= !(next_state < 32'd1);
       flag <= flag | over;
+      blocks <= blocks + ran;
       sampled <= word;
       {r1, r0} <= {next_r1, next_r0};
     end
@@ -116,19 +121,19 @@ fn a_source_by_hand() {
     assert_eq!(design(&decode(&table(text)).expect("a machine")), SOURCE);
 }
 
-/// The lines that a bench prints, counts and flag worked out by hand: 12 and 18 have 6.
+/// The lines that a bench prints, counts, blocks and flag worked out by hand: 12 and 18 have 6.
 #[test]
 fn a_run_by_hand() {
     let machine = decode(&table(P7)).expect("a machine");
     let bench = test_bench(&machine, &[start(0, &[12, 18], &[7; 32], 32)]);
     let output = icarus(&(design(&machine) + &bench)).expect("a simulation");
     let expected =
-        "run 0 cycle 1 count 1 state 00000001 halted 0 flag 0 registers 0000000c 00000012
-run 0 cycle 2 count 2 state 00000001 halted 0 flag 0 registers 0000000c 00000006
-run 0 cycle 3 count 3 state 00000001 halted 0 flag 0 registers 00000006 00000006
-run 0 cycle 4 count 4 state 000000ff halted 1 flag 0 registers 00000006 00000006
-run 0 cycle 5 count 4 state 000000ff halted 1 flag 0 registers 00000006 00000006
-run 0 ends halted count 4 state 000000ff halted 1 flag 0 registers 00000006 00000006
+        "run 0 cycle 1 count 1 state 00000001 halted 0 flag 0 blocks 1 registers 0000000c 00000012
+run 0 cycle 2 count 2 state 00000001 halted 0 flag 0 blocks 4 registers 0000000c 00000006
+run 0 cycle 3 count 3 state 00000001 halted 0 flag 0 blocks 7 registers 00000006 00000006
+run 0 cycle 4 count 4 state 000000ff halted 1 flag 0 blocks 9 registers 00000006 00000006
+run 0 cycle 5 count 4 state 000000ff halted 1 flag 0 blocks 9 registers 00000006 00000006
+run 0 ends halted count 4 state 000000ff halted 1 flag 0 blocks 9 registers 00000006 00000006
 ";
     assert!(output.starts_with(expected) && output.ends_with("\nend\n"), "{output}");
     assert_eq!(output.lines().count(), 6 + 12 + 1);
@@ -174,6 +179,13 @@ fn other_sources_differ() {
         ("      sampled <= word;\n", ""),
         ("flag <= flag | over", "flag <= over"),
         ("flag <= flag | over", "flag <= 1'b0"),
+        ("blocks <= blocks + ran", "blocks <= ran"),
+        ("blocks <= blocks + ran", "blocks <= blocks"),
+        ("ran = ran + 64'(w0 != 32'd0)", "ran = ran"),
+        ("ran = ran + 64'(w8 != 32'd0)", "ran = ran"),
+        ("ran = ran + 64'(w8 != 32'd0)", "ran = ran + 64'd1"),
+        ("ran = ran + 64'(w9 != 32'd0)", "ran = ran + 64'(w8 != 32'd0)"),
+        ("ran = 64'd0;\n", ""),
         ("e6 = $signed(r0) + $signed(w1)", "e6 = r0 + w1"),
         ("& (w8 != 32'd0)", "& (w0 != 32'd0)"),
         ("state <= next_state", "state <= 32'd1 + next_state"),
@@ -220,10 +232,10 @@ fn another_code_differs() {
     }
 }
 
-type Fault = fn(&mut RunWithWordsFields, &mut [u32]);
+type Fault = fn(&mut MachineRunWithWordsFields, &mut [u32]);
 
 /// What a library may get wrong.
-const FAULTS: [Fault; 13] = [
+const FAULTS: [Fault; 16] = [
     |_, registers| registers[0] ^= 1,
     |_, registers| registers[7] ^= LEAST,
     |_, registers| registers[8] += 1,
@@ -236,6 +248,9 @@ const FAULTS: [Fault; 13] = [
     |fields, _| fields.outcome = (fields.outcome + 1) % 3,
     |fields, _| fields.outcome = (fields.outcome + 2) % 3,
     |fields, _| fields.outcome = 3,
+    |fields, _| fields.blocks += 1,
+    |fields, _| fields.blocks -= 1,
+    |fields, _| fields.blocks += 1 << 32,
     |fields, _| fields.number = 10,
 ];
 
@@ -279,9 +294,9 @@ fn amounts_modulo_32_differ() {
     let judged = judge(&table, &starts, &sides).expect("a simulation");
     let runs: Vec<usize> = judged.differences.iter().map(|one| one.run).collect();
     assert_eq!(runs, [3, 4, 5, 6, 7, 8, 9]);
-    let expected = "  simulator: run 4 cycle 1 count 1 state 000000ff halted 1 flag 0 registers \
-                    00000003 00000021 00000000\n  library:   run 4 cycle 1 count 1 state 000000ff \
-                    halted 1 flag 0 registers 00000003 00000021 00000006\n";
+    let expected = "  simulator: run 4 cycle 1 count 1 state 000000ff halted 1 flag 0 blocks 1 \
+                    registers 00000003 00000021 00000000\n  library:   run 4 cycle 1 count 1 \
+                    state 000000ff halted 1 flag 0 blocks 1 registers 00000003 00000021 00000006\n";
     assert_eq!(judged.differences[1].text, expected);
 }
 

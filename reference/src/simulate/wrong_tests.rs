@@ -1,9 +1,13 @@
-//! Wrong readings of the codes, the flag and the halt: generated graphs tell each apart.
+//! Wrong readings of the codes, the flag, the halt and the blocks: generated graphs tell each apart.
 
+use super::design::design;
 use super::icarus::ICARUS;
 use super::judge::{judge, Sides};
 use super::Subject;
 use gutkavu::operations;
+use reference::machine::Machine;
+use reference::machine_table::{decode, STARTERS_AT};
+use std::collections::BTreeSet;
 
 /// What a line must hold, and the line instead.
 type Wrong = (&'static str, fn(&str) -> String);
@@ -97,6 +101,75 @@ const OTHERS: [Wrong; 21] = [
     ("halted <= !", |line| line.replace("32'd", "32'd1 + 32'd")),
 ];
 
+const BLOCKS: [Wrong; 14] = [
+    ("ran = ran + ", |line| line.replace(" != 32'd0", " == 32'd1")),
+    ("ran = ran + ", |line| line.replace(" != 32'd0", " == 32'd0")),
+    ("ran = ran + ", |line| line.replace(" != 32'd0", " & 32'd1")),
+    ("ran = ran + ", |line| line.replace(" != 32'd0", "")),
+    ("ran = ran + ", |line| {
+        line.replace("(w", "($signed(w").replace(" != ", ") > $signed(").replace("0);", "0));")
+    }),
+    ("ran = ran + ", |line| line.replace("ran = ran + ", "ran = ")),
+    ("ran = ran + ", |line| line.replace("ran = ran + ", "ran = ran | ")),
+    ("ran = ran + ", |line| line.replace("ran + 64'", "ran + 64'd1; //")),
+    ("blocks <= blocks", |line| line.replace("blocks + ran", "ran")),
+    ("blocks <= blocks", |line| line.replace("blocks + ran", "64'(5'(blocks + ran))")),
+    ("blocks <= blocks", |line| line.replace("ran", "64'd1")),
+    ("blocks <= blocks", |line| line.replace("ran", "(ran > 64'd0 ? ran : 64'd1)")),
+    ("blocks <= blocks", |line| line.replace("ran", "(next_state < 32'd64 ? ran : 64'd0)")),
+    ("flag, blocks, sampled} <= {", |line| line.replace("64'd0", "64'd1")),
+];
+
+/// Other arrivals than a machine's own. Starters are those of its table.
+type WrongArrivals = fn(&mut Machine, &[usize]);
+
+const ARRIVALS: [(&str, WrongArrivals); 6] = [
+    ("a starter is not counted", |machine, starters| {
+        for (state, starter) in machine.states.iter_mut().zip(starters) {
+            state.arrivals.remove(starter);
+        }
+    }),
+    ("starters alone are counted", |machine, starters| {
+        for (state, starter) in machine.states.iter_mut().zip(starters) {
+            state.arrivals.retain(|block, _| block == starter);
+        }
+    }),
+    ("another state's blocks", |machine, _| {
+        let mut arrivals: Vec<_> = machine.states.iter().map(|one| one.arrivals.clone()).collect();
+        arrivals.rotate_left(1);
+        for (state, mut others) in machine.states.iter_mut().zip(arrivals) {
+            others.retain(|_, &mut wire| wire < state.wires.len());
+            state.arrivals = others;
+        }
+    }),
+    ("a reference is counted once", |machine, _| {
+        for state in &mut machine.states {
+            let mut seen = BTreeSet::new();
+            state.arrivals.retain(|_, &mut wire| seen.insert(wire));
+        }
+    }),
+    ("the wire behind", |machine, _| {
+        for state in &mut machine.states {
+            let last = state.wires.len() - usize::from(!state.wires.is_empty());
+            state.arrivals.values_mut().for_each(|wire| *wire = (*wire + 1).min(last));
+        }
+    }),
+    ("block 0 is not counted", |machine, _| {
+        machine.states.iter_mut().for_each(|state| state.arrivals.retain(|&block, _| block > 0));
+    }),
+];
+
+/// The design of the machine with other arrivals, and the same bench.
+fn with_arrivals(subject: &Subject, source: &str, wrong: WrongArrivals) -> Option<String> {
+    let (_, bench) = source.split_once("module bench;").expect("a bench");
+    let mut machine = decode(&subject.table).expect("a machine");
+    let starters = &subject.table[STARTERS_AT..][..machine.states.len()];
+    let starters: Vec<usize> = starters.iter().map(|&block| block as usize).collect();
+    let right = machine.clone();
+    wrong(&mut machine, &starters);
+    (machine != right).then(|| design(&machine) + "module bench;" + bench)
+}
+
 /// The source with each such line changed; None where there is none.
 fn changed(source: &str, (held, instead): Wrong) -> Option<String> {
     let (design, bench) = source.split_once("module bench;").expect("a bench");
@@ -109,10 +182,15 @@ fn changed(source: &str, (held, instead): Wrong) -> Option<String> {
     (text != design).then(|| text + "module bench;" + bench)
 }
 
-/// Graphs that tell a wrong reading apart, at most so many of them.
-fn telling(subjects: &[Subject], wrong: Wrong, enough: usize) -> usize {
+/// Graphs that tell a wrong source apart, at most so many of them; None is a source as it was.
+fn telling(
+    subjects: &[Subject],
+    name: &str,
+    wrong: impl Fn(&Subject, &str) -> Option<String> + Sync,
+    enough: usize,
+) -> usize {
     let differs = |subject: &&Subject| {
-        let simulator = |source: &str| match changed(source, wrong) {
+        let simulator = |source: &str| match wrong(subject, source) {
             Some(changed) => ICARUS.simulate(&changed),
             None => Err(String::from("the same")),
         };
@@ -120,7 +198,7 @@ fn telling(subjects: &[Subject], wrong: Wrong, enough: usize) -> usize {
         match judge(&subject.table, &subject.starts, &sides) {
             Ok(judged) => !judged.differences.is_empty(),
             Err(error) => {
-                assert_eq!(error, "the same", "{}", wrong.0);
+                assert_eq!(error, "the same", "{name}");
                 false
             }
         }
@@ -128,12 +206,16 @@ fn telling(subjects: &[Subject], wrong: Wrong, enough: usize) -> usize {
     subjects.iter().filter(differs).take(enough).count()
 }
 
-/// Of machines that are not large, so that it is quick.
-fn each_is_told_apart(wrong: &[Wrong]) {
+/// Machines that are not large, so that it is quick.
+fn subjects() -> Vec<Subject> {
     let drawn = (0..600).map(|index| Subject::at(7, index).expect("a graph"));
-    let subjects: Vec<Subject> = drawn.filter(|subject| subject.codes().len() < 150).collect();
+    drawn.filter(|subject| subject.codes().len() < 150).collect()
+}
+
+fn each_is_told_apart(wrong: &[Wrong]) {
+    let subjects = subjects();
     for (number, &one) in wrong.iter().enumerate() {
-        let found = telling(&subjects, one, 3);
+        let found = telling(&subjects, one.0, |_, source| changed(source, one), 3);
         assert_eq!(found, 3, "wrong reading {number}, {}", one.0);
     }
 }
@@ -141,6 +223,20 @@ fn each_is_told_apart(wrong: &[Wrong]) {
 #[test]
 fn each_wrong_shift_is_told_apart() {
     each_is_told_apart(&SHIFTS);
+}
+
+#[test]
+fn each_wrong_count_of_blocks_is_told_apart() {
+    each_is_told_apart(&BLOCKS);
+}
+
+#[test]
+fn each_wrong_choice_of_arrivals_is_told_apart() {
+    let subjects = subjects();
+    for (name, wrong) in ARRIVALS {
+        let wrong = |subject: &Subject, source: &str| with_arrivals(subject, source, wrong);
+        assert_eq!(telling(&subjects, name, wrong, 3), 3, "{name}");
+    }
 }
 
 #[test]

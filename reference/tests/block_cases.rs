@@ -185,30 +185,30 @@ fn single_wrong_words() {
             below && holds(words.reference.into(), wires(&one.machine, words.state).into(), r)
         })
     };
-    at_least(20, "a present block's 0", |one| present(one, &|x, _, _| x == 0));
+    at_least(10, "a present block's 0", |one| present(one, &|x, _, _| x == 0));
     at_least(10, "R - 1", |one| present(one, &|x, _, r| x + 1 == r.into()));
     at_least(10, "a register from R up", |one| present(one, &|x, _, r| x >= r.into() && x < 16));
-    at_least(20, "15", |one| present(one, &|x, _, _| x == 15));
-    at_least(20, "one past the wires", |one| present(one, &|x, count, _| x == 16 + count));
+    at_least(10, "15", |one| present(one, &|x, _, _| x == 15));
+    at_least(10, "one past the wires", |one| present(one, &|x, count, _| x == 16 + count));
     at_least(10, "a wire of a state behind", |one| {
         present(one, &|x, count, _| x > 16 + count && x < 3_088)
     });
-    at_least(5, "all ones", |one| present(one, &|x, _, _| x == u32::MAX.into()));
-    at_least(20, "a state of N", |one| single(one, &|words, n, _| words.state == n));
+    at_least(8, "all ones", |one| present(one, &|x, _, _| x == u32::MAX.into()));
+    at_least(10, "a state of N", |one| single(one, &|words, n, _| words.state == n));
     for state in [254, 256, 511, u32::MAX] {
         at_least(10, &format!("a state of {state}"), |one| {
             single(one, &|words, _, _| words.state == state)
         });
     }
-    at_least(20, "an absent block with a wire", |one| {
+    at_least(10, "an absent block with a wire", |one| {
         single(one, &|words, _, _| words.state == 255 && words.reference >= 16)
     });
     at_least(10, "an absent block with a register", |one| {
         single(one, &|words, _, _| words.state == 255 && (1..16).contains(&words.reference))
     });
-    at_least(20, "of block 63", |one| single(one, &|words, _, _| words.block == 63));
-    at_least(20, "of block 0", |one| single(one, &|words, _, _| words.block == 0));
-    at_least(20, "of a block from B up", |one| {
+    at_least(10, "of block 63", |one| single(one, &|words, _, _| words.block == 63));
+    at_least(10, "of block 0", |one| single(one, &|words, _, _| words.block == 0));
+    at_least(10, "of a block from B up", |one| {
         single(one, &|words, _, _| words.block as u32 >= one.graph[0])
     });
 }

@@ -69,17 +69,24 @@ fn diamond(patches: Vec<Patch>) -> Case {
     patched(DIAMOND, &[5, 7, 1], patches)
 }
 
-/// Every kind of reference of a block in the first state and of one in the second.
+/// Every kind of reference of a block in the first state and of one in the second, and of the others
+/// some that are wrong.
 fn references() -> Vec<Case> {
     let blocks = [(0, 0), (4, 1)];
     let of = |(block, state): (usize, usize)| {
         let count = WIRES_OF_DIAMOND[state];
         let wires = [16, 17, 15 + count, 16 + count, 17 + count];
-        let others = [0, 1, 2, 3, 15, 30, 3_087, 3_088, 65_552, 2_147_483_664, 4_294_967_295];
+        let others =
+            [0, 1, 2, 3, 15, 21, 25, 30, 3_087, 3_088, 65_552, 2_147_483_664, 4_294_967_295];
         let all = wires.into_iter().chain(others);
         all.map(move |reference| diamond(vec![patch(arrival_at(block), reference)]))
     };
-    blocks.into_iter().flat_map(of).collect()
+    let mut cases: Vec<Case> = blocks.into_iter().flat_map(of).collect();
+    for block in [1, 2, 3, 5, 6] {
+        let wrong = [0, 15, LAST + 1, u32::MAX as usize];
+        cases.extend(wrong.map(|reference| diamond(vec![patch(arrival_at(block), reference)])));
+    }
+    cases
 }
 
 /// Every wire of the second state as the arrival of its last block.
@@ -93,8 +100,9 @@ fn states() -> Vec<Case> {
     let states = [2, 1, 0, 63, 64, 254, 255, 256, 511, 2_147_483_648, u32::MAX as usize];
     let of = |block: usize| states.map(|state| diamond(vec![patch(state_at(block), state)]));
     let mut cases: Vec<Case> = [0, 4, 7, 63].into_iter().flat_map(of).collect();
-    for block in [8, 40] {
-        cases.extend([2, 254, 256, 511].map(|state| diamond(vec![patch(state_at(block), state)])));
+    for block in [8, 9, 16, 40, 61, 62] {
+        let states = [2, 254, 256, 511, u32::MAX as usize];
+        cases.extend(states.map(|state| diamond(vec![patch(state_at(block), state)])));
     }
     // A state that is none, with a reference that the block's own state has, and with none.
     for state in [2, 254, 256] {
@@ -105,11 +113,11 @@ fn states() -> Vec<Case> {
     cases
 }
 
-/// Absent blocks with a reference: one that nothing reaches, one from B up, the last.
+/// Absent blocks with a reference: one that nothing reaches, some from B up, the last.
 fn absent_with_references() -> Vec<Case> {
     let references = [1, 15, 16, 20, 255, u32::MAX as usize];
     let of = |block: usize| references.map(|word| diamond(vec![patch(arrival_at(block), word)]));
-    [7, 8, 63].into_iter().flat_map(of).collect()
+    [7, 8, 40, 62, 63].into_iter().flat_map(of).collect()
 }
 
 /// Blocks made absent: each by itself, with its reference and without, those of a state, all.

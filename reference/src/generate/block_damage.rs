@@ -64,6 +64,8 @@ fn bad_reference(random: &mut Random, table: &Table) -> Vec<Patch> {
         65_552,
         2_147_483_664,
         MAX,
+        MAX,
+        MAX,
     ];
     vec![patch(arrival_at(block), random.pick(&choices))]
 }
@@ -71,7 +73,8 @@ fn bad_reference(random: &mut Random, table: &Table) -> Vec<Patch> {
 /// A state that is neither below N nor 255, of a block with a reference or without.
 fn bad_state(random: &mut Random, table: &Table) -> Vec<Patch> {
     let (n, any) = (table.states(), random.between(table.states(), 254));
-    let states = [n, n, n, n + 1, 64, any, 254, 254, 256, 256, 511, 65_791, 2_147_483_648, MAX];
+    let states =
+        [n, n, n, n + 1, 64, any, 254, 254, 256, 256, 511, 65_791, 2_147_483_648, MAX, MAX];
     let block = some(random, &(0..MAX_BLOCKS).collect::<Vec<usize>>());
     vec![patch(state_at(block), random.pick(&states))]
 }
@@ -82,7 +85,7 @@ fn no_absent_state(random: &mut Random, table: &Table) -> Vec<Patch> {
     if missing.is_empty() {
         return bad_state(random, table);
     }
-    let states = [table.states(), table.states() + 1, 64, 254, 254, 256, 511, MAX];
+    let states = [table.states(), table.states() + 1, 64, 254, 254, 256, 511, MAX, MAX];
     words_of(some(random, &missing), random.pick(&states), 0).to_vec()
 }
 

@@ -61,7 +61,7 @@ enum Aim {
 }
 
 fn aim(random: &mut Random) -> Aim {
-    match random.below(1_164) {
+    match random.below(1_180) {
         0..=79 => Aim::Valid,
         80..=209 => Aim::Text,
         210..=220 => Aim::LongText,
@@ -74,7 +74,7 @@ fn aim(random: &mut Random) -> Aim {
         680..=733 => Aim::Touches,
         734..=881 => Aim::Bounds,
         882..=999 => Aim::Several,
-        1_000..=1_063 => Aim::Shifts,
+        1_000..=1_079 => Aim::Shifts,
         _ => Aim::Blocks,
     }
 }

@@ -375,6 +375,20 @@ fn differences_of_flags_are_reported() {
     }
 }
 
+/// A library that counts other blocks is found, in the low word and in the high one.
+#[test]
+fn differences_of_blocks_are_reported() {
+    for run in [Operation::RunMachine, Operation::RunMachineWithWords] {
+        for bit in [0, 31, 32, 63] {
+            let library = Changed(run, Change::Field(5, bit));
+            let text = compare(11, 40, &library).expect_err("a difference");
+            assert!(text.ends_with("seed 11: 40 cases, 40 differ\n"), "{text}");
+            assert!(text.contains(&format!("  {} differs\n", run.name())), "{text}");
+            assert!(text.contains(", blocks "), "{text}");
+        }
+    }
+}
+
 /// A library that differs in the questions alone is found: in the number, in whether a register is
 /// touched, in the state, and in bits that neither has.
 #[test]
@@ -429,6 +443,22 @@ fn flags_of_runs() {
         assert_eq!(run.flag([0, 2, 9, 3, 0, 0]), Some((2, 0)));
     }
     assert_eq!(Operation::CompareCaptures.flag([0, 0, 0, 7, 1, 0]), None);
+}
+
+/// A machine's run that is no refusal has fewer blocks than cycles, as many, or more.
+#[test]
+fn blocks_of_runs() {
+    assert_eq!(Operation::RunMachine.blocks().len(), 6);
+    assert_eq!(Operation::RunMachineWithWords.blocks().len(), 9);
+    for run in [Operation::RunMachine, Operation::RunMachineWithWords] {
+        let kind = |blocks| run.block_kind([0, 1, 4, 255, 0, blocks]);
+        assert_eq!([0, 3, 4, 5].map(kind), [(1, 0), (1, 0), (1, 1), (1, 2)].map(Some));
+        assert_eq!(run.block_kind([10, 0, 0, 0, 0, 0]), None);
+    }
+    for other in [Operation::RunGraph, Operation::RunGraphWithWords, Operation::CompareCaptures] {
+        assert!(other.blocks().is_empty());
+        assert_eq!(other.block_kind([0, 1, 4, 255, 0, 5]), None);
+    }
 }
 
 /// Recordings have any length; those of a stream are short.

@@ -4,7 +4,7 @@
 mod common;
 
 use common::blocks::{
-    block_words, blocks, is_right, makes_another, numbers, wires, Reading, Tried, Words2,
+    block_words, blocks, is_right, makes_another, numbers, wires, BlockWords, Reading, Tried,
     ADMISSIONS, COUNTS, SYNTHESES,
 };
 use reference::answer::{answer, buffers_of, Answer};
@@ -161,7 +161,7 @@ fn tables_of_the_layout_before_are_short() {
 }
 
 /// The blocks whose words alone are wrong.
-fn wrong_alone(one: &Stored) -> Vec<Words2> {
+fn wrong_alone(one: &Stored) -> Vec<BlockWords> {
     let tried = one.tried();
     match tried.machine {
         Some(_) => {
@@ -174,11 +174,11 @@ fn wrong_alone(one: &Stored) -> Vec<Words2> {
 /// Which words are wrong, where nothing else is.
 #[test]
 fn single_wrong_words() {
-    let single = |one: &Stored, holds: &dyn Fn(Words2, u32, u32) -> bool| match wrong_alone(one)[..]
-    {
-        [words] => holds(words, one.machine[0], one.machine[1]),
-        _ => false,
-    };
+    let single =
+        |one: &Stored, holds: &dyn Fn(BlockWords, u32, u32) -> bool| match wrong_alone(one)[..] {
+            [words] => holds(words, one.machine[0], one.machine[1]),
+            _ => false,
+        };
     let present = |one: &Stored, holds: &dyn Fn(u64, u64, u32) -> bool| {
         single(one, &|words, n, r| {
             let below = words.state < n;
@@ -221,7 +221,7 @@ fn is_admitted(one: &Stored) -> bool {
 #[test]
 fn other_right_words() {
     let ran = |one: &Stored| one.numbers()[1] == 0;
-    let any = |one: &Stored, holds: &dyn Fn(Words2) -> bool| {
+    let any = |one: &Stored, holds: &dyn Fn(BlockWords) -> bool| {
         ran(one) && block_words(&one.machine).any(holds)
     };
     at_least(20, "a block from B up in a state", |one| {

@@ -2,7 +2,7 @@
 
 mod common;
 
-use common::blocks::{block_words, is_right, Words2, STATES_AT};
+use common::blocks::{block_words, is_right, BlockWords, STATES_AT};
 use common::*;
 use reference::generate::block_cases::{long_chain, CHAIN, DIAMOND, READER, WIRES_OF_DIAMOND};
 use reference::generate::examples::{P10, P11, P12, P7, P9, SEVEN};
@@ -275,7 +275,7 @@ fn synthesised_words_of_blocks() {
         assert_eq!(synthesise(&graph_table::encode(&graph), &mut table), 0);
         assert!(block_words(&table).all(|words| is_right(&table, words)));
         let machine = decode(&table).expect("a machine");
-        for Words2 { block, state, reference } in block_words(&table) {
+        for BlockWords { block, state, reference } in block_words(&table) {
             let own = machine.states.get(state as usize);
             let wire = own.and_then(|state| state.arrivals.get(&block));
             assert_eq!(wire.map_or(0, |&wire| wire as u32 + 16), reference);

@@ -161,14 +161,14 @@ pub const SYNTHESES: [Reading; 6] =
 
 /// A block's two words.
 #[derive(Clone, Copy, Debug, PartialEq, Eq)]
-pub struct Words2 {
+pub struct BlockWords {
     pub block: usize,
     pub state: u32,
     pub reference: u32,
 }
 
-pub fn block_words(table: &[u32]) -> impl Iterator<Item = Words2> + '_ {
-    (0..64).map(|block| Words2 {
+pub fn block_words(table: &[u32]) -> impl Iterator<Item = BlockWords> + '_ {
+    (0..64).map(|block| BlockWords {
         block,
         state: table[STATES_AT + block],
         reference: table[ARRIVALS_AT + block],
@@ -186,8 +186,8 @@ fn counted(table: &[u32]) -> bool {
 }
 
 /// By the request: a state below N and a wire of it, or 255 and 0.
-pub fn is_right(table: &[u32], words: Words2) -> bool {
-    let Words2 { state, reference, .. } = words;
+pub fn is_right(table: &[u32], words: BlockWords) -> bool {
+    let BlockWords { state, reference, .. } = words;
     match state {
         255 => reference == 0,
         _ if state < table[0] => {
@@ -294,8 +294,8 @@ fn is_absent(reading: Reading, n: u32, state: u32) -> bool {
     }
 }
 
-fn is_reference(reading: Reading, table: &[u32], words: Words2) -> bool {
-    let Words2 { state, reference, .. } = words;
+fn is_reference(reading: Reading, table: &[u32], words: BlockWords) -> bool {
+    let BlockWords { state, reference, .. } = words;
     let (reference, count) = (u64::from(reference), u64::from(wires(table, state)));
     let own = (16..16 + count).contains(&reference);
     match reading {
@@ -311,8 +311,8 @@ fn is_reference(reading: Reading, table: &[u32], words: Words2) -> bool {
     }
 }
 
-fn passes(reading: Reading, tried: &Tried, words: Words2) -> bool {
-    let (table, Words2 { block, state, reference }) = (tried.table, words);
+fn passes(reading: Reading, tried: &Tried, words: BlockWords) -> bool {
+    let (table, BlockWords { block, state, reference }) = (tried.table, words);
     let n = table[0];
     match reading {
         Unchecked => return true,
@@ -336,8 +336,8 @@ fn passes(reading: Reading, tried: &Tried, words: Words2) -> bool {
 /// What a reading refuses besides: references that are shared, states without blocks, starters in
 /// other states.
 fn refuses_more(reading: Reading, table: &[u32]) -> bool {
-    let present = |words: &Words2| words.state < table[0];
-    let all: Vec<Words2> = block_words(table).filter(present).collect();
+    let present = |words: &BlockWords| words.state < table[0];
+    let all: Vec<BlockWords> = block_words(table).filter(present).collect();
     match reading {
         SharedRefused => {
             let distinct: BTreeSet<_> = all.iter().map(|one| (one.state, one.reference)).collect();
@@ -403,7 +403,13 @@ fn arrival(reading: Reading, trace: &Trace, cycle: usize, reference: u32) -> Opt
     trace.cycles[read].wires.get(wire as usize).copied()
 }
 
-fn is_counted(reading: Reading, tried: &Tried, trace: &Trace, cycle: usize, one: Words2) -> bool {
+fn is_counted(
+    reading: Reading,
+    tried: &Tried,
+    trace: &Trace,
+    cycle: usize,
+    one: BlockWords,
+) -> bool {
     let (table, own) = (tried.table, &trace.cycles[cycle]);
     let is_starter = (0..table[0] as usize).any(|state| table[2 + state] == one.block as u32);
     match reading {
@@ -425,7 +431,7 @@ fn is_counted(reading: Reading, tried: &Tried, trace: &Trace, cycle: usize, one:
 
 /// What one cycle adds.
 fn of_cycle(reading: Reading, tried: &Tried, trace: &Trace, cycle: usize) -> u64 {
-    let own: Vec<Words2> = block_words(tried.table)
+    let own: Vec<BlockWords> = block_words(tried.table)
         .filter(|&one| is_counted(reading, tried, trace, cycle, one))
         .collect();
     let mut words: Vec<(u32, u32)> = own
@@ -456,7 +462,7 @@ fn of_cycle(reading: Reading, tried: &Tried, trace: &Trace, cycle: usize) -> u64
 
 /// The blocks that are run in any cycle, each once.
 fn distinct(tried: &Tried, trace: &Trace) -> u64 {
-    let run = |one: &Words2| {
+    let run = |one: &BlockWords| {
         (0..trace.cycles.len()).any(|cycle| {
             let own = is_counted(Right, tried, trace, cycle, *one);
             own && arrival(Right, trace, cycle, one.reference).is_some_and(|word| word != 0)
@@ -487,7 +493,7 @@ pub fn blocks(reading: Reading, tried: &Tried, trace: &Trace) -> u64 {
 }
 
 /// Whether a reading's synthesis writes another reference for a block than the right table has.
-fn writes_another(reading: Reading, table: &[u32], one: Words2) -> bool {
+fn writes_another(reading: Reading, table: &[u32], one: BlockWords) -> bool {
     let absent = one.state == 255;
     let is_starter = !absent && table[2 + one.state as usize] == one.block as u32;
     let at = |state: u32| RECORDS_AT + RECORD_WORDS * state as usize;
@@ -513,7 +519,8 @@ pub fn makes_another(reading: Reading, table: &[u32]) -> bool {
 /// Makes the words of blocks right where they are not: such a block is made absent.
 pub fn mend_blocks(table: &mut [u32]) {
     if counted(table) {
-        let wrong: Vec<Words2> = block_words(table).filter(|&one| !is_right(table, one)).collect();
+        let wrong: Vec<BlockWords> =
+            block_words(table).filter(|&one| !is_right(table, one)).collect();
         for one in wrong {
             table[STATES_AT + one.block] = 255;
             table[ARRIVALS_AT + one.block] = 0;

@@ -3,10 +3,10 @@ pub mod WireReads
 pub mod Environment
 pub mod TouchLaws
 pub mod Apart
+pub mod BlockLaws
 pub mod Machines
 pub mod Steps
 pub mod WrittenTable
-pub mod BlockLaws
 pub mod ChainLaws
 pub mod ReadBack
 pub mod Unrefused

@@ -11,8 +11,9 @@ use Rattle.runs.proofs.ListLaws.{and-left, and-right, and-both, every-map, leng
 use Rattle.runs.specs.Lists.{upFrom, every}
 use Rattle.fsmd.specs.Layout.{maxStates, maxBlocks, maxRegisters, maxWires, recordOffset, nextStateOffset, nextRegistersOffset}
 use Rattle.fsmd.specs.Machine.{stateOf, emptyState, wordlessMachine}
-use Rattle.fsmd.specs.Table.{firstWireAt, wireCountAt, stateAt, machineOf, validReference, validWires, validState, within, apart, touchAt, rightTouch, rightBlock, rightBlocks, admittedMachine}
+use Rattle.fsmd.specs.Table.{firstWireAt, wireCountAt, stateAt, machineOf, validReference, validWires, validState, within, apart, touchAt, rightTouch, rightBlocks, admittedMachine}
 use Rattle.fsmd.specs.Touch.{touchWord}
+use Rattle.fsmd.proofs.BlockLaws.{rightAt, right-blocks-are}
 use Rattle.fsmd.proofs.Windows.{wiresFrom, wires-length}
 
 -- ---- the machine of a table
@@ -99,7 +100,7 @@ pub record Admitted (t : List ℕ) : Type 0 where
   pub separate : (j k : ℕ) → j < k → k < getD t 0 0 → apart t j k ≡ true
   pub valid : (k : ℕ) → k < getD t 0 0 → validState (getD t 1 0) (stateAt t k) ≡ true
   pub touch : (k : ℕ) → k < getD t 0 0 → touchAt t k ≡ touchWord (stateAt t k .nextRegisters)
-  pub blocks : (b : ℕ) → b < maxBlocks → rightBlock t b ≡ true
+  pub blocks : (b : ℕ) → b < maxBlocks → rightAt t b ≡ true
 
 pub admitted-facts : (t : List ℕ) → admittedMachine t ≡ true → Admitted t
 unfolding admittedMachine
@@ -131,7 +132,7 @@ admitted-facts t e =
       valid = λ k q. and-left (validState r (stateAt t k)) (rightTouch t k) (below-at p n k (and-right (a && b && c && d && f && g) h e7) q);
       touch = λ k q.
           eqb-true (touchAt t k) (touchWord (stateAt t k .nextRegisters)) (and-right (validState r (stateAt t k)) (rightTouch t k) (below-at p n k (and-right (a && b && c && d && f && g) h e7) q));
-      blocks = λ x q. below-at (rightBlock t) maxBlocks x (and-right (a && b && c && d && f && g && h) i e) q;
+      blocks = λ x q. below-at (rightAt t) maxBlocks x (sym (right-blocks-are t) ∙ and-right (a && b && c && d && f && g && h) i e) q;
     }
 
 pub facts-admitted : (t : List ℕ) → Admitted t → admittedMachine t ≡ true
@@ -147,4 +148,4 @@ facts-admitted t m =
     let h : every p (upFrom 0 n) ≡ true =
     below-of p n (λ k q. and-both (validState r (stateAt t k)) (rightTouch t k) (m .valid k q) (eq-eqb (touchAt t k) (touchWord (stateAt t k .nextRegisters)) (m .touch k q))) in
     rw (le-leb 1 n (m .some-states), le-leb n maxStates (m .few-states), le-leb 1 r (m .some-registers), le-leb r maxRegisters (m .few-registers), f, g, h)
-    (below-of (rightBlock t) maxBlocks (m .blocks))
+    (right-blocks-are t ∙ below-of (rightAt t) maxBlocks (m .blocks))

@@ -17,8 +17,9 @@ use Rattle.fsmd.specs.declared.Wire.{Wire}
 use Rattle.fsmd.specs.Layout.{maxStates, maxBlocks, maxRegisters, maxWires, startersOffset, blockStatesOffset, recordOffset, nextStateOffset, nextRegistersOffset, touchOffset, wireOffset, arrivalsOffset, absent, machineWords}
 use Rattle.fsmd.specs.Machine.{State, FSMD, machineRunner, blocksRun, wordlessMachine}
 use Rattle.fsmd.specs.Touch.{touchWord}
-use Rattle.fsmd.specs.Table.{wireAt, firstWireAt, wireCountAt, stateAt, blockStateAt, arrivalAt, machineOf, rightBlock, admittedMachine}
+use Rattle.fsmd.specs.Table.{wireAt, firstWireAt, wireCountAt, stateAt, blockStateAt, arrivalAt, machineOf, admittedMachine}
 use Rattle.fsmd.specs.Run.{machineRefusal, machineAnswer, machineRegisters, machineBlocks, machineWordsRefusal, machineWordsAnswer, machineWordsRegisters, machineWordsBlocks}
+use Rattle.fsmd.proofs.BlockLaws.{rightAt}
 use Rattle.fsmd.proofs.Machines.{Admitted, admitted-facts, facts-admitted}
 use Rattle.fsmd.proofs.Steps.{refuse-machine}
 use Rattle.fsmd.proofs.Unrefused.{unrefused, words-unrefused}
@@ -67,16 +68,16 @@ module _ {t t′ : List ℕ} (f : SameFront machineWords t t′) where
       five-same (f .word 1 (omega arith)) starters (f .words blockStatesOffset maxBlocks (omega arith)) (f .words arrivalsOffset maxBlocks (omega arith)) states
 
   -- a block whose state is none of the machine's is not right, whatever words stand where its record would be
-  block-same : getD t 0 0 ≤ maxStates → (b : ℕ) → b < maxBlocks → rightBlock t b ≡ rightBlock t′ b
+  block-same : getD t 0 0 ≤ maxStates → (b : ℕ) → b < maxBlocks → rightAt t b ≡ rightAt t′ b
   block-same few b h =
       let k = blockStateAt t b in
       let n = getD t 0 0 in
-      let e : rightBlock t′ b ≡ choose (eqb k absent) (eqb (arrivalAt t b) 0) (ltb k n && leb maxRegisters (arrivalAt t b) && ltb (arrivalAt t b) (maxRegisters + wireCountAt t′ k)) =
+      let e : rightAt t′ b ≡ choose (eqb k absent) (eqb (arrivalAt t b) 0) (ltb k n && leb maxRegisters (arrivalAt t b) && ltb (arrivalAt t b) (maxRegisters + wireCountAt t′ k)) =
       rw (f .word (blockStatesOffset + b) (omega arith), f .word (arrivalsOffset + b) (omega arith), f .word 0 (omega arith)) refl in
       go (ltb k n) refl ∙ sym e
     where
       go : (c : Bool) → ltb (blockStateAt t b) (getD t 0 0) ≡ c
-          → rightBlock t b ≡ choose (eqb (blockStateAt t b) absent) (eqb (arrivalAt t b) 0) (ltb (blockStateAt t b) (getD t 0 0) && leb maxRegisters (arrivalAt t b) && ltb (arrivalAt t b) (maxRegisters + wireCountAt t′ (blockStateAt t b)))
+          → rightAt t b ≡ choose (eqb (blockStateAt t b) absent) (eqb (arrivalAt t b) 0) (ltb (blockStateAt t b) (getD t 0 0) && leb maxRegisters (arrivalAt t b) && ltb (arrivalAt t b) (maxRegisters + wireCountAt t′ (blockStateAt t b)))
       go true c = rw (count-same (blockStateAt t b) (omega (arith, ltb-true (blockStateAt t b) (getD t 0 0) c)))
       go false c = rw c
 

@@ -17,8 +17,9 @@ use Rattle.runs.specs.Runs.{Runner}
 use Rattle.fsmd.specs.Layout.{maxStates, maxBlocks, maxRegisters, maxWires, blockStatesOffset, arrivalsOffset, absent}
 use Rattle.fsmd.specs.Machine.{State, wireCount, FSMD, emptyState, stateOf, worked, clock, machineRunner, blocksOf, nonzero, blocksRun}
 use Rattle.fsmd.specs.Touch.{touchWord}
-use Rattle.fsmd.specs.Table.{machineTableOf, stateCount, wireCountAt, stateAt, blockStateAt, arrivalAt, machineOf, validState, rightBlock, admittedMachine}
+use Rattle.fsmd.specs.Table.{machineTableOf, stateCount, wireCountAt, stateAt, blockStateAt, arrivalAt, machineOf, validState, admittedMachine}
 use Rattle.fsmd.proofs.Apart.{behind-apart}
+use Rattle.fsmd.proofs.BlockLaws.{rightAt}
 use Rattle.fsmd.proofs.Machines.{facts-admitted}
 use Rattle.fsmd.proofs.WrittenTable.{before-room, before-less, count-is, registers-are, back-first, back-count, back-state, back-touch, back-blocks, back-arrivals}
 use Rattle.fsmd.proofs.Windows.{window-at}
@@ -115,7 +116,7 @@ module _ (m : FSMD) (rest : List ℕ) (f : Fits m) where
       ∙ getD-padded maxBlocks 0 (m .arrivals) b h
 
   -- a block's words are right in the table where they are in the machine
-  read-right : (b : ℕ) → b < maxBlocks → rightBlock (machineTableOf m ++ rest) b ≡ rightBlockOf m b
+  read-right : (b : ℕ) → b < maxBlocks → rightAt (machineTableOf m ++ rest) b ≡ rightBlockOf m b
   read-right b h =
       let t = machineTableOf m ++ rest in
       ap₂ (λ (k x : ℕ). choose (eqb k absent) (eqb x 0) (ltb k (stateCount t) && leb maxRegisters x && ltb x (maxRegisters + wireCountAt t k))) (read-block-state b h) (read-arrival b h)

@@ -129,15 +129,19 @@ within t k = leb (firstWireAt t k + wireCountAt t k) maxWires
 abbrev pub rightTouch : List ℕ → ℕ → Bool
 rightTouch t k = eqb (touchAt t k) (touchWord (stateAt t k .nextRegisters))
 
--- block b is absent, and the reference of its arrival is 0; or its state is one of the machine's, and the reference a wire of it
-abbrev pub rightBlock : List ℕ → ℕ → Bool
-rightBlock t b =
-    let k = blockStateAt t b in
-    let x = arrivalAt t b in
-    choose (eqb k absent) (eqb x 0) (ltb k (stateCount t) && leb maxRegisters x && ltb x (maxRegisters + wireCountAt t k))
+-- of a block, its state k and the reference x of its arrival: it is absent and x is 0, or k is one of the machine's states and x a wire of it
+abbrev pub rightBlock : List ℕ → ℕ → ℕ → Bool
+rightBlock t k x = choose (eqb k absent) (eqb x 0) (ltb k (stateCount t) && leb maxRegisters x && ltb x (maxRegisters + wireCountAt t k))
 
+-- of blocks, their states and references one after another
+abbrev pub rightTogether : List ℕ → List ℕ → List ℕ → Bool
+rightTogether t [] xs = true
+rightTogether t (k ∷ ks) [] = true
+rightTogether t (k ∷ ks) (x ∷ xs) = rightBlock t k x && rightTogether t ks xs
+
+-- of all 64
 unfoldable pub rightBlocks : List ℕ → Bool
-rightBlocks t = every (rightBlock t) (upFrom 0 maxBlocks)
+rightBlocks t = rightTogether t (padded maxBlocks 0 (drop blockStatesOffset t)) (padded maxBlocks 0 (drop arrivalsOffset t))
 
 unfoldable pub admittedMachine : List ℕ → Bool
 unfolding stateAt validState touchWord rightBlocks

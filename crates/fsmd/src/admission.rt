@@ -9,7 +9,7 @@ ghost use Rattle.word.specs.Word.{setCode};
 ghost use Rattle.runs.specs.Lists.{upFrom, every};
 ghost use Rattle.fsmd.specs.Layout.{machineWords, maxStates, maxBlocks, maxRegisters, maxWires};
 ghost use Rattle.fsmd.specs.Touch.{touchWord};
-ghost use Rattle.fsmd.specs.Table.{stateCount, machineRegisterCount, wireAt, stateAt, firstWireAt, wireCountAt, validReference, validWire, validWires, validState, within as withinOf, apart as apartOf, rightTouch, rightBlock, rightBlocks, admittedMachine};
+ghost use Rattle.fsmd.specs.Table.{stateCount, machineRegisterCount, blockStateAt, arrivalAt, wireAt, stateAt, firstWireAt, wireCountAt, validReference, validWire, validWires, validState, within as withinOf, apart as apartOf, rightTouch, rightBlock, rightBlocks, admittedMachine};
 use super::MachineTable;
 use super::Wire;
 use super::table::first_wire;
@@ -282,7 +282,7 @@ fn right_block(table: &[u32], states: usize, b: usize) -> bool
     requires { ⌜ b < maxBlocks ⌝ }
     requires { ⌜ states ≡ stateCount (now table) ⌝ }
     requires { ⌜ states ≤ maxStates ⌝ }
-    ensures { λ v. ⌜ v ≡ rightBlock (now (table .entry)) b ⌝ }
+    ensures { λ v. ⌜ v ≡ rightBlock (now (table .entry)) (blockStateAt (now (table .entry)) b) (arrivalAt (now (table .entry)) b) ⌝ }
 {
     let k = table[MachineTable::BLOCK_STATES + b];
     let x = word_index(table[MachineTable::ARRIVALS + b]);

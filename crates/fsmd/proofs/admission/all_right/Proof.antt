@@ -8,13 +8,13 @@ use borrow.Author.Needs.{needs}
 use Rattle.runs.proofs.Every.{below-fails, below-passes, below-done}
 use Rattle.runs.specs.Lists.{upFrom, every}
 use Rattle.fsmd.specs.Layout.{maxBlocks}
-use Rattle.fsmd.specs.Table.{rightBlock, rightBlocks}
-use Rattle.fsmd.proofs.BlockLaws.{right-blocks-are}
+use Rattle.fsmd.specs.Table.{rightBlocks}
+use Rattle.fsmd.proofs.BlockLaws.{rightAt, right-blocks-are}
 use Rattle.fsmd.proofs.admission.all_right.Statement.{statement}
 use Rattle.fsmd.proofs.admission.all_right.Tie as tie
 
 abbrev Inv-loop : tie.InvT-loop
-Inv-loop table states b₀ b = (b ≤ maxBlocks) × (rightBlocks table ≡ every (rightBlock table) (drop b (upFrom 0 maxBlocks)))
+Inv-loop table states b₀ b = (b ≤ maxBlocks) × (rightBlocks table ≡ every (rightAt table) (drop b (upFrom 0 maxBlocks)))
 
 abbrev μ-loop : tie.MeasureT-loop
 μ-loop table states b₀ b = maxBlocks - b
@@ -27,7 +27,7 @@ returns c =
     let b = c .before .before .before in
     let a = b .before .before .args in
     let t = now (a .table) in
-    sym (b .loop .inv .1 ∙ below-fails (rightBlock t) maxBlocks (b .loop .b) (c .before .before .loop-test .taken) (c .before .right-block .result) (c .before .right-block .ensures) (c .if1 .taken))
+    sym (b .loop .inv .1 ∙ below-fails (rightAt t) maxBlocks (b .loop .b) (c .before .before .loop-test .taken) (c .before .right-block .result) (c .before .right-block .ensures) (c .if1 .taken))
 
 loop-less : tie.Need-loop-less Inv-loop μ-loop
 loop-less c = omega arith
@@ -38,7 +38,7 @@ loop-again c =
     let a = b .before .before .args in
     let t = now (a .table) in (
       omega arith,
-      b .loop .inv .1 ∙ below-passes (rightBlock t) maxBlocks (b .loop .b) (c .before .before .loop-test .taken) (c .before .right-block .result) (c .before .right-block .ensures) (c .if1 .left),
+      b .loop .inv .1 ∙ below-passes (rightAt t) maxBlocks (b .loop .b) (c .before .before .loop-test .taken) (c .before .right-block .result) (c .before .right-block .ensures) (c .if1 .left),
     )
 
 returns-2 : tie.Need-returns-2 Inv-loop μ-loop
@@ -46,7 +46,7 @@ returns-2 c =
     let b = c .before in
     let a = b .before .before .args in
     let t = now (a .table) in
-    sym (b .loop .inv .1 ∙ below-done (rightBlock t) maxBlocks (b .loop .b) (c .loop-test .left))
+    sym (b .loop .inv .1 ∙ below-done (rightAt t) maxBlocks (b .loop .b) (c .loop-test .left))
 
 pub all-right-spec : {M : Type 1} → statement M
 all-right-spec =

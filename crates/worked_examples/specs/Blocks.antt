@@ -7,7 +7,7 @@ use lib.Dec.{eqb}
 use Rattle.word.specs.Word.{evalOf}
 use Rattle.runs.specs.Lists.{same, every}
 use Rattle.runs.specs.Operations.{answered, totalOf}
-use Rattle.cfg.specs.Graph.{CFG}
+use Rattle.cfg.specs.Graph.{CFG, runBlock}
 use Rattle.cfg.specs.Run.{graphRefusal, graphAnswer}
 use Rattle.cfg.specs.Table.{graphTableOf, graphOf, admittedGraph}
 use Rattle.fsmd.specs.Layout.{blockStatesOffset, arrivalsOffset}
@@ -60,7 +60,7 @@ ten t =
     && eqb (boundsNumber (boundsAnswer t (regs 0 7) (regs 0 7) 0)) 10
 
 unfoldable pub blockRows : List Row
-unfolding evalOf groups machine graphRefusal graphOf admittedGraph answered totalOf machineRefusal machineWordsRefusal machineOf machineTableOf admittedMachine clock blocksRun touchesAnswer firstTouchingAnswer boundsAnswer P7 P9 P11 P12 Rates Meet Once
+unfolding evalOf groups machine graphRefusal graphOf runBlock graphTableOf admittedGraph answered totalOf machineRefusal machineWordsRefusal machineOf machineTableOf admittedMachine clock blocksRun touchesAnswer firstTouchingAnswer boundsAnswer P7 P9 P11 P12 Rates Meet Once
 blockRows =
     -- what synthesis writes
     row "13,762 words" (eqb (length (made P7)) 13762)

@@ -1,5 +1,6 @@
 -- Chains of blocks: made from the last block down, gone along one block after another, and what is counted so. Assumes nothing.
 use Prim.Native.Nat.{ℕ, suc, _+_, _-_, _%_, _≤_, _<_}
+use native.Mathlib.Nat.{mod-eq-of-lt}
 use native.Mathlib.Omega.{arith}
 use mathlib.Core.Bool.{Bool, true, false, not}
 use mathlib.Core.List.{List, [], _∷_, map}
@@ -16,7 +17,8 @@ use Rattle.runs.proofs.Sets.{In}
 use Rattle.runs.proofs.Tests.{Compared, compared, same, other}
 use Rattle.runs.specs.Lists.{upFrom, keep, only}
 use Rattle.fsmd.specs.Chains.{blocksFrom, chainWords, Chain, Chained}
-use Rattle.fsmd.specs.Layout.{maxStates, maxBlocks, maxRegisters, blockStatesOffset, arrivalsOffset, absent, machineWords, roomWords}
+use Rattle.fsmd.specs.Clock.{readIn}
+use Rattle.fsmd.specs.Layout.{maxStates, maxBlocks, maxRegisters, blockStatesOffset, arrivalsOffset, absent, machineWords}
 use Rattle.fsmd.specs.Machine.{State, worked, blocksOf, nonzero, blocksRun}
 use Rattle.fsmd.specs.Table.{stateCount, blockStateAt, arrivalAt, stateAt, machineOf}
 use Rattle.fsmd.proofs.Machines.{state-is}
@@ -206,15 +208,15 @@ module _ (t : List ℕ) (k : ℕ) where
       omega (arith, length-only (λ x. not (eqb (getD env x 0) 0)) refs, length-map (blocksFrom t k 0) (arrivalAt t), few-blocks 0)
 
   -- references of a state's wires are read in the room, as the code does it
-  pub arrived-is : (l : List ℕ) (n : ℕ) → maxRegisters + n ≤ roomWords → ((b : ℕ) → b < maxBlocks → blockStateAt t b ≡ k → arrivalAt t b < maxRegisters + n)
-      → length (only (λ b. not (eqb (getD l (arrivalAt t b % roomWords) 0) 0)) (blocksFrom t k 0)) ≡ nonzero (take (maxRegisters + n) l) (map (arrivalAt t) (blocksFrom t k 0))
+  pub arrived-is : (l : List ℕ) (n : ℕ) → maxRegisters + n ≤ length l → ((b : ℕ) → b < maxBlocks → blockStateAt t b ≡ k → arrivalAt t b < maxRegisters + n)
+      → length (only (λ b. not (eqb (readIn l (arrivalAt t b)) 0)) (blocksFrom t k 0)) ≡ nonzero (take (maxRegisters + n) l) (map (arrivalAt t) (blocksFrom t k 0))
   arrived-is l n fits h =
       let env = take (maxRegisters + n) l in
-      ap length (only-same (λ b. not (eqb (getD l (arrivalAt t b % roomWords) 0) 0)) (λ b. not (eqb (getD env (arrivalAt t b) 0) 0)) (blocksFrom t k 0)
+      ap length (only-same (λ b. not (eqb (readIn l (arrivalAt t b)) 0)) (λ b. not (eqb (getD env (arrivalAt t b) 0) 0)) (blocksFrom t k 0)
       (λ b i.
       let m = members-are b i in
       let x : arrivalAt t b < maxRegisters + n = h b (m .0) (m .1) in
-      let e : arrivalAt t b % roomWords ≡ arrivalAt t b = omega arith in
+      let e : arrivalAt t b % length l ≡ arrivalAt t b = mod-eq-of-lt (omega arith) in
       ap (λ (w : ℕ). not (eqb w 0)) (ap (λ (i : ℕ). getD l i 0) e ∙ sym (getD-take (maxRegisters + n) l (arrivalAt t b) 0 x))))
       ∙ sym (length-only-map (arrivalAt t) (λ x. not (eqb (getD env x 0) 0)) (blocksFrom t k 0))
 

@@ -1,5 +1,6 @@
 -- What references read in a cycle, word by word as the code works it out, and the cycle of a table's state. Assumes nothing.
 use Prim.Native.Nat.{ℕ, suc, _+_, _%_, _<_, _≤_}
+use native.Mathlib.Nat.{mod-eq-of-lt}
 use native.Mathlib.Omega.{arith}
 use mathlib.Core.List.{List, [], _∷_, _++_, map}
 use mathlib.Core.Bool.{Bool, true, false, not, _&&_, _||_}
@@ -15,7 +16,8 @@ use Rattle.runs.specs.Lists.{every}
 use Rattle.runs.proofs.ListLaws.{and-right, map-every}
 use Rattle.runs.proofs.Tests.{Compared, compared, same, other}
 use Rattle.runs.specs.Runs.{Place, Moved}
-use Rattle.fsmd.specs.Layout.{maxRegisters, recordOffset, nextStateOffset, nextRegistersOffset, roomWords}
+use Rattle.fsmd.specs.Clock.{readIn}
+use Rattle.fsmd.specs.Layout.{maxRegisters, recordOffset, nextStateOffset, nextRegistersOffset}
 use Rattle.fsmd.specs.Machine.{wireArity, wireValue, worked, wireOver, wiresOver, toState, clock}
 use Rattle.fsmd.specs.Table.{wireAt, stateAt, machineOf, firstWireAt, wireCountAt, validReference, validWire}
 use Rattle.fsmd.specs.declared.Wire.{Wire}
@@ -58,32 +60,32 @@ reference-below r n x h e = go (ltb x r) refl e
     go false q p = ltb-true x (maxRegisters + n) (and-right (leb maxRegisters x) (ltb x (maxRegisters + n)) p)
 
 -- what a valid reference reads is among the words so far, and the rest of the room does not matter
-module _ (l : List ℕ) (r n : ℕ) (few : r ≤ maxRegisters) (fits : maxRegisters + n ≤ roomWords) where
-  pub reads-same : (x : ℕ) → validReference r n x ≡ true → getD l (x % roomWords) 0 ≡ getD (take (maxRegisters + n) l) x 0
+module _ (l : List ℕ) (r n : ℕ) (few : r ≤ maxRegisters) (fits : maxRegisters + n ≤ length l) where
+  pub reads-same : (x : ℕ) → validReference r n x ≡ true → readIn l x ≡ getD (take (maxRegisters + n) l) x 0
   reads-same x e =
       let h = reference-below r n x few e in
-      let m : x % roomWords ≡ x = omega arith in
+      let m : x % length l ≡ x = mod-eq-of-lt (omega arith) in
       ap (λ (i : ℕ). getD l i 0) m ∙ sym (getD-take (maxRegisters + n) l x 0 h)
 
-  pub all-same : (xs : List ℕ) → every (validReference r n) xs ≡ true → map (λ x. getD l (x % roomWords) 0) xs ≡ map (λ x. getD (take (maxRegisters + n) l) x 0) xs
-  all-same = map-every (validReference r n) (λ x. getD l (x % roomWords) 0) (λ x. getD (take (maxRegisters + n) l) x 0) reads-same
+  pub all-same : (xs : List ℕ) → every (validReference r n) xs ≡ true → map (readIn l) xs ≡ map (λ x. getD (take (maxRegisters + n) l) x 0) xs
+  all-same = map-every (validReference r n) (readIn l) (λ x. getD (take (maxRegisters + n) l) x 0) reads-same
 
 -- so a valid wire gives the same
-module _ (s : ℕ) (l : List ℕ) (r n : ℕ) (w : Wire) (few : r ≤ maxRegisters) (fits : maxRegisters + n ≤ roomWords) (valid : validWire r n w ≡ true) where
-  first-same : Valid r n w → 1 ≤ wireArity (w .code) → choose (eqb (w .code) setCode) (w .a) (getD l (w .a % roomWords) 0) ≡ choose (eqb (w .code) setCode) (w .a) (getD (take (maxRegisters + n) l) (w .a) 0)
+module _ (s : ℕ) (l : List ℕ) (r n : ℕ) (w : Wire) (few : r ≤ maxRegisters) (fits : maxRegisters + n ≤ length l) (valid : validWire r n w ≡ true) where
+  first-same : Valid r n w → 1 ≤ wireArity (w .code) → choose (eqb (w .code) setCode) (w .a) (readIn l (w .a)) ≡ choose (eqb (w .code) setCode) (w .a) (getD (take (maxRegisters + n) l) (w .a) 0)
   first-same v h = go (compared (w .code) setCode)
     where
-      go : Compared (w .code) setCode → choose (eqb (w .code) setCode) (w .a) (getD l (w .a % roomWords) 0) ≡ choose (eqb (w .code) setCode) (w .a) (getD (take (maxRegisters + n) l) (w .a) 0)
+      go : Compared (w .code) setCode → choose (eqb (w .code) setCode) (w .a) (readIn l (w .a)) ≡ choose (eqb (w .code) setCode) (w .a) (getD (take (maxRegisters + n) l) (w .a) 0)
       go (same b e) = rw b
       go (other b e) = rw b (reads-same l r n few fits (w .a) (v .first e h))
 
-  pub value-within : wireValue s (λ x. getD l (x % roomWords) 0) w ≡ wireValue s (λ x. getD (take (maxRegisters + n) l) x 0) w
+  pub value-within : wireValue s (readIn l) w ≡ wireValue s (λ x. getD (take (maxRegisters + n) l) x 0) w
   unfolding wireValue
   value-within =
       let k = w .code in
       let v = valid-facts r n w valid in
       let m = reads-operands k in
-      let f : ℕ → ℕ = λ x. getD l (x % roomWords) 0 in
+      let f : ℕ → ℕ = readIn l in
       let g : ℕ → ℕ = λ x. getD (take (maxRegisters + n) l) x 0 in
       eval-uses s (choose (eqb k setCode) (w .a) (f (w .a))) (f (w .b)) (f (w .c)) (choose (eqb k setCode) (w .a) (g (w .a))) (g (w .b)) (g (w .c)) k
       (λ h. first-same v (omega arith))
@@ -91,22 +93,22 @@ module _ (s : ℕ) (l : List ℕ) (r n : ℕ) (w : Wire) (few : r ≤ maxRegiste
       (λ h. reads-same l r n few fits (w .c) (v .third (omega arith)))
 
   -- an add or sub reads all three; no other code goes over, whatever is read
-  over-same : (w .code ≡ setCode → ⊥) → 3 ≤ wireArity (w .code) → wireOver (λ x. getD l (x % roomWords) 0) w ≡ wireOver (λ x. getD (take (maxRegisters + n) l) x 0) w
+  over-same : (w .code ≡ setCode → ⊥) → 3 ≤ wireArity (w .code) → wireOver (readIn l) w ≡ wireOver (λ x. getD (take (maxRegisters + n) l) x 0) w
   unfolding wireOver
   over-same p h =
       let v = valid-facts r n w valid in
       let g : ℕ → ℕ = λ x. getD (take (maxRegisters + n) l) x 0 in
-      ap₂ (λ (x y : ℕ). overOf (w .code) x y && not (eqb (getD l (w .c % roomWords) 0) 0)) (reads-same l r n few fits (w .a) (v .first p (omega arith))) (reads-same l r n few fits (w .b) (v .second (omega arith)))
+      ap₂ (λ (x y : ℕ). overOf (w .code) x y && not (eqb (readIn l (w .c)) 0)) (reads-same l r n few fits (w .a) (v .first p (omega arith))) (reads-same l r n few fits (w .b) (v .second (omega arith)))
       ∙ ap (λ (z : ℕ). overOf (w .code) (g (w .a)) (g (w .b)) && not (eqb z 0)) (reads-same l r n few fits (w .c) (v .third h))
 
-  pub over-within : wireOver (λ x. getD l (x % roomWords) 0) w ≡ wireOver (λ x. getD (take (maxRegisters + n) l) x 0) w
+  pub over-within : wireOver (readIn l) w ≡ wireOver (λ x. getD (take (maxRegisters + n) l) x 0) w
   unfolding wireOver
   over-within = go (compared (w .code) addCode) (compared (w .code) subCode)
     where
-      go : Compared (w .code) addCode → Compared (w .code) subCode → wireOver (λ x. getD l (x % roomWords) 0) w ≡ wireOver (λ x. getD (take (maxRegisters + n) l) x 0) w
+      go : Compared (w .code) addCode → Compared (w .code) subCode → wireOver (readIn l) w ≡ wireOver (λ x. getD (take (maxRegisters + n) l) x 0) w
       go (same b e) d = over-same (λ h. omega arith) (rw e (omega (arith, add-reads)))
       go (other b e) (same d f) = over-same (λ h. omega arith) (rw f (omega (arith, sub-reads)))
-      go (other b e) (other d f) = over-none (λ x. getD l (x % roomWords) 0) w e f ∙ sym (over-none (λ x. getD (take (maxRegisters + n) l) x 0) w e f)
+      go (other b e) (other d f) = over-none (readIn l) w e f ∙ sym (over-none (λ x. getD (take (maxRegisters + n) l) x 0) w e f)
 
 -- ---- the wires from `first` on, one after another
 

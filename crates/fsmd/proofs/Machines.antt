@@ -1,5 +1,6 @@
 -- The machine of a table, state by state, and what it is that a table is admitted. Assumes nothing.
 use Prim.Native.Nat.{ℕ, _+_, _<_, _≤_}
+use native.Mathlib.Omega.{arith}
 use mathlib.Core.Bool.{Bool, true, not, _&&_}
 use mathlib.Core.List.{List}
 use mathlib.Core.Path.{_≡_, refl, sym, ap, ap₂, _∙_}
@@ -9,7 +10,8 @@ use borrow.Author.Tests.{leb-true, le-leb, eqb-true, eq-eqb}
 use Rattle.runs.proofs.Every.{below-at, below-of}
 use Rattle.runs.proofs.ListLaws.{and-left, and-right, and-both, every-map, length-upFrom, getD-map-upFrom}
 use Rattle.runs.specs.Lists.{upFrom, every}
-use Rattle.fsmd.specs.Layout.{maxStates, maxBlocks, maxRegisters, maxWires, recordOffset, nextStateOffset, nextRegistersOffset}
+use Rattle.fsmd.specs.Clock.{Roomy, fitsSmall}
+use Rattle.fsmd.specs.Layout.{maxStates, maxBlocks, maxRegisters, maxWires, recordOffset, nextStateOffset, nextRegistersOffset, roomWords, smallRoomWords}
 use Rattle.fsmd.specs.Machine.{stateOf, emptyState, wordlessMachine}
 use Rattle.fsmd.specs.Table.{firstWireAt, wireCountAt, stateAt, machineOf, validReference, validWires, validState, within, apart, touchAt, rightTouch, rightBlocks, admittedMachine}
 use Rattle.fsmd.specs.Touch.{touchWord}
@@ -149,3 +151,11 @@ facts-admitted t m =
     below-of p n (λ k q. and-both (validState r (stateAt t k)) (rightTouch t k) (m .valid k q) (eq-eqb (touchAt t k) (touchWord (stateAt t k .nextRegisters)) (m .touch k q))) in
     rw (le-leb 1 n (m .some-states), le-leb n maxStates (m .few-states), le-leb 1 r (m .some-registers), le-leb r maxRegisters (m .few-registers), f, g, h)
     (right-blocks-are t ∙ below-of (rightAt t) maxBlocks (m .blocks))
+
+-- ---- rooms with space for each state
+
+pub small-roomy : (t : List ℕ) → fitsSmall t ≡ true → Roomy t smallRoomWords
+small-roomy t e k h = leb-true (maxRegisters + wireCountAt t k) smallRoomWords (below-at (λ i. leb (maxRegisters + wireCountAt t i) smallRoomWords) (getD t 0 0) k e h)
+
+pub admitted-roomy : (t : List ℕ) → admittedMachine t ≡ true → Roomy t roomWords
+admitted-roomy t e k h = let w = admitted-facts t e .in-space k h in omega arith

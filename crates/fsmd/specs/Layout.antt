@@ -89,9 +89,12 @@ recordOffset k = recordsOffset + recordWords * k
 abbrev pub wireOffset : ℕ → ℕ
 wireOffset i = wiresOffset + wireWords * i
 
--- the words that a cycle keeps for what references read: a power of two, not below 16 + 3,072
+-- the words that a run keeps for what references read: not below 16 + 3,072; fewer where no state has more than 240 wires
 abbrev pub roomWords : ℕ
 roomWords = 4096
+
+abbrev pub smallRoomWords : ℕ
+smallRoomWords = 256
 
 -- no block or no state
 abbrev pub absent : ℕ

@@ -2,16 +2,16 @@
 ghost use mathlib.Core.Path.{_≡_};
 ghost use mathlib.Core.Bool.{true, not, _&&_, _||_};
 ghost use mathlib.Core.List.{map, _++_};
-ghost use Prim.Native.Nat.{_+_, _%_, _<_, _≤_};
-ghost use lib.ListN.{length, getD, take, drop};
+ghost use Prim.Native.Nat.{_+_, _<_, _≤_};
+ghost use lib.ListN.{length, take, drop};
 ghost use lib.Dec.{eqb};
 ghost use Rattle.word.specs.Word.{evalOf, overOf};
 ghost use Rattle.runs.specs.Lists.{upFrom, only};
-ghost use Rattle.fsmd.specs.Layout.{machineWords, maxStates, maxRegisters, maxWires, roomWords};
+ghost use Rattle.fsmd.specs.Layout.{machineWords, maxStates, maxRegisters, maxWires};
 ghost use Rattle.fsmd.specs.Machine.{wireValue, worked, wireOver, wiresOver, clock, nonzero};
-ghost use Rattle.fsmd.specs.Table.{machineRegisterCount, wireAt, stateAt, machineOf, arrivalAt, validWires};
+ghost use Rattle.fsmd.specs.Table.{machineRegisterCount, wireCountAt, wireAt, stateAt, machineOf, arrivalAt, validWires};
 ghost use Rattle.fsmd.specs.Chains.{blocksFrom, Chained};
-ghost use Rattle.fsmd.specs.Clock.{Ready, Arriving, afterCycle};
+ghost use Rattle.fsmd.specs.Clock.{PowerOfTwo, readIn, Ready, Arriving, afterCycle};
 use super::MachineTable;
 use super::Wire;
 use super::table::first_wire;
@@ -37,13 +37,13 @@ struct Output {
     over: bool,
 }
 
-// What reference x reads in the room, of which it is taken modulo: that costs no branch. Those that an admitted machine reads lie in the room,
+// What reference x reads in the room, modulo whose words it is taken: that costs no branch. Those that an admitted machine reads lie in the room,
 // and the others do not matter.
 fn word_at(words: &[u32], x: u32) -> u32
-    requires { ⌜ length (now words) ≡ roomWords ⌝ }
-    ensures { λ v. ⌜ v ≡ getD (now (words .entry)) (x % roomWords) 0 ⌝ }
+    requires { ⌜ PowerOfTwo (length (now words)) ⌝ }
+    ensures { λ v. ⌜ v ≡ readIn (now (words .entry)) x ⌝ }
 {
-    words[word_index(x) % MachineTable::REFERENCES]
+    words[word_index(x) & (words.len() - 1)]
 }
 
 // What a sum gives, which goes over only where its block is arrived at: c is not zero. Few sums do, so that c is seldom looked at.
@@ -64,9 +64,9 @@ fn sum(sampled: u32, code: u32, a: u32, b: u32, c: u32, over: bool) -> Output
 // What a wire gives, where `over` says whether one before it goes over. Only an add or sub can, c is read where it is used, and their codes
 // are known where they are summed: one jump by the code leads to all of it, and other wires do nothing more than give their word.
 fn evaluated(words: &[u32], w: Wire, sampled: u32, over: bool) -> Output
-    requires { ⌜ length (now words) ≡ roomWords ⌝ }
-    ensures { λ r. ⌜ r .word ≡ wireValue sampled (λ x. getD (now (words .entry)) (x % roomWords) 0) w ⌝ }
-    ensures { λ r. ⌜ r .over ≡ (over || wireOver (λ x. getD (now (words .entry)) (x % roomWords) 0) w) ⌝ }
+    requires { ⌜ PowerOfTwo (length (now words)) ⌝ }
+    ensures { λ r. ⌜ r .word ≡ wireValue sampled (readIn (now (words .entry))) w ⌝ }
+    ensures { λ r. ⌜ r .over ≡ (over || wireOver (readIn (now (words .entry))) w) ⌝ }
 {
     let code = w.code;
     if code == Code::SET {
@@ -95,7 +95,7 @@ fn work(words: &mut [u32], table: &[u32], first: usize, count: usize, sampled: u
     requires { ⌜ first + count ≤ maxWires ⌝ }
     requires { ⌜ machineRegisterCount (now table) ≤ maxRegisters ⌝ }
     requires { ⌜ validWires (machineRegisterCount (now table)) 0 (map (wireAt (now table)) (upFrom first count)) ≡ true ⌝ }
-    requires { ⌜ length (now words) ≡ roomWords ⌝ }
+    requires { ⌜ PowerOfTwo (length (now words)) × (maxRegisters + count ≤ length (now words)) ⌝ }
     ensures { λ _. ⌜ take (maxRegisters + count) (now (words .exit)) ≡ worked sampled (take maxRegisters (now (words .entry))) (map (wireAt (now (table .entry))) (upFrom first count)) ⌝ }
     ensures { λ v. ⌜ v ≡ wiresOver sampled (take maxRegisters (now (words .entry))) (map (wireAt (now (table .entry))) (upFrom first count)) ⌝ }
 {
@@ -113,10 +113,10 @@ fn work(words: &mut [u32], table: &[u32], first: usize, count: usize, sampled: u
 
 // The next registers, by the references from `at` on: the first `count` are taken, the others keep their words.
 fn taken(words: &[u32], table: &[u32], at: usize, count: usize, registers: Registers) -> Registers
-    requires { ⌜ length (now words) ≡ roomWords ⌝ }
+    requires { ⌜ PowerOfTwo (length (now words)) ⌝ }
     requires { ⌜ at + count ≤ length (now table) ⌝ }
     requires { ⌜ count ≤ maxRegisters ⌝ }
-    ensures { λ r. ⌜ r .words ≡ map (λ x. getD (now (words .entry)) (x % roomWords) 0) (take count (drop at (now (table .entry)))) ++ drop count (registers .words) ⌝ }
+    ensures { λ r. ⌜ r .words ≡ map (readIn (now (words .entry))) (take count (drop at (now (table .entry)))) ++ drop count (registers .words) ⌝ }
 {
     let mut next = registers;
     let mut i = 0;
@@ -134,11 +134,11 @@ fn taken(words: &[u32], table: &[u32], at: usize, count: usize, registers: Regis
 
 // How many blocks of state k are arrived at, where `words` is what references read.
 fn arrived(words: &[u32], table: &[u32], chains: &[u8], k: usize) -> u64
-    requires { ⌜ length (now words) ≡ roomWords ⌝ }
+    requires { ⌜ PowerOfTwo (length (now words)) ⌝ }
     requires { ⌜ machineWords ≤ length (now table) ⌝ }
     requires { ⌜ Chained (now table) 0 (now chains) ⌝ }
     requires { ⌜ k < maxStates ⌝ }
-    ensures { λ r. ⌜ r ≡ length (only (λ b. not (eqb (getD (now (words .entry)) (arrivalAt (now (table .entry)) b % roomWords) 0) 0)) (blocksFrom (now (table .entry)) k 0)) ⌝ }
+    ensures { λ r. ⌜ r ≡ length (only (λ b. not (eqb (readIn (now (words .entry)) (arrivalAt (now (table .entry)) b)) 0)) (blocksFrom (now (table .entry)) k 0)) ⌝ }
 {
     let mut n: u64 = 0;
     let mut b = byte_index(chains[k]);
@@ -160,7 +160,7 @@ pub fn cycle(
 ) -> Next
     requires { ⌜ Ready (now table) k ⌝ }
     requires { ⌜ Arriving (now table) k × Chained (now table) 0 (now chains) ⌝ }
-    requires { ⌜ length (now words) ≡ roomWords ⌝ }
+    requires { ⌜ PowerOfTwo (length (now words)) × (maxRegisters + wireCountAt (now table) k ≤ length (now words)) ⌝ }
     ensures { λ r. ⌜ afterCycle (now (table .entry)) r ≡ clock (machineOf (now (table .entry))) sampled (stateAt (now (table .entry)) k) (registers .words) ⌝ }
     ensures { λ r. ⌜ r .blocks ≡ nonzero (worked sampled (registers .words) (stateAt (now (table .entry)) k .wires)) (map (arrivalAt (now (table .entry))) (blocksFrom (now (table .entry)) k 0)) ⌝ }
 {

@@ -58,8 +58,10 @@ impl MachineTable {
     pub const WORDS: usize = MachineTable::ARRIVALS + MachineTable::BLOCKS;
     // The words of all chains of blocks: one for each state, and one for each block.
     pub const CHAINS: usize = MachineTable::STATES + MachineTable::BLOCKS;
-    // Room for what references of a cycle read, the registers, then the wires: a power of two.
-    pub const REFERENCES: usize = 4096;
+    // Room for what references of a cycle read, the registers, then the wires: powers of two, the smaller for machines of few wires.
+    pub const ROOM: usize = 4096;
+
+    pub const SMALL_ROOM: usize = 256;
 }
 
 // A wire: what it does, and its operands. A reference below 16 is a register, and 16 + i is wire i of the state.

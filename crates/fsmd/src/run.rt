@@ -7,6 +7,7 @@ ghost use lib.ListN.{length, take, drop};
 ghost use Rattle.runs.specs.Runs.{startAt, upTo, answer, registersAfter, total};
 ghost use Rattle.runs.specs.declared.RunAnswer.the-variants.{Refused};
 ghost use Rattle.fsmd.specs.Layout.{machineWords, maxRegisters};
+ghost use Rattle.fsmd.specs.Clock.{PowerOfTwo, Roomy, fitsSmall};
 ghost use Rattle.fsmd.specs.Machine.{machineRunner, blocksRun};
 ghost use Rattle.fsmd.specs.Table.{stateCount, machineOf, admittedMachine};
 ghost use Rattle.fsmd.specs.Run.{machineAnswer, machineRegisters, machineBlocks, machineWordsAnswer, machineWordsRegisters, machineWordsBlocks};
@@ -15,6 +16,7 @@ use super::admission::admitted;
 use super::chains::chains_of;
 use super::clock::cycle;
 use super::sampling::is_wordless;
+use super::table::wire_count;
 use buffers::word_index;
 use runs::RunAnswer;
 use word::Registers;
@@ -52,18 +54,19 @@ pub fn run(
     budget: u32,
     limit: u32,
     words: &[u32],
+    room: &mut [u32],
 ) -> Ran
     requires { ⌜ machineWords ≤ length (now table) ⌝ }
     requires { ⌜ admittedMachine (now table) ≡ true ⌝ }
     requires { ⌜ start < stateCount (now table) ⌝ }
     requires { ⌜ limit ≤ budget ⌝ }
+    requires { ⌜ PowerOfTwo (length (now room)) × Roomy (now table) (length (now room)) ⌝ }
     ensures { λ r. ⌜ r .answer ≡ answer (machineRunner (machineOf (now (table .entry)))) (upTo limit (now (words .entry))) budget (startAt start (registers .words)) ⌝ }
     ensures { λ r. ⌜ r .registers .words ≡ registersAfter (machineRunner (machineOf (now (table .entry)))) (upTo limit (now (words .entry))) budget (startAt start (registers .words)) ⌝ }
     ensures { λ r. ⌜ r .blocks ≡ total (machineRunner (machineOf (now (table .entry)))) (upTo limit (now (words .entry))) (blocksRun (machineOf (now (table .entry)))) budget (startAt start (registers .words)) ⌝ }
 {
     let states = table[MachineTable::STATE_COUNT];
     let chains = chains_of(table);
-    let mut room = [0u32; MachineTable::REFERENCES];
     let mut file = registers;
     let mut state = start;
     let mut flag = false;
@@ -71,7 +74,7 @@ pub fn run(
     let mut count: u32 = 0;
     while count < limit {
         let sampled = runs::sampled(words, count);
-        let next = cycle(table, &chains, word_index(state), file, sampled, &mut room);
+        let next = cycle(table, &chains, word_index(state), file, sampled, room);
         file = next.registers;
         state = next.state;
         flag = flag | next.over;
@@ -98,6 +101,23 @@ pub fn run(
     }
 }
 
+// Whether the small room has space for the registers and the wires of every state.
+fn fits_small(table: &[u32]) -> bool
+    requires { ⌜ machineWords ≤ length (now table) ⌝ }
+    requires { ⌜ admittedMachine (now table) ≡ true ⌝ }
+    ensures { λ r. ⌜ r ≡ fitsSmall (now (table .entry)) ⌝ }
+{
+    let states = word_index(table[MachineTable::STATE_COUNT]);
+    let mut k = 0;
+    while k < states {
+        if MachineTable::SMALL_ROOM < MachineTable::REGISTERS + wire_count(table, k) {
+            return false;
+        }
+        k += 1;
+    }
+    true
+}
+
 // A run on the registers of a buffer; its words from 16 up stay. The limit stands before the words so that it comes in a register and
 // not on the stack, where its address is that of the first wire modulo 4,096.
 fn run_from(
@@ -118,7 +138,13 @@ fn run_from(
     ensures { λ r. ⌜ r .blocks ≡ total (machineRunner (machineOf (now (table .entry)))) (upTo limit (now (words .entry))) (blocksRun (machineOf (now (table .entry)))) budget (startAt start (take maxRegisters (now (registers .entry)))) ⌝ }
 {
     let file = runs::load(registers);
-    let ran = run(table, file, start, budget, limit, words);
+    let ran = if fits_small(table) {
+        let mut room = [0u32; MachineTable::SMALL_ROOM];
+        run(table, file, start, budget, limit, words, &mut room)
+    } else {
+        let mut room = [0u32; MachineTable::ROOM];
+        run(table, file, start, budget, limit, words, &mut room)
+    };
     runs::store(registers, ran.registers);
     let answer = ran.answer;
     MachineAnswer {

@@ -1,5 +1,5 @@
 -- `fsmd::clock::arrived` meets its contract: the blocks of the chain so far, and those that follow. Assumes nothing.
-use Prim.Native.Nat.{ℕ, _+_, _-_, _%_, _≤_}
+use Prim.Native.Nat.{ℕ, _+_, _-_, _≤_}
 use native.Mathlib.Omega.{arith}
 use mathlib.Core.Bool.{Bool, not}
 use mathlib.Core.List.{List}
@@ -10,7 +10,8 @@ use denote.Ref.{now}
 use borrow.Author.Needs.{needs}
 use Rattle.word.specs.Word.{truth}
 use Rattle.fsmd.specs.Chains.{blocksFrom}
-use Rattle.fsmd.specs.Layout.{maxBlocks, roomWords}
+use Rattle.fsmd.specs.Clock.{readIn}
+use Rattle.fsmd.specs.Layout.{maxBlocks}
 use Rattle.fsmd.specs.Table.{arrivalAt}
 use Rattle.fsmd.proofs.ChainLaws.{Along, along-start, along-few, along-end, along-rises, along-next, few-blocks}
 use Rattle.fsmd.proofs.TouchLaws.{bit-low}
@@ -19,7 +20,7 @@ use Rattle.fsmd.proofs.clock.arrived.Tie as tie
 
 -- whether block b is arrived at
 abbrev there : List ℕ → List ℕ → ℕ → Bool
-there words table b = not (eqb (getD words (arrivalAt table b % roomWords) 0) 0)
+there words table b = not (eqb (readIn words (arrivalAt table b)) 0)
 
 abbrev Inv-loop : tie.InvT-loop
 Inv-loop words table chains k n₀ b₀ n b = Along chains (there words table) (blocksFrom table k 0) n b

@@ -2,13 +2,14 @@
 use Prim.Native.Nat.{ℕ, _+_, _≤_}
 use native.Mathlib.Omega.{arith}
 use mathlib.Core.List.{List, _++_, map}
-use mathlib.Core.Path.{_≡_, refl, sym, ap, _∙_}
+use mathlib.Core.Path.{_≡_, refl, sym, ap, _∙_, subst}
 use lib.ListN.{length, getD, take, drop, length-append, length-drop}
 use lib.Seq.{take-at}
 use denote.Ref.{now}
 use borrow.Author.Needs.{needs}
 use Rattle.runs.specs.Lists.{every}
-use Rattle.fsmd.specs.Layout.{maxRegisters, nextStateOffset, nextRegistersOffset, roomWords}
+use Rattle.fsmd.specs.Clock.{PowerOfTwo}
+use Rattle.fsmd.specs.Layout.{maxRegisters, nextStateOffset, nextRegistersOffset}
 use Rattle.fsmd.specs.Machine.{worked, wiresOver, nonzero}
 use Rattle.fsmd.specs.Table.{arrivalAt, validReference}
 use Rattle.fsmd.specs.Chains.{blocksFrom}
@@ -28,13 +29,27 @@ work-requires c κs =
     let n = c .before .before .before .before .before .before .wire-count in
     let p = c .before .before .before .before .before .before .before .«record» in
     let h = k .pre .0 in
+    let size = c .before .before .before .before .store .kept .0 in
     let v = valid-state-parts t (getD t 1 0) (k .args .k) (f .result) (n .result) (p .result) (f .ensures .0) (n .ensures .0) (p .ensures) refl (h .valid) in
-    (h .whole, (omega (arith, f .ensures .0, n .ensures .0, h .wires), (h .registers, (v .0, c .before .before .before .before .store .kept .0 ∙ k .pre .1 .1))))
+    (h .whole, (omega (arith, f .ensures .0, n .ensures .0, h .wires), (h .registers, (v .0, (subst PowerOfTwo (sym size) (k .pre .1 .1 .0), omega (arith, size, n .ensures .0, k .pre .1 .1 .1))))))
+
+word-at-requires : tie.Need-word-at-requires
+word-at-requires c κs =
+    let w = c .before .before .before .before in
+    let s = w .before .before .before .before .before .before .before .before .before .before .before .before in
+    subst PowerOfTwo (sym (w .work .kept .0 ∙ w .before .before .before .before .before .store .kept .0)) (s .pre .1 .1 .0)
+
+taken-requires : tie.Need-taken-requires
+taken-requires c κs =
+    let w = c .before .before .before .before .before .before .before .before in
+    let s = w .before .before .before .before .before .before .before .before .before .before .before .before in
+    (subst PowerOfTwo (sym (w .work .kept .0 ∙ w .before .before .before .before .before .store .kept .0)) (s .pre .1 .1 .0), (search needs, search needs))
 
 arrived-requires : tie.Need-arrived-requires
 arrived-requires c κs =
-    let s = c .before .before .before .before .before .before .before .before .before .before .before .before .before .before .before .before .before .before .before .before .before .before in
-    (c .before .before .before .before .before .before .before .before .before .before .work .kept .0 ∙ c .before .before .before .before .before .before .before .before .before .before .before .before .before .before .before .store .kept .0 ∙ s .pre .1 .1, (s .pre .0 .whole, (s .pre .1 .0 .1, s .pre .0 .state)))
+    let w = c .before .before .before .before .before .before .before .before .before .before in
+    let s = w .before .before .before .before .before .before .before .before .before .before .before .before in
+    (subst PowerOfTwo (sym (w .work .kept .0 ∙ w .before .before .before .before .before .store .kept .0)) (s .pre .1 .1 .0), (s .pre .0 .whole, (s .pre .1 .0 .1, s .pre .0 .state)))
 
 returns : tie.Need-returns
 returns c =
@@ -53,7 +68,7 @@ returns c =
     let d = s .pre .0 in
     let r = getD t 1 0 in
     let v = valid-state-parts t r (a .k) (f .result) (n .result) (p .result) (f .ensures .0) (n .ensures .0) (p .ensures) refl (d .valid) in
-    let room : maxRegisters + n .result ≤ roomWords = omega (arith, n .ensures .0, d .wires) in
+    let room : maxRegisters + n .result ≤ length last = omega (arith, n .ensures .0, s .pre .1 .1 .1, b .work .kept .0, l .store .kept .0) in
     let h : length rs ≡ maxRegisters = omega (arith, s .pre .1 .1, l .store .kept .0, ap length (l .store .ensures), length-append rs (drop maxRegisters ws), length-drop maxRegisters ws) in
     let e = ap (take maxRegisters) (l .store .ensures) ∙ take-at rs (drop maxRegisters ws) maxRegisters h in
     let next = getD t (p .result + nextStateOffset) 0 in
@@ -83,11 +98,11 @@ cycle-spec =
     (λ c. search needs)
     (λ c. search needs)
     (λ c. search needs)
-    (λ c κs. search needs)
+    word-at-requires
     (λ c. search needs)
     (λ c. search needs)
     (λ c κs. search needs)
-    (λ c κs. search needs)
+    taken-requires
     arrived-requires
     (λ c. search needs)
     returns)

@@ -1,13 +1,12 @@
 -- `fsmd::clock::evaluated` meets its contract: a set's literal, a sum that may go over, or another code's word. Assumes nothing.
-use Prim.Native.Nat.{ℕ, _%_}
+use Prim.Native.Nat.{ℕ}
 use native.Mathlib.Omega.{arith}
 use mathlib.Core.Bool.{Bool, _||_, or-false}
 use mathlib.Core.Path.{refl, sym, ap, _∙_}
-use lib.ListN.{getD}
 use denote.Ref.{now}
 use borrow.Author.Needs.{needs}
 use Rattle.word.specs.Word.{addCode, subCode}
-use Rattle.fsmd.specs.Layout.{roomWords}
+use Rattle.fsmd.specs.Clock.{readIn}
 use Rattle.fsmd.proofs.Environment.{value-set, value-other, over-sum, over-none}
 use Rattle.fsmd.proofs.clock.evaluated.Statement.{statement}
 use Rattle.fsmd.proofs.clock.evaluated.Tie as tie
@@ -15,7 +14,7 @@ use Rattle.fsmd.proofs.clock.evaluated.Tie as tie
 returns : tie.Need-returns
 returns c =
     let a = c .before .before .args in
-    let f : ℕ → ℕ = λ x. getD (now (a .words)) (x % roomWords) 0 in
+    let f : ℕ → ℕ = readIn (now (a .words)) in
     let k = c .if1 .taken in (
       value-set (a .sampled) f (a .w) k,
       sym (ap (λ (o : Bool). a .over || o) (over-none f (a .w) (λ h. omega arith) (λ h. omega arith)) ∙ or-false (a .over)),
@@ -25,7 +24,7 @@ returns-2 : tie.Need-returns-2
 returns-2 c =
     let i = c .before .before .before in
     let a = i .before .before .before .before .args in
-    let f : ℕ → ℕ = λ x. getD (now (a .words)) (x % roomWords) 0 in
+    let f : ℕ → ℕ = readIn (now (a .words)) in
     let x = i .before .word-at in
     let y = i .word-at2 in
     let z = c .before .word-at3 in
@@ -38,7 +37,7 @@ returns-3 : tie.Need-returns-3
 returns-3 c =
     let i = c .before .before .before .before in
     let a = i .before .before .before .before .args in
-    let f : ℕ → ℕ = λ x. getD (now (a .words)) (x % roomWords) 0 in
+    let f : ℕ → ℕ = readIn (now (a .words)) in
     let x = i .before .word-at in
     let y = i .word-at2 in
     let z = c .before .word-at4 in
@@ -51,7 +50,7 @@ returns-4 : tie.Need-returns-4
 returns-4 c =
     let i = c .before .before .before .before in
     let a = i .before .before .before .before .args in
-    let f : ℕ → ℕ = λ x. getD (now (a .words)) (x % roomWords) 0 in
+    let f : ℕ → ℕ = readIn (now (a .words)) in
     let x = i .before .word-at in
     let y = i .word-at2 in
     let z = c .before .word-at5 in (

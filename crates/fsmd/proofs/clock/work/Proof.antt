@@ -1,12 +1,13 @@
 -- `fsmd::clock::work` meets its contract: the words so far, then the wires from n on, give what all wires give, and whether one goes over. Assumes nothing.
-use Prim.Native.Nat.{ℕ, _+_, _-_, _%_, _≤_}
+use Prim.Native.Nat.{ℕ, _+_, _-_, _≤_}
 use native.Mathlib.Omega.{arith}
 use mathlib.Core.Bool.{Bool, true, _||_, or-assoc, or-false}
-use mathlib.Core.Path.{_≡_, refl, sym, ap, _∙_}
+use mathlib.Core.Path.{_≡_, refl, sym, ap, _∙_, subst}
 use lib.ListN.{length, take, drop, set, length-set, getD}
 use denote.Ref.{now}
 use borrow.Author.Needs.{needs}
-use Rattle.fsmd.specs.Layout.{maxRegisters, roomWords}
+use Rattle.fsmd.specs.Clock.{PowerOfTwo, readIn}
+use Rattle.fsmd.specs.Layout.{maxRegisters}
 use Rattle.fsmd.specs.Machine.{worked, wireValue, wireOver, wiresOver}
 use Rattle.fsmd.specs.Table.{wireAt, validWires}
 use Rattle.fsmd.proofs.Environment.{value-within, over-within, work-next, over-next, work-done, over-done}
@@ -28,6 +29,11 @@ abbrev μ-loop : tie.MeasureT-loop
 loop-holds : tie.Need-loop-holds Inv-loop μ-loop
 loop-holds c = (omega arith, refl, c .before .before .pre .1 .1 .1 .0, refl, refl)
 
+evaluated-requires : tie.Need-evaluated-requires Inv-loop μ-loop
+evaluated-requires c κs =
+    let b = c .before .before .before in
+    subst PowerOfTwo (sym (b .loop .inv .1)) (b .before .before .before .pre .1 .1 .1 .1 .0)
+
 loop-less : tie.Need-loop-less Inv-loop μ-loop
 loop-less c = omega arith
 
@@ -42,7 +48,7 @@ loop-again c =
     let w = wireAt t (a .first + n) in
     let below = c .before .before .before .loop-test .taken in
     let valid = wire-valid t (a .first) (a .count) r n below (b .loop .inv .2) in
-    let f : ℕ → ℕ = λ x. getD (b .loop .words) (x % roomWords) 0 in
+    let f : ℕ → ℕ = readIn (b .loop .words) in
     let g : ℕ → ℕ = λ x. getD (take (maxRegisters + n) (b .loop .words)) x 0 in
     let given = c .evaluated .result in
     let v = c .evaluated .ensures .0 ∙ ap (wireValue (a .sampled) f) (i .ensures) ∙ value-within (a .sampled) (b .loop .words) r n w (omega arith) (omega arith) valid in
@@ -81,7 +87,7 @@ work-spec =
     (λ c. search needs)
     (λ c. search needs)
     (λ c κs. search needs)
-    (λ c κs. search needs)
+    evaluated-requires
     (λ c. search needs)
     (λ c. search needs)
     (λ c. search needs)

@@ -4,7 +4,7 @@ use native.Mathlib.Omega.{arith}
 use mathlib.Core.Bool.{true}
 use mathlib.Core.List.{List, map}
 use mathlib.Core.Path.{_≡_, refl, sym, ap₂, _∙_, subst}
-use lib.ListN.{length, getD, length-replicate}
+use lib.ListN.{length, getD}
 use denote.Ref.{now}
 use borrow.Author.Needs.{needs}
 use borrow.Author.Tests.{lt-ltb, le-ltb}
@@ -12,8 +12,8 @@ use Rattle.runs.proofs.RunLaws.{Reached, reached-start, reached-spent, register
 use Rattle.runs.proofs.TotalLaws.{Totalled, totalled-start, totalled-spent, totalled-ended}
 use Rattle.runs.specs.Runs.{Contents, Configuration, standsAt, startAt, upTo, moved}
 use Rattle.fsmd.specs.Chains.{blocksFrom}
-use Rattle.fsmd.specs.Layout.{maxBlocks, roomWords}
-use Rattle.fsmd.specs.Clock.{afterCycle}
+use Rattle.fsmd.specs.Layout.{maxBlocks}
+use Rattle.fsmd.specs.Clock.{PowerOfTwo, afterCycle}
 use Rattle.fsmd.specs.Machine.{worked, clock, machineRunner, nonzero, blocksRun}
 use Rattle.fsmd.specs.Table.{machineOf, stateAt, arrivalAt}
 use Rattle.fsmd.proofs.BlockLaws.{wire-below}
@@ -28,27 +28,27 @@ abbrev counted : List ℕ → ℕ → ℕ → List ℕ → ℕ
 counted t w k rs = nonzero (worked w rs (stateAt t k .wires)) (map (arrivalAt t) (blocksFrom t k 0))
 
 abbrev Inv-loop : tie.InvT-loop
-Inv-loop table start budget limit words states chains room₀ file₀ state₀ flag₀ blocks₀ count₀ room file state flag blocks count =
+Inv-loop table start budget limit words room₀ states chains file₀ state₀ flag₀ blocks₀ count₀ room file state flag blocks count =
     let m = machineOf table in
     let c = standsAt count state (record { registers = file .words; flag = flag }) in
     (state < getD table 0 0)
-    × (length room ≡ roomWords)
+    × (length room ≡ length room₀)
     × Reached (machineRunner m) (upTo limit words) budget (startAt start (file₀ .words)) count c
     × Totalled (machineRunner m) (upTo limit words) (blocksRun m) budget (startAt start (file₀ .words)) count c blocks
     × (blocks ≤ maxBlocks * count)
 
 abbrev μ-loop : tie.MeasureT-loop
-μ-loop table start budget limit words states chains room₀ file₀ state₀ flag₀ blocks₀ count₀ room file state flag blocks count = limit - count
+μ-loop table start budget limit words room₀ states chains file₀ state₀ flag₀ blocks₀ count₀ room file state flag blocks count = limit - count
 
 loop-holds : tie.Need-loop-holds Inv-loop μ-loop
 loop-holds c =
-    let s = c .before .before .before .before in
+    let s = c .before .before .before .before .before in
     let a = s .args in
     let m = machineOf (now (a .table)) in
     let ws = upTo (a .limit) (now (a .words)) in
     let c₀ = startAt (a .start) (a .registers .words) in (
       s .pre .1 .1 .0,
-      length-replicate {A = ℕ} roomWords 0,
+      refl,
       reached-start (machineRunner m) ws (a .budget) c₀,
       totalled-start (machineRunner m) ws (blocksRun m) (a .budget) c₀,
       omega arith,
@@ -57,8 +57,9 @@ loop-holds c =
 cycle-requires : tie.Need-cycle-requires Inv-loop μ-loop
 cycle-requires c κs =
     let b = c .before .before .before .before .before in
-    let s = b .before .before .before .before .before in
+    let s = b .before .before .before .before .before .before in
     let t = now (s .args .table) in
+    let r = s .pre .1 .1 .1 .1 in
     let w = c .before .word-index in
     let m = admitted-facts t (s .pre .1 .0) in
     let h : w .result < getD t 0 0 = let i = w .ensures .0 in let k = b .loop .inv .0 in omega arith in (
@@ -69,29 +70,29 @@ cycle-requires c κs =
         registers = m .few-registers;
         valid = m .valid (w .result) h;
       },
-      ((λ x l e. wire-below t (m .few-states) x (w .result) e h (m .blocks x l), b .before .chains-of .ensures), b .loop .inv .1),
+      ((λ x l e. wire-below t (m .few-states) x (w .result) e h (m .blocks x l), b .before .chains-of .ensures), (subst PowerOfTwo (sym (b .loop .inv .1)) (r .0), omega (arith, b .loop .inv .1, r .1 (w .result) h))),
     )
 
 -- no cycle counts more than 64, and there are fewer than 2^32
 add-blocks : tie.Need-add-blocks Inv-loop μ-loop
 add-blocks c =
-    let d = c .before .before .before .before in
+    let d = c .before .before .before .before .before in
     let b = d .before .before .before .before .before .before in
-    let a = b .before .before .before .before .before .args in
+    let a = b .before .before .before .before .before .before .args in
     let t = now (a .table) in
     let k = d .before .before .word-index .result in
     let few = few-arrived t k (worked (d .before .before .before .before .sampled .result) (b .loop .file .words) (stateAt t k .wires)) in
     let v = d .cycle .ensures .1 in
     let n = b .loop .inv .4 in
     let l = d .before .before .before .before .before .loop-test .taken in
-    omega arith
+    omega (arith, few, v, n, l, b .before .before .before .before .before .before .fits)
 
 -- halted
 returns : tie.Need-returns Inv-loop μ-loop
 returns c =
-    let d = c .before .before .before .before .before in
+    let d = c .before .before .before .before .before .before in
     let b = d .before .before .before .before .before .before in
-    let a = b .before .before .before .before .before .args in
+    let a = b .before .before .before .before .before .before .args in
     let t = now (a .table) in
     let m = machineRunner (machineOf t) in
     let ws = upTo (a .limit) (now (a .words)) in
@@ -103,9 +104,9 @@ returns c =
     let x : Contents = record { registers = b .loop .file .words; flag = b .loop .flag } in
     let taken = d .before .before .before .before .before .loop-test .taken in
     let last = lt-ltb (b .loop .count) (a .limit) taken in
-    let less : b .loop .count < a .budget = omega (arith, taken, b .before .before .before .before .before .pre .1 .1 .1) in
+    let less : b .loop .count < a .budget = omega (arith, taken, b .before .before .before .before .before .before .pre .1 .1 .1 .0) in
     let s = cycle-step t ws (a .budget) c₀ (b .loop .count) (b .loop .state) x (afterCycle t r) (b .loop .inv .2) (b .loop .inv .0) less last e in
-    let v = d .cycle .ensures .1 ∙ ap₂ (λ (w k : ℕ). counted t w k (b .loop .file .words)) w i ∙ arrived-run t (b .loop .state) (b .before .before .before .before .before .pre .0) (getD (now (a .words)) (b .loop .count) 0) (b .loop .file .words) (b .loop .inv .0) in
+    let v = d .cycle .ensures .1 ∙ ap₂ (λ (w k : ℕ). counted t w k (b .loop .file .words)) w i ∙ arrived-run t (b .loop .state) (b .before .before .before .before .before .before .pre .0) (getD (now (a .words)) (b .loop .count) 0) (b .loop .file .words) (b .loop .inv .0) in
     let n = cycle-totals t ws (a .budget) c₀ (b .loop .count) (b .loop .state) x (afterCycle t r) (b .loop .blocks) (r .blocks) (b .loop .inv .3) (b .loop .inv .0) less last e v in
     let end = moved (λ k. true) (standsAt (b .loop .count) (b .loop .state) x) (afterCycle t r) in
     let h = after-halted t r (c .if1 .taken) in
@@ -122,9 +123,9 @@ loop-less c = omega arith
 
 loop-again : tie.Need-loop-again Inv-loop μ-loop
 loop-again c =
-    let d = c .before .before .before .before .before in
+    let d = c .before .before .before .before .before .before in
     let b = d .before .before .before .before .before .before in
-    let a = b .before .before .before .before .before .args in
+    let a = b .before .before .before .before .before .before .args in
     let t = now (a .table) in
     let m = machineRunner (machineOf t) in
     let ws = upTo (a .limit) (now (a .words)) in
@@ -136,9 +137,9 @@ loop-again c =
     let x : Contents = record { registers = b .loop .file .words; flag = b .loop .flag } in
     let taken = d .before .before .before .before .before .loop-test .taken in
     let last = lt-ltb (b .loop .count) (a .limit) taken in
-    let less : b .loop .count < a .budget = omega (arith, taken, b .before .before .before .before .before .pre .1 .1 .1) in
+    let less : b .loop .count < a .budget = omega (arith, taken, b .before .before .before .before .before .before .pre .1 .1 .1 .0) in
     let s = cycle-step t ws (a .budget) c₀ (b .loop .count) (b .loop .state) x (afterCycle t r) (b .loop .inv .2) (b .loop .inv .0) less last e in
-    let v = d .cycle .ensures .1 ∙ ap₂ (λ (w k : ℕ). counted t w k (b .loop .file .words)) w i ∙ arrived-run t (b .loop .state) (b .before .before .before .before .before .pre .0) (getD (now (a .words)) (b .loop .count) 0) (b .loop .file .words) (b .loop .inv .0) in
+    let v = d .cycle .ensures .1 ∙ ap₂ (λ (w k : ℕ). counted t w k (b .loop .file .words)) w i ∙ arrived-run t (b .loop .state) (b .before .before .before .before .before .before .pre .0) (getD (now (a .words)) (b .loop .count) 0) (b .loop .file .words) (b .loop .inv .0) in
     let n = cycle-totals t ws (a .budget) c₀ (b .loop .count) (b .loop .state) x (afterCycle t r) (b .loop .blocks) (r .blocks) (b .loop .inv .3) (b .loop .inv .0) less last e v in
     let k = d .before .before .word-index .result in
     let few = few-arrived t k (worked (d .before .before .before .before .sampled .result) (b .loop .file .words) (stateAt t k .wires)) in
@@ -156,7 +157,7 @@ loop-again c =
 returns-2 : tie.Need-returns-2 Inv-loop μ-loop
 returns-2 c =
     let b = c .before .before in
-    let a = b .before .before .before .before .before .args in
+    let a = b .before .before .before .before .before .before .args in
     let m = machineOf (now (a .table)) in
     let ws = upTo (a .limit) (now (a .words)) in
     let c₀ = startAt (a .start) (a .registers .words) in
@@ -173,7 +174,7 @@ returns-2 c =
 returns-3 : tie.Need-returns-3 Inv-loop μ-loop
 returns-3 c =
     let b = c .before .before in
-    let a = b .before .before .before .before .before .args in
+    let a = b .before .before .before .before .before .before .args in
     let m = machineOf (now (a .table)) in
     let ws = upTo (a .limit) (now (a .words)) in
     let c₀ = startAt (a .start) (a .registers .words) in
@@ -197,12 +198,14 @@ run-spec =
     (λ c κs. search needs)
     (λ c. search needs)
     (λ c κs. search needs)
-    (λ c. search needs)
     cycle-requires
     add-blocks
+    (λ c. search needs)
     (λ c. search needs)
     returns
     loop-less
     loop-again
+    (λ c. search needs)
     returns-2
+    (λ c. search needs)
     returns-3)

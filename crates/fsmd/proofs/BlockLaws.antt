@@ -2,13 +2,13 @@
 use Prim.Native.Nat.{ℕ, zero, suc, _+_, _-_, _≤_, _<_}
 use native.Mathlib.Omega.{arith}
 use mathlib.Core.Bool.{Bool, true, false, _&&_}
-use mathlib.Core.List.{List, [], _∷_}
+use mathlib.Core.List.{List}
 use mathlib.Core.Logic.{_≢_}
 use mathlib.Core.Path.{_≡_, refl, ap, ap₂, _∙_}
 use lib.Dec.{eqb, leb, ltb}
-use lib.ListN.{getD, drop}
+use lib.ListN.{drop}
 use borrow.Author.Tests.{eq-eqb, ne-eqb, lt-ltb, le-ltb, le-leb, lt-leb, ltb-true}
-use Rattle.runs.proofs.ListLaws.{same-test, and-right}
+use Rattle.runs.proofs.ListLaws.{same-test, and-right, padded-drop}
 use Rattle.runs.specs.Lists.{upFrom, every, padded}
 use Rattle.fsmd.specs.Layout.{maxStates, maxBlocks, maxRegisters, blockStatesOffset, arrivalsOffset, absent}
 use Rattle.fsmd.specs.Table.{stateCount, wireCountAt, blockStateAt, arrivalAt, rightBlock, rightTogether, rightBlocks}
@@ -17,19 +17,13 @@ use Rattle.fsmd.specs.Table.{stateCount, wireCountAt, blockStateAt, arri
 abbrev pub rightAt : List ℕ → ℕ → Bool
 rightAt t b = rightBlock t (blockStateAt t b) (arrivalAt t b)
 
-padded-drop : (n i : ℕ) (l : List ℕ) → padded (suc n) 0 (drop i l) ≡ getD l i 0 ∷ padded n 0 (drop (suc i) l)
-padded-drop n zero [] = refl
-padded-drop n (suc i) [] = refl
-padded-drop n zero (x ∷ l) = refl
-padded-drop n (suc i) (x ∷ l) = padded-drop n i l
-
 together : (t : List ℕ) (n b : ℕ)
     → rightTogether t (padded n 0 (drop (blockStatesOffset + b) t)) (padded n 0 (drop (arrivalsOffset + b) t)) ≡ every (rightAt t) (upFrom b n)
 together t zero b = refl
 together t (suc n) b =
     let i : suc (blockStatesOffset + b) ≡ blockStatesOffset + suc b = omega arith in
     let j : suc (arrivalsOffset + b) ≡ arrivalsOffset + suc b = omega arith in
-    ap₂ (λ (ks xs : List ℕ). rightTogether t ks xs) (padded-drop n (blockStatesOffset + b) t) (padded-drop n (arrivalsOffset + b) t)
+    ap₂ (λ (ks xs : List ℕ). rightTogether t ks xs) (padded-drop n 0 (blockStatesOffset + b) t) (padded-drop n 0 (arrivalsOffset + b) t)
     ∙ ap₂ (λ (i j : ℕ). rightAt t b && rightTogether t (padded n 0 (drop i t)) (padded n 0 (drop j t))) i j
     ∙ ap (λ (r : Bool). rightAt t b && r) (together t n (suc b))
 

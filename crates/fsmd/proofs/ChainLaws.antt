@@ -1,5 +1,5 @@
 -- Chains of blocks: made from the last block down, gone along one block after another, and what is counted so. Assumes nothing.
-use Prim.Native.Nat.{ℕ, suc, _+_, _-_, _%_, _≤_, _<_}
+use Prim.Native.Nat.{ℕ, _+_, _-_, _%_, _≤_, _<_}
 use native.Mathlib.Nat.{mod-eq-of-lt}
 use native.Mathlib.Omega.{arith}
 use mathlib.Core.Bool.{Bool, true, false, not}
@@ -11,7 +11,7 @@ use lib.ListN.{length, getD, set, take, drop, replicate, length-replicate, getD-
 use lib.Seq.{getD-set-same, getD-set-other, getD-take}
 use borrow.Author.Tests.{eq-eqb, ne-eqb, eqb-true}
 use Rattle.word.specs.Word.{truth}
-use Rattle.runs.proofs.ListLaws.{upFrom-cons, upFrom-done, length-upFrom, length-only}
+use Rattle.runs.proofs.ListLaws.{upFrom-cons, upFrom-done, length-upFrom, length-only, length-only-map}
 use Rattle.runs.proofs.MembershipLaws.{only-in, only-same, map-in, in-upFrom}
 use Rattle.runs.proofs.Sets.{In}
 use Rattle.runs.proofs.Tests.{Compared, compared, same, other}
@@ -41,15 +41,6 @@ module _ (t : List ℕ) (k : ℕ) where
 
     from-other : blockStateAt t b ≢ k → blocksFrom t k b ≡ blocksFrom t k (b + 1)
     from-other f = from-next ∙ ap (λ (c : Bool). keep c b (blocksFrom t k (b + 1))) (ne-eqb (blockStateAt t b) k f)
-
--- counting what passes a test, before or after a function
-length-only-map : (f : ℕ → ℕ) (p : ℕ → Bool) (l : List ℕ) → length (only p (map f l)) ≡ length (only (λ x. p (f x)) l)
-length-only-map f p [] = refl
-length-only-map f p (x ∷ l) = go (p (f x)) refl (length-only-map f p l)
-  where
-    go : (b : Bool) → p (f x) ≡ b → length (only p (map f l)) ≡ length (only (λ x. p (f x)) l) → length (only p (map f (x ∷ l))) ≡ length (only (λ x. p (f x)) (x ∷ l))
-    go true e i = rw e (ap suc i)
-    go false e i = rw e i
 
 -- ---- making them
 
@@ -218,7 +209,7 @@ module _ (t : List ℕ) (k : ℕ) where
       let x : arrivalAt t b < maxRegisters + n = h b (m .0) (m .1) in
       let e : arrivalAt t b % length l ≡ arrivalAt t b = mod-eq-of-lt (omega arith) in
       ap (λ (w : ℕ). not (eqb w 0)) (ap (λ (i : ℕ). getD l i 0) e ∙ sym (getD-take (maxRegisters + n) l (arrivalAt t b) 0 x))))
-      ∙ sym (length-only-map (arrivalAt t) (λ x. not (eqb (getD env x 0) 0)) (blocksFrom t k 0))
+      ∙ sym (length-only-map (λ x. not (eqb (getD env x 0) 0)) (arrivalAt t) (blocksFrom t k 0))
 
   -- and so a cycle of the machine counts them
   pub arrived-run : machineWords ≤ length t → (sampled : ℕ) (rs : List ℕ) → k < stateCount t

@@ -203,6 +203,13 @@ module _ {A : Type 0} where
   getD-padded (suc n) d (x ∷ l) zero h = refl
   getD-padded (suc n) d (x ∷ l) (suc i) h = getD-padded n d l i (omega arith)
 
+  -- what is padded from an index on, one element after another
+  pub padded-drop : (n : ℕ) (d : A) (i : ℕ) (l : List A) → padded (suc n) d (drop i l) ≡ getD l i d ∷ padded n d (drop (suc i) l)
+  padded-drop n d zero [] = refl
+  padded-drop n d (suc i) [] = refl
+  padded-drop n d zero (x ∷ l) = refl
+  padded-drop n d (suc i) (x ∷ l) = padded-drop n d i l
+
 -- f of the elements
 pub getD-map {ℓ ℓ′} : {A : Type ℓ} {B : Type ℓ′} (f : A → B) (l : List A) (i : ℕ) (d : A) (e : B) → i < length l → getD (map f l) i e ≡ f (getD l i d)
 getD-map f [] i d e h = absurd (omega arith)

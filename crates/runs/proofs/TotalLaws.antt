@@ -6,7 +6,7 @@ use mathlib.Core.Bool.{Bool, true, false}
 use mathlib.Core.List.{List}
 use mathlib.Core.Path.{_≡_, refl, sym, ap, _∙_}
 use Rattle.runs.specs.Runs.{standing, Configuration, startAt, Supply, Runner, goes, step, times, stepsRun, total}
-use Rattle.runs.proofs.RunLaws.{ended-is, going-stands, going-lasts, goes-standing, times-zero, times-suc, times-ended, stepsRun-going, stepsRun-ended, stepsRun-zero}
+use Rattle.runs.proofs.RunLaws.{ended-is, going-stands, going-lasts, times-zero, times-suc, times-ended, stepsRun-going, stepsRun-ended, stepsRun-zero}
 use Rattle.runs.proofs.SupplyLaws.{Alike, goes-alike, step-alike, step-next}
 
 module _ (r : Runner) (ws : Supply) (f : ℕ → ℕ → List ℕ → ℕ) where

@@ -161,13 +161,7 @@ build g s (x ∷ xs) b = build g s xs (put g s x b)
 abbrev pub nothing : StateBuild
 nothing = record { wires = []; edges = [] }
 
--- the references of the arrivals of the blocks xs, placed one after another
-unfoldable pub arrivalsIn : CFG → Groups → List ℕ → StateBuild → List ℕ
-unfolding enter put
-arrivalsIn g s [] b = []
-arrivalsIn g s (x ∷ xs) b = enter (g .registers) (mem x (s .starters)) x b .arrival ∷ arrivalsIn g s xs (put g s x b)
-
--- that of block x; 0 where it is none of them
+-- the reference of the arrival of block x, where blocks are placed one after another; 0 where it is none of them
 unfoldable pub arrivalIn : CFG → Groups → ℕ → List ℕ → StateBuild → ℕ
 unfolding enter put
 arrivalIn g s x [] b = 0

@@ -13,7 +13,7 @@ use Rattle.cfg.specs.Graph.{CFG, blockOf, instructionsOf}
 use Rattle.fsmd.specs.Layout.{absent}
 use Rattle.grouping.specs.Grouping.{Groups}
 use Rattle.placement.specs.Placement.{order}
-use Rattle.state.specs.Wires.{StateBuild, enter, assigns, towards, leaves, after, put, build, nothing, arrivalsIn, arrivalIn, stateMade, arrivalMade}
+use Rattle.state.specs.Wires.{StateBuild, enter, assigns, towards, leaves, after, put, build, nothing, arrivalIn, stateMade, arrivalMade}
 use Rattle.state.proofs.AssignLaws.{grow-assigns}
 use Rattle.state.proofs.CloseLaws.{grow-close}
 use Rattle.state.proofs.BlocksLaws.{grow-enter}
@@ -21,6 +21,12 @@ use Rattle.synthesis.proofs.GraphFacts.{GraphFits}
 use Rattle.synthesis.proofs.AddedWires.{close-state-grown}
 use Rattle.synthesis.proofs.WireValidity.{OfWire, wire-more}
 use Rattle.synthesis.proofs.StateValidity.{BuildValid, enter-valid, put-valid, empty-valid}
+
+-- the references of the arrivals of the blocks xs, placed one after another
+unfoldable pub arrivalsIn : CFG → Groups → List ℕ → StateBuild → List ℕ
+unfolding enter put
+arrivalsIn g s [] b = []
+arrivalsIn g s (x ∷ xs) b = enter (g .registers) (mem x (s .starters)) x b .arrival ∷ arrivalsIn g s xs (put g s x b)
 
 module _ (g : CFG) (s : Groups) where
   -- the reference of the arrival of block x, placed next

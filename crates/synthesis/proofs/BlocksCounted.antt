@@ -19,10 +19,10 @@ use Rattle.fsmd.specs.Machine.{State, worked, blocksOf, nonzero, blocksRun}
 use Rattle.grouping.specs.Grouping.{Groups}
 use Rattle.placement.specs.Placement.{order}
 use Rattle.placement.proofs.StateOrder.{StateOrder, Arranged}
-use Rattle.state.specs.Wires.{nothing, arrivalsIn, arrivalIn, stateMade}
+use Rattle.state.specs.Wires.{nothing, arrivalIn, stateMade}
 use Rattle.synthesis.specs.Synthesis.{machineFor}
 use Rattle.synthesis.proofs.Environments.{at}
-use Rattle.synthesis.proofs.Arrivals.{arrivals-map, made-arrival}
+use Rattle.synthesis.proofs.Arrivals.{arrivalsIn, arrivals-map, made-arrival}
 use Rattle.synthesis.proofs.OneCycle.{CycleAgrees}
 use Rattle.synthesis.proofs.SynthesisedMachine.{state-at, block-states-are, arrival-at}
 

@@ -22,14 +22,14 @@ use Rattle.fsmd.specs.Layout.{maxRegisters}
 use Rattle.fsmd.specs.Machine.{State, worked, wiresOver, nonzero}
 use Rattle.grouping.specs.Grouping.{Groups}
 use Rattle.placement.specs.Placement.{order}
-use Rattle.state.specs.Wires.{towards, leadsTo, StateBuild, arrive, startBlock, enter, after, put, nothing, build, leaves, nextStateOf, closeState, stateMade, arrivalsIn}
+use Rattle.state.specs.Wires.{towards, leadsTo, StateBuild, arrive, startBlock, enter, after, put, nothing, build, leaves, nextStateOf, closeState, stateMade}
 use Rattle.synthesis.proofs.GraphFacts.{GraphFits}
 use Rattle.placement.proofs.StateOrder.{Ahead, Ordered, StateOrder}
 use Rattle.synthesis.proofs.Readings.{Reads, start-reads}
 use Rattle.synthesis.proofs.Environments.{at}
 use Rattle.synthesis.proofs.AddedWires.{arrive-grown, close-state-grown}
 use Rattle.synthesis.proofs.ArrivalsCounted.{Counted, counted-none, counted-grow}
-use Rattle.synthesis.proofs.Arrivals.{arrivalOf, arrivals-nil, arrivals-cons, arrivals-length}
+use Rattle.synthesis.proofs.Arrivals.{arrivalsIn, arrivalOf, arrivals-nil, arrivals-cons, arrivals-length}
 use Rattle.synthesis.proofs.FlagRaised.{grown-over, start-over, block-over}
 use Rattle.synthesis.proofs.TakenEdges.{OneTaken, none-grow, one-grow, one-towards, one-away, arrive-grow, arrive-none, arrive-one}
 use Rattle.synthesis.proofs.TakenEdges.{blockMade, followed, made-reached, made-passed, made-counted, close-state-one, close-state-grow}

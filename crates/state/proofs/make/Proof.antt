@@ -1,5 +1,5 @@
 -- `make`: the blocks placed, then the exits. Assumes nothing.
-use mathlib.Core.Path.{_≡_, _∙_}
+use mathlib.Core.Path.{_∙_}
 use native.Mathlib.Omega.{arith}
 use lib.ListN.{length}
 use Rattle.state.proofs.BlocksLaws.{blocks-room, made-room, leave-room, left}

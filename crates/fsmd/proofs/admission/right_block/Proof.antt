@@ -1,6 +1,6 @@
 -- `fsmd::admission::right_block` meets its contract: one answer for each case of a block's words. Assumes nothing.
 use native.Mathlib.Omega.{arith}
-use mathlib.Core.Path.{_≡_, sym, ap, ap₂, _∙_}
+use mathlib.Core.Path.{sym, ap, ap₂, _∙_}
 use Prim.Native.Nat.{ℕ, _-_}
 use lib.Dec.{eqb, ltb}
 use denote.Ref.{now}

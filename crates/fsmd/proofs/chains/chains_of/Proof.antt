@@ -1,7 +1,7 @@
 -- `fsmd::chains::chains_of` meets its contract: the chains of the blocks from b up. Assumes nothing.
 use Prim.Native.Nat.{_+_, _-_, _≤_}
 use native.Mathlib.Omega.{arith}
-use mathlib.Core.Path.{_≡_, sym, _∙_}
+use mathlib.Core.Path.{_≡_, sym}
 use denote.Ref.{now}
 use borrow.Author.Needs.{needs}
 use Rattle.fsmd.specs.Chains.{Chained}

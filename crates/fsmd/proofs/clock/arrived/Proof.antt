@@ -1,5 +1,5 @@
 -- `fsmd::clock::arrived` meets its contract: the blocks of the chain so far, and those that follow. Assumes nothing.
-use Prim.Native.Nat.{ℕ, _+_, _-_, _≤_}
+use Prim.Native.Nat.{ℕ, _+_, _-_}
 use native.Mathlib.Omega.{arith}
 use mathlib.Core.Bool.{Bool, not}
 use mathlib.Core.List.{List}

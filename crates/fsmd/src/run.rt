@@ -46,7 +46,8 @@ impl MachineAnswer {
 }
 
 // The cycles of an admitted machine from a state that it has, on the words of a list for the first `limit` arrivals. Each cycle is an
-// arrival, and the limit is within the budget, so that the loop tests one bound.
+// arrival, and the limit is within the budget, so that the loop tests one bound. The limit stands before the words and the room so that
+// it comes in a register.
 pub fn run(
     table: &[u32],
     registers: Registers,
@@ -118,8 +119,8 @@ fn fits_small(table: &[u32]) -> bool
     true
 }
 
-// A run on the registers of a buffer; its words from 16 up stay. The limit stands before the words so that it comes in a register and
-// not on the stack, where its address is that of the first wire modulo 4,096.
+// A run on the registers of a buffer; its words from 16 up stay. The small room is taken where it has space: to clear the other takes
+// longer than a short run.
 fn run_from(
     table: &[u32],
     registers: &mut [u32],

@@ -133,7 +133,8 @@ rightTouch t k = eqb (touchAt t k) (touchWord (stateAt t k .nextRegisters))
 abbrev pub rightBlock : List ℕ → ℕ → ℕ → Bool
 rightBlock t k x = choose (eqb k absent) (eqb x 0) (ltb k (stateCount t) && leb maxRegisters x && ltb x (maxRegisters + wireCountAt t k))
 
--- of blocks, their states and references one after another
+-- of blocks, their states and references one after another (both lists have 64, so that the second clause is never used:
+-- `right-blocks-are` shows that these are the 64 blocks one by one)
 abbrev pub rightTogether : List ℕ → List ℕ → List ℕ → Bool
 rightTogether t [] xs = true
 rightTogether t (k ∷ ks) [] = true

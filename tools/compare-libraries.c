@@ -234,7 +234,7 @@ static void print_row(const struct row *row)
     double once = sample(&now, row, 3);
     for (int place = 0; place < PLACES; place++)
         at_place(place, row, once < SAMPLE ? (int)(SAMPLE / once) : 1, &of_earlier, &of_now);
-    printf("  %s: %.2f (%.0f ns)\n", row->name, of_now / of_earlier, of_now / PLACES);
+    printf("  %s: %.1f %.1f\n", row->name, of_now / PLACES, of_earlier / PLACES);
     fflush(stdout);
 }
 

@@ -9,6 +9,7 @@ pub mod Steps
 pub mod WrittenTable
 pub mod ChainLaws
 pub mod ReadBack
+pub mod RoomLaws
 pub mod Unrefused
 pub mod KeptRegisters
 pub mod PastTable

@@ -1,8 +1,9 @@
 -- Cycles of a table's machine as steps of a run, and the refusals. Assumes nothing.
 use Prim.Native.Nat.{ℕ, suc, _+_, _-_, _<_, _≤_}
 use native.Mathlib.Numerals.{add-one}
+use native.Mathlib.Omega.{arith}
 use mathlib.Core.Bool.{true, false}
-use mathlib.Core.List.{List, _++_}
+use mathlib.Core.List.{List, _++_, map}
 use mathlib.Core.Path.{_≡_, refl, sym, ap, ap₂, _∙_, subst}
 use lib.ListN.{length, getD, take, drop}
 use borrow.Author.Tests.{lt-ltb, le-ltb}
@@ -13,13 +14,15 @@ use Rattle.runs.proofs.SupplyLaws.{Alike}
 use Rattle.runs.specs.Operations.{answered, registersLeft, totalOf}
 use Rattle.runs.specs.declared.RunAnswer.{RunAnswer}
 use Rattle.runs.specs.declared.RunAnswer.the-variants.{Refused}
-use Rattle.runs.specs.Runs.{halted, Contents, Configuration, standsAt, startAt, Supply, Runner, Moved, contentsAfter, moved, step, answer, registersAfter, total}
+use Rattle.runs.specs.Runs.{halted, Contents, Configuration, standsAt, startAt, upTo, Supply, Runner, Moved, contentsAfter, moved, step, answer, registersAfter, total}
+use Rattle.fsmd.specs.Chains.{blocksFrom}
 use Rattle.fsmd.specs.Clock.{afterCycle}
 use Rattle.fsmd.specs.Layout.{maxRegisters, machineWords}
-use Rattle.fsmd.specs.Machine.{FSMD, clock, machineRunner, blocksRun, wordlessMachine}
+use Rattle.fsmd.specs.Machine.{FSMD, worked, clock, nonzero, machineRunner, blocksRun, wordlessMachine}
 use Rattle.fsmd.specs.Run.{machineRefusal, machineWordsRefusal}
-use Rattle.fsmd.specs.Table.{stateAt, machineOf, admittedMachine}
+use Rattle.fsmd.specs.Table.{stateAt, arrivalAt, machineOf, admittedMachine}
 use Rattle.fsmd.specs.declared.clock.Next.{Next}
+use Rattle.fsmd.proofs.ChainLaws.{arrived-run}
 use Rattle.fsmd.proofs.Machines.{state-is}
 
 -- ---- cycles
@@ -34,7 +37,7 @@ cycle-is t ws count k x m b w e =
     ∙ ap (moved (λ k. true) c) (sym e)
 
 -- where a machine stands after a cycle an arrival was made, so that their number is the count
-pub cycle-step : (t : List ℕ) (ws : Supply) (budget : ℕ) (c₀ : Configuration) (count k : ℕ) (x : Contents) (m : Moved)
+cycle-step : (t : List ℕ) (ws : Supply) (budget : ℕ) (c₀ : Configuration) (count k : ℕ) (x : Contents) (m : Moved)
     → Reached (machineRunner (machineOf t)) ws budget c₀ count (standsAt count k x)
     → k < getD t 0 0 → count < budget → ws .lasts count ≡ true → m ≡ clock (machineOf t) (ws .word count) (stateAt t k) (x .registers)
     → Reached (machineRunner (machineOf t)) ws budget c₀ (count + 1) (moved (λ k. true) (standsAt count k x) m)
@@ -45,7 +48,7 @@ cycle-step t ws budget c₀ count k x m h b l w e =
     (reached-step r ws budget c₀ count c h (goes-standing ws c k refl w) l)
 
 -- and what its cycles count is n, and v more after the next
-pub cycle-totals : (t : List ℕ) (ws : Supply) (budget : ℕ) (c₀ : Configuration) (count k : ℕ) (x : Contents) (m : Moved) (n v : ℕ)
+cycle-totals : (t : List ℕ) (ws : Supply) (budget : ℕ) (c₀ : Configuration) (count k : ℕ) (x : Contents) (m : Moved) (n v : ℕ)
     → Totalled (machineRunner (machineOf t)) ws (blocksRun (machineOf t)) budget c₀ count (standsAt count k x) n
     → k < getD t 0 0 → count < budget → ws .lasts count ≡ true → m ≡ clock (machineOf t) (ws .word count) (stateAt t k) (x .registers)
     → v ≡ blocksRun (machineOf t) (ws .word count) k (x .registers)
@@ -56,6 +59,23 @@ cycle-totals t ws budget c₀ count k x m n v h b l w e f =
     let c = standsAt count k x in
     totalled-step r ws g budget c₀ count c n h k refl w l
     ∙ ap₂ (λ (i : ℕ) (d : Configuration). n + i + total r ws g (budget - (count + 1)) d) (sym f) (cycle-is t ws count k x m b w e)
+
+-- a cycle as the code makes it, on what it read as word s and as state j
+pub cycled : (t words : List ℕ) (limit budget : ℕ) (c₀ : Configuration) (count k : ℕ) (x : Contents) (n s j : ℕ) (r : Next)
+    → machineWords ≤ length t → s ≡ getD words count 0 → j ≡ k → k < getD t 0 0 → count < limit → limit ≤ budget
+    → afterCycle t r ≡ clock (machineOf t) s (stateAt t j) (x .registers) → r .blocks ≡ nonzero (worked s (x .registers) (stateAt t j .wires)) (map (arrivalAt t) (blocksFrom t j 0))
+    → Reached (machineRunner (machineOf t)) (upTo limit words) budget c₀ count (standsAt count k x)
+    → Totalled (machineRunner (machineOf t)) (upTo limit words) (blocksRun (machineOf t)) budget c₀ count (standsAt count k x) n
+    → Reached (machineRunner (machineOf t)) (upTo limit words) budget c₀ (count + 1) (moved (λ k. true) (standsAt count k x) (afterCycle t r))
+    × Totalled (machineRunner (machineOf t)) (upTo limit words) (blocksRun (machineOf t)) budget c₀ (count + 1) (moved (λ k. true) (standsAt count k x) (afterCycle t r)) (n + r .blocks)
+cycled t words limit budget c₀ count k x n s j r whole w i b l most e f h g =
+    let ws = upTo limit words in
+    let rs = x .registers in
+    let last = lt-ltb count limit l in
+    let less : count < budget = omega arith in
+    let at = e ∙ ap₂ (λ (w k : ℕ). clock (machineOf t) w (stateAt t k) rs) w i in
+    let v = f ∙ ap₂ (λ (w k : ℕ). nonzero (worked w rs (stateAt t k .wires)) (map (arrivalAt t) (blocksFrom t k 0))) w i ∙ arrived-run t k whole (getD words count 0) rs b in
+    (cycle-step t ws budget c₀ count k x (afterCycle t r) h b less last at, cycle-totals t ws budget c₀ count k x (afterCycle t r) n (r .blocks) g b less last at v)
 
 module _ (t : List ℕ) (r : Next) where
   pub after-standing : (count k : ℕ) (x : Contents) → r .state < getD t 0 0

@@ -46,6 +46,26 @@ fn word_at(words: &[u32], x: u32) -> u32
     words[word_index(x) & (words.len() - 1)]
 }
 
+// The registers as the first words of the room, where those from `count` on are there already. Four at a time: few branches, and no more
+// words than a small machine needs.
+fn set_registers(words: &mut [u32], registers: Registers, count: usize)
+    requires { ⌜ maxRegisters ≤ length (now words) ⌝ }
+    requires { ⌜ drop count (take maxRegisters (now words)) ≡ drop count (registers .words) ⌝ }
+    ensures { λ _. ⌜ now (words .exit) ≡ registers .words ++ drop maxRegisters (now (words .entry)) ⌝ }
+{
+    let mut at = 0;
+    while at + 3 < MachineTable::REGISTERS {
+        if count <= at {
+            return;
+        }
+        words[at] = registers.words[at];
+        words[at + 1] = registers.words[at + 1];
+        words[at + 2] = registers.words[at + 2];
+        words[at + 3] = registers.words[at + 3];
+        at += 4;
+    }
+}
+
 // What a sum gives, which goes over only where its block is arrived at: c is not zero. Few sums do, so that c is seldom looked at.
 fn sum(sampled: u32, code: u32, a: u32, b: u32, c: u32, over: bool) -> Output
     ensures { λ r. ⌜ r .word ≡ evalOf sampled code a b c ⌝ }
@@ -149,7 +169,7 @@ fn arrived(words: &[u32], table: &[u32], chains: &[u8], k: usize) -> u64
     n
 }
 
-// One cycle of state k, on a sampled word. `words` is room for what references read.
+// One cycle of state k, on a sampled word. `words` is room for what references read; it begins with the registers, before and after.
 pub fn cycle(
     table: &[u32],
     chains: &[u8],
@@ -161,25 +181,29 @@ pub fn cycle(
     requires { ⌜ Ready (now table) k ⌝ }
     requires { ⌜ Arriving (now table) k × Chained (now table) 0 (now chains) ⌝ }
     requires { ⌜ PowerOfTwo (length (now words)) × (maxRegisters + wireCountAt (now table) k ≤ length (now words)) ⌝ }
+    requires { ⌜ take maxRegisters (now words) ≡ registers .words ⌝ }
     ensures { λ r. ⌜ afterCycle (now (table .entry)) r ≡ clock (machineOf (now (table .entry))) sampled (stateAt (now (table .entry)) k) (registers .words) ⌝ }
     ensures { λ r. ⌜ r .blocks ≡ nonzero (worked sampled (registers .words) (stateAt (now (table .entry)) k .wires)) (map (arrivalAt (now (table .entry))) (blocksFrom (now (table .entry)) k 0)) ⌝ }
+    ensures { λ r. ⌜ take maxRegisters (now (words .exit)) ≡ r .registers .words ⌝ }
 {
     let at = record(k);
     let count = wire_count(table, k);
-    runs::store(words, registers);
     let over = work(words, table, first_wire(table, k), count, sampled);
     let state = word_at(words, table[at + MachineTable::NEXT_STATE]);
+    let used = word_index(table[MachineTable::REGISTER_COUNT]);
     let next = taken(
         words,
         table,
         at + MachineTable::NEXT_REGISTERS,
-        word_index(table[MachineTable::REGISTER_COUNT]),
+        used,
         registers,
     );
+    let blocks = arrived(words, table, chains, k);
+    set_registers(words, next, used);
     Next {
         registers: next,
         state: state,
         over: over,
-        blocks: arrived(words, table, chains, k),
+        blocks: blocks,
     }
 }

@@ -68,6 +68,7 @@ pub fn run(
 {
     let states = table[MachineTable::STATE_COUNT];
     let chains = chains_of(table);
+    runs::store(room, registers);
     let mut file = registers;
     let mut state = start;
     let mut flag = false;

@@ -39,7 +39,7 @@ module _ (d s : List ℕ) where
 
 -- ---- wires come after what they read
 
-pub worked-front : (sampled n : ℕ) (env : List ℕ) (ws : List Wire) → n ≤ length env → take n (worked sampled env ws) ≡ take n env
+worked-front : (sampled n : ℕ) (env : List ℕ) (ws : List Wire) → n ≤ length env → take n (worked sampled env ws) ≡ take n env
 unfolding worked
 worked-front sampled n env [] h = refl
 worked-front sampled n env (w ∷ ws) h =
@@ -48,9 +48,9 @@ worked-front sampled n env (w ∷ ws) h =
     worked-front sampled n (env ++ x) ws (omega arith) ∙ take-append-le n env x h
 
 -- after a cycle whose state has n wires: the registers from r up are as they were, in the room and among the next
-pub still-resting : (sampled n r at : ℕ) (t rs last : List ℕ) (ws : List Wire) (f : ℕ → ℕ) → length rs ≡ maxRegisters → at + r ≤ length t
+pub others-stay : (sampled n r at : ℕ) (t rs last : List ℕ) (ws : List Wire) (f : ℕ → ℕ) → length rs ≡ maxRegisters → at + r ≤ length t
     → take (maxRegisters + n) last ≡ worked sampled rs ws → drop r (take maxRegisters last) ≡ drop r (map f (take r (drop at t)) ++ drop r rs)
-still-resting sampled n r at t rs last ws f h k e =
+others-stay sampled n r at t rs last ws f h k e =
     let taken = map f (take r (drop at t)) in
     let m = length-map (take r (drop at t)) f ∙ window-length t at r k in
     ap (drop r) (sym (take-take maxRegisters (maxRegisters + n) last (omega arith)) ∙ ap (take maxRegisters) e ∙ worked-front sampled maxRegisters rs ws (omega arith) ∙ take-all maxRegisters rs (omega arith))

@@ -16,7 +16,7 @@ use Rattle.fsmd.specs.Chains.{blocksFrom}
 use Rattle.fsmd.proofs.ChainLaws.{arrived-is}
 use Rattle.fsmd.proofs.Environment.{reads-same, all-same, clocked, environment}
 use Rattle.fsmd.proofs.Machines.{valid-state-parts}
-use Rattle.fsmd.proofs.RoomLaws.{still-resting}
+use Rattle.fsmd.proofs.RoomLaws.{others-stay}
 use Rattle.fsmd.proofs.Windows.{wiresFrom}
 use Rattle.fsmd.proofs.clock.cycle.Statement.{statement}
 use Rattle.fsmd.proofs.clock.cycle.Tie as tie
@@ -61,7 +61,7 @@ set-registers-requires c κs =
     let whole : p .result + nextRegistersOffset + m .result ≤ length t = search needs in
     let env = b .work .ensures .0 ∙ ap (λ (v : List ℕ). worked (a .sampled) v (wiresFrom t (f .result) (n .result))) (s .pre .1 .1 .1) in (
       omega (arith, b .work .kept .0, s .pre .1 .1 .0 .1),
-      still-resting (a .sampled) (n .result) (m .result) (p .result + nextRegistersOffset) t rs last (wiresFrom t (f .result) (n .result)) (readIn last) h whole env ∙ ap (drop (m .result)) (sym (c .before .before .before .taken .ensures)),
+      others-stay (a .sampled) (n .result) (m .result) (p .result + nextRegistersOffset) t rs last (wiresFrom t (f .result) (n .result)) (readIn last) h whole env ∙ ap (drop (m .result)) (sym (c .before .before .before .taken .ensures)),
     )
 
 returns : tie.Need-returns

@@ -171,6 +171,21 @@ fn wrong_alone(one: &Stored) -> Vec<BlockWords> {
     }
 }
 
+/// Words of blocks that alone are wrong in their table meet every other refusal of a call: of both
+/// runs, of both questions and of the bounds those that are answered where no block is checked.
+#[test]
+fn wrong_words_meet_other_refusals() {
+    let others: [&[u32]; 5] = [&[7, 9, 12], &[7, 9], &[9], &[], &[7, 9, 13]];
+    for (operation, others) in others.into_iter().enumerate() {
+        for &other in others {
+            at_least(LEAST, &format!("{other} in operation {operation}"), |one| {
+                let behind = numbers(Reading::Unchecked, &one.tried());
+                !wrong_alone(one).is_empty() && behind.is_some_and(|all| all[operation] == other)
+            });
+        }
+    }
+}
+
 /// Which words are wrong, where nothing else is.
 #[test]
 fn single_wrong_words() {

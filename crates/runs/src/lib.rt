@@ -1,5 +1,7 @@
 // What the runs of graphs and machines share: the answer of a run with a budget, its words, and the register buffer in and out of a
 // register file.
+#![tactic(auto)]
+
 ghost use Rattle.std.specs.Prelude.{◌≡◌, ◌++◌, ◌≤◌, ltb, length, get_or, take, drop};
 ghost use Rattle.word.specs.Word.{choose};
 ghost use Rattle.word.specs.RegisterFile.{file_words};

@@ -8,7 +8,7 @@ ghost use Rattle.word.specs.RegisterFile.{file_words};
 
 use word::Registers;
 
-#[derive(Drop)]
+#[derive(Clone, Copy)]
 pub enum RunAnswer {
     // The refusal's number.
     Refused(u32),

@@ -1,7 +1,7 @@
 -- `cfg::admission::all_zero` meets its contract. Assumes nothing.
 use Prim.Native.Nat.{◌-◌, ◌≤◌}
 use native.Mathlib.Omega.{arith}
-use mathlib.Core.Bool.{Bool, ◌&&◌, and_true, and_false}
+use mathlib.Core.Bool.{Bool, ◌&&◌, and-true, and-false}
 use mathlib.Core.Logic.{⊎_elim}
 use mathlib.Core.Path.{◌≡◌, refl, sym, ap, ◌∙◌}
 use borrow.Author.Rules.{rules}
@@ -30,7 +30,7 @@ loop_again c =
     let to = k.args.to in (
       omega arith,
       ⊎_elim
-          (λ w. rw w.1 (inv.1 ∙ (ap (λ (z : Bool). clear && z) (zero_stop t i to below k.requires.1 w.0.taken) ∙ and_false clear)))
+          (λ w. rw w.1 (inv.1 ∙ (ap (λ (z : Bool). clear && z) (zero_stop t i to below k.requires.1 w.0.taken) ∙ and-false clear)))
           (λ w. rw w.1 (inv.1 ∙ ap (λ (z : Bool). clear && z) (zero_go t i to below k.requires.1 w.0.left)))
           c.if1.branch,
     )
@@ -39,7 +39,7 @@ returns : tie.Need-returns invariant-loop decreases-loop
 returns c =
     let k = c.before.before in
     let l = c.before.loop in
-    sym (l.invariant.1 ∙ (ap (λ (z : Bool). l.clear && z) (zero_done k.args.table.now l.i k.args.to c.loop-test.false) ∙ and_true l.clear))
+    sym (l.invariant.1 ∙ (ap (λ (z : Bool). l.clear && z) (zero_done k.args.table.now l.i k.args.to c.loop-test.false) ∙ and-true l.clear))
 
 pub all-zero-spec : {M : Type 1} → statement M
 all-zero-spec =

@@ -1,7 +1,7 @@
 -- `fsmd::clock::evaluated` meets its contract: a set's literal, a sum that may go over, or another code's word. Assumes nothing.
 use Prim.Native.Nat.{ℕ}
 use native.Mathlib.Omega.{arith}
-use mathlib.Core.Bool.{Bool, ◌||◌, or_false}
+use mathlib.Core.Bool.{Bool, ◌||◌, or-false}
 use mathlib.Core.Path.{refl, sym, ap, ◌∙◌}
 use borrow.Author.Rules.{rules}
 use Rattle.word.specs.Word.{add_code, sub_code}
@@ -16,7 +16,7 @@ returns c =
     let f : ℕ → ℕ = read_in a.words.now in
     let k = c.if1.true in (
       value_set a.sampled f a.w k,
-      sym (ap (λ (o : Bool). a.over || o) (over_none f a.w (λ h. omega arith) (λ h. omega arith)) ∙ or_false a.over),
+      sym (ap (λ (o : Bool). a.over || o) (over_none f a.w (λ h. omega arith) (λ h. omega arith)) ∙ or-false a.over),
     )
 
 returns-2 : tie.Need-returns-2
@@ -54,7 +54,7 @@ returns-4 c =
     let y = i.word-at2 in
     let z = c.before.word-at5 in (
       c.eval.ensures ∙ value_other a.sampled f a.w x.result y.result z.result x.ensures y.ensures z.ensures a.w.code refl i.before.before.if1.false,
-      sym (ap (λ (o : Bool). a.over || o) (over_none f a.w c.before.before.before.if2.false c.before.before.if3.false) ∙ or_false a.over),
+      sym (ap (λ (o : Bool). a.over || o) (over_none f a.w c.before.before.before.if2.false c.before.before.if3.false) ∙ or-false a.over),
     )
 
 pub evaluated-spec : {M : Type 1} → statement M

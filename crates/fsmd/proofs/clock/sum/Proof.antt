@@ -1,5 +1,5 @@
 -- `fsmd::clock::sum` meets its contract: the evaluator's word, and whether it goes over where c is not zero. Assumes nothing.
-use mathlib.Core.Bool.{Bool, not, ◌&&◌, ◌||◌, or_false}
+use mathlib.Core.Bool.{Bool, not, ◌&&◌, ◌||◌, or-false}
 use mathlib.Core.Path.{sym, ap, ◌∙◌}
 use lib.Dec.{eqb}
 use borrow.Author.Rules.{rules}
@@ -12,7 +12,7 @@ returns c =
     let e = c.before.before.eval.ensures in
     let a = c.before.before.before.args in
     let o = sym c.before.over.ensures ∙ not-true _ c.if1.true in
-    (e, sym (ap (λ (o : Bool). a.over || (o && not (eqb a.c 0))) o ∙ or_false a.over))
+    (e, sym (ap (λ (o : Bool). a.over || (o && not (eqb a.c 0))) o ∙ or-false a.over))
 
 returns-2 : tie.Need-returns-2
 returns-2 c =

@@ -1,7 +1,7 @@
 -- `fsmd::clock::work` meets its contract: the words so far, then the wires from n on, give what all wires give, and whether one goes over. Assumes nothing.
 use Prim.Native.Nat.{ℕ, ◌+◌, ◌-◌, ◌≤◌}
 use native.Mathlib.Omega.{arith}
-use mathlib.Core.Bool.{Bool, true, ◌||◌, or_assoc, or_false}
+use mathlib.Core.Bool.{Bool, true, ◌||◌, or_assoc, or-false}
 use mathlib.Core.Path.{◌≡◌, refl, sym, ap, ◌∙◌, subst}
 use lib.ListN.{length, take, drop, set, length-set, get_or}
 use borrow.Author.Rules.{rules}
@@ -73,7 +73,7 @@ returns c =
     let l = take (max_registers + n) b.loop.words in
     let e : n ≡ a.count = omega arith in (
       ap (λ (i : ℕ). take (max_registers + i) b.loop.words) (sym e) ∙ sym (work_done a.sampled t a.first a.count n l (omega arith)) ∙ b.loop.invariant.3,
-      sym (or_false b.loop.over) ∙ ap (λ (x : Bool). b.loop.over || x) (sym (over_done a.sampled t a.first a.count n l (omega arith))) ∙ b.loop.invariant.4,
+      sym (or-false b.loop.over) ∙ ap (λ (x : Bool). b.loop.over || x) (sym (over_done a.sampled t a.first a.count n l (omega arith))) ∙ b.loop.invariant.4,
     )
 
 pub work-spec : {M : Type 1} → statement M

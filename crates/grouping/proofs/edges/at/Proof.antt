@@ -2,13 +2,13 @@
 use mathlib.Core.Path.{sym}
 use lib.ListN.{get_or-eq_default}
 use borrow.Author.Rules.{rules}
-use Rattle.runs.proofs.Sets.{get_d_any}
+use Rattle.runs.proofs.Sets.{get_or-any}
 use Rattle.fsmd.specs.Layout.{absent}
 use Rattle.grouping.proofs.edges.at.Statement.{statement}
 use Rattle.grouping.proofs.edges.at.Tie as tie
 
 returns : tie.Need-returns
-returns c = get_d_any c.before.before.args.bytes.now c.before.before.args.i 0 absent c.before.if1.true
+returns c = get_or-any c.before.before.args.bytes.now c.before.before.args.i 0 absent c.before.if1.true
 
 returns-2 : tie.Need-returns-2
 returns-2 c = sym (get_or-eq_default c.before.args.bytes.now absent c.if1.false)

@@ -13,7 +13,7 @@ use Rattle.fsmd.proofs.clock.set_registers.Goals as goal
 pub returns-then-count-at : goal.returns-then-count-at
 returns-then-count-at c =
     let l = c.loop-at in
-    l.invariant.2 ∙ rest_there c.args.words.now c.args.registers.words l.at c.args.count max_registers c.if-count-at.true l.invariant.1 c.requires.0 c.requires.1
+    l.invariant.2 ∙ rest_there c.args.words.now c.args.registers.words l.at c.args.count max_registers c.if-count-at.true l.invariant.1 c.requires.max_registers_in_bounds c.requires.words_value
 
 pub loop-at-preserved : goal.loop-at-preserved
 loop-at-preserved c =

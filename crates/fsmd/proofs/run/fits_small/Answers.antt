@@ -24,7 +24,7 @@ pub loop-k-init : goal.loop-k-init
 loop-k-init c =
     let t = c.args.table.now in
     let e = c.word_index-states.ensures.0 in
-    (omega arith, omega (arith, e, (admitted_facts t c.requires.1).few_states_lem), ap (λ (n : ℕ). every (fits t) (up_from 0 n)) (sym e))
+    (omega arith, omega (arith, e, (admitted_facts t c.requires.table_value).few_states_lem), ap (λ (n : ℕ). every (fits t) (up_from 0 n)) (sym e))
 
 pub returns-then-wire_count-gt-SMALL_ROOM : goal.returns-then-wire_count-gt-SMALL_ROOM
 returns-then-wire_count-gt-SMALL_ROOM c =

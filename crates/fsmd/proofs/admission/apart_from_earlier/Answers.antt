@@ -1,7 +1,8 @@
 -- `fsmd::admission::apart_from_earlier` meets its contract: the states from j on decide for all. Assumes nothing.
 use Prim.Native.Nat.{◌-◌, ◌≤◌}
 use native.Mathlib.Omega.{arith}
-use mathlib.Core.Path.{◌≡◌, refl, sym, ◌∙◌}
+use mathlib.Core.Bool.{not}
+use mathlib.Core.Path.{◌≡◌, refl, sym, ap, ◌∙◌}
 use lib.ListN.{drop}
 use borrow.Author.Rules.{rules}
 use Rattle.runs.proofs.Every.{below_fails, below_passes, below_done}
@@ -14,7 +15,7 @@ returns-then-not-apart c =
     let a = c.args in
     let t = a.table.now in
     let n = a.k in
-    sym (c.loop-j.invariant.1 ∙ below_fails (λ i. apart t i n) n c.loop-j.j c.loop-j-test.true c.apart.result c.apart.ensures c.if-not-apart.true)
+    sym (c.loop-j.invariant.1 ∙ below_fails (λ i. apart t i n) n c.loop-j.j c.loop-j-test.true c.apart.result c.apart.ensures (ap not c.if-not-apart.true))
 
 pub loop-j-preserved : goal.loop-j-preserved
 loop-j-preserved c =
@@ -22,7 +23,7 @@ loop-j-preserved c =
     let t = a.table.now in
     let n = a.k in (
       omega arith,
-      c.loop-j.invariant.1 ∙ below_passes (λ i. apart t i n) n c.loop-j.j c.loop-j-test.true c.apart.result c.apart.ensures c.if-not-apart.false,
+      c.loop-j.invariant.1 ∙ below_passes (λ i. apart t i n) n c.loop-j.j c.loop-j-test.true c.apart.result c.apart.ensures (ap not c.if-not-apart.false),
     )
 
 pub returns : goal.returns

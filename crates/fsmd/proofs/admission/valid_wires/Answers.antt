@@ -15,7 +15,7 @@ returns-then-not-valid_wire c =
     let t = a.table.now in
     sym (c.loop-n.invariant.1
     ∙ wires_fail t a.first a.count a.registers c.loop-n.n c.loop-n-test.true
-    (ap (valid_wire a.registers c.loop-n.n) (sym c.wire.ensures) ∙ sym c.valid_wire.ensures ∙ not-true _ c.if-not-valid_wire.true))
+    (ap (valid_wire a.registers c.loop-n.n) (sym c.wire.ensures) ∙ sym c.valid_wire.ensures ∙ c.if-not-valid_wire.true))
 
 pub loop-n-preserved : goal.loop-n-preserved
 loop-n-preserved c =
@@ -24,7 +24,7 @@ loop-n-preserved c =
       omega arith,
       c.loop-n.invariant.1
           ∙ wires_pass t a.first a.count a.registers c.loop-n.n c.loop-n-test.true
-          (ap (valid_wire a.registers c.loop-n.n) (sym c.wire.ensures) ∙ sym c.valid_wire.ensures ∙ not-false _ c.if-not-valid_wire.false),
+          (ap (valid_wire a.registers c.loop-n.n) (sym c.wire.ensures) ∙ sym c.valid_wire.ensures ∙ c.if-not-valid_wire.false),
     )
 
 pub returns : goal.returns

@@ -11,7 +11,9 @@ pub loop-i-init : goal.loop-i-init
 loop-i-init c = let next = c.args.next.now in (omega arith, sym (bits_none next (length next) (omega arith)))
 
 pub with_bit-word-requires-clause-bits_bound : goal.with_bit-word-requires-clause-bits_bound
-with_bit-word-requires-clause-bits_bound c = ?
+with_bit-word-requires-clause-bits_bound c =
+    let few = bits_few c.args.next.now c.loop-i.i c.requires in
+    omega (arith, c.loop-i.invariant.1, few)
 
 pub loop-i-preserved : goal.loop-i-preserved
 loop-i-preserved c =

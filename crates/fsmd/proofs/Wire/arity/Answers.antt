@@ -1,7 +1,6 @@
 -- `fsmd::Wire::arity` meets its contract: the codes that read three words, then the others as `word::arity` has them. Assumes nothing.
 use native.Mathlib.Omega.{arith}
 use mathlib.Core.Path.{sym, ◌∙◌}
-use borrow.Author.Rules.{rules}
 use Rattle.word.specs.Word.{arity}
 use Rattle.fsmd.specs.Machine.{wire_arity}
 use Rattle.fsmd.proofs.WireReads.{other_reads}

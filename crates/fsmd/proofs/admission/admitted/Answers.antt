@@ -1,8 +1,7 @@
 -- `fsmd::admission::admitted` meets its contract: the tests in the definition's order. Assumes nothing.
 use native.Mathlib.Omega.{arith}
 use mathlib.Core.Path.{sym, ◌∙◌}
-use borrow.Author.Rules.{rules}
-use borrow.Author.Tests.{le-leb, lt-leb, not-true, not-false}
+use borrow.Author.Tests.{le-leb, lt-leb}
 use Rattle.fsmd.specs.Layout.{max_states, max_registers}
 use Rattle.fsmd.proofs.Machines.{admitted_is}
 use Rattle.fsmd.proofs.admission.admitted.Goals as goal

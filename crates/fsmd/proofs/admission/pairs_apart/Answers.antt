@@ -1,10 +1,7 @@
 -- `fsmd::admission::pairs_apart` meets its contract: the states from k on decide for all. Assumes nothing.
-use Prim.Native.Nat.{◌-◌, ◌≤◌}
 use native.Mathlib.Omega.{arith}
 use mathlib.Core.Bool.{not}
-use mathlib.Core.Path.{◌≡◌, refl, sym, ap, ◌∙◌}
-use lib.ListN.{drop}
-use borrow.Author.Rules.{rules}
+use mathlib.Core.Path.{sym, ap, ◌∙◌}
 use Rattle.runs.proofs.Every.{below_fails, below_passes, below_done}
 use Rattle.runs.specs.Lists.{up_from, every}
 use Rattle.fsmd.specs.Table.{apart}

@@ -4,8 +4,7 @@ use native.Mathlib.Omega.{arith}
 use mathlib.Core.Bool.{◌||◌}
 use mathlib.Core.Path.{ap, sym, ◌∙◌}
 use lib.Dec.{eqb, ltb}
-use borrow.Author.Rules.{rules}
-use borrow.Author.Tests.{le-leb, lt-leb, not-true, not-false}
+use borrow.Author.Tests.{le-leb, lt-leb}
 use Rattle.fsmd.specs.Table.{valid_wire, valid_reference}
 use Rattle.fsmd.proofs.WireReads.{operand_tests}
 use Rattle.fsmd.proofs.admission.valid_wire.Goals as goal

@@ -2,12 +2,12 @@
 use Prim.Native.Nat.{ℕ, ◌+◌, ◌≤◌}
 use native.Mathlib.Omega.{arith}
 use mathlib.Core.List.{List, ◌++◌, map}
-use mathlib.Core.Path.{◌≡◌, refl, sym, ap, ◌∙◌, subst}
-use lib.ListN.{length, get_or, take, drop, length-append, length-drop}
-use lib.Seq.{take_at, length-take-le}
+use mathlib.Core.Path.{◌≡◌, refl, sym, ap, ◌∙◌}
+use lib.ListN.{length, get_or, take, drop}
+use lib.Seq.{take_at}
 use borrow.Author.Rules.{rules}
 use Rattle.runs.specs.Lists.{every}
-use Rattle.fsmd.specs.Clock.{PowerOfTwo, read_in}
+use Rattle.fsmd.specs.Clock.{read_in}
 use Rattle.fsmd.specs.Layout.{max_registers, next_state_offset, next_registers_offset}
 use Rattle.fsmd.specs.Machine.{worked, wires_over, nonzero}
 use Rattle.fsmd.specs.Table.{arrival_at, valid_reference}
@@ -61,11 +61,11 @@ returns-clause-result_value c =
     let valid = ap (λ (i : ℕ). every (valid_reference r n.result) (take i (drop (p.result + next_registers_offset) t))) m.ensures.0 ∙ v.2 in
     let env = c.work-over.ensures.words_after ∙ ap (λ (v : List ℕ). worked a.sampled v (wires_from t f.result n.result)) e in
     clocked a.sampled t a.k f.result n.result p.result m.result f.ensures.0 n.ensures.0 p.ensures m.ensures.0 rs
-        (take (max_registers + n.result) last) left.result.words c.word_at-state.result c.work-over.result
-        env
-        (c.work-over.ensures.value ∙ ap (λ (v : List ℕ). wires_over a.sampled v (wires_from t f.result n.result)) e)
-        (c.word_at-state.ensures ∙ reads_same last r n.result d.registers room next v.1)
-        (left.ensures ∙ ap (λ (l : List ℕ). l ++ drop m.result rs) (all_same last r n.result d.registers room taken valid))
+    (take (max_registers + n.result) last) left.result.words c.word_at-state.result c.work-over.result
+    env
+    (c.work-over.ensures.value ∙ ap (λ (v : List ℕ). wires_over a.sampled v (wires_from t f.result n.result)) e)
+    (c.word_at-state.ensures ∙ reads_same last r n.result d.registers room next v.1)
+    (left.ensures ∙ ap (λ (l : List ℕ). l ++ drop m.result rs) (all_same last r n.result d.registers room taken valid))
 
 pub returns-clause-blocks_value : goal.returns-clause-blocks_value
 returns-clause-blocks_value c =
@@ -77,8 +77,8 @@ returns-clause-blocks_value c =
     let room : max_registers + n.result ≤ length last = omega (arith, n.ensures.0, c.requires.power_of_two.1, c.work-over.auto.words) in
     let env = c.work-over.ensures.words_after ∙ ap (λ (v : List ℕ). worked a.sampled v (wires_from t f.result n.result)) c.requires.words_value in
     c.arrived-blocks.ensures
-        ∙ arrived_is t a.k last n.result room (λ b h e. let x = c.requires.arriving.0 b h e in omega (arith, n.ensures.0))
-        ∙ ap (λ (v : List ℕ). nonzero v (map (arrival_at t) (blocks_from t a.k 0))) (env ∙ environment a.sampled t a.k f.result n.result f.ensures.0 n.ensures.0 a.registers.words)
+    ∙ arrived_is t a.k last n.result room (λ b h e. let x = c.requires.arriving.0 b h e in omega (arith, n.ensures.0))
+    ∙ ap (λ (v : List ℕ). nonzero v (map (arrival_at t) (blocks_from t a.k 0))) (env ∙ environment a.sampled t a.k f.result n.result f.ensures.0 n.ensures.0 a.registers.words)
 
 pub returns-clause-words_after : goal.returns-clause-words_after
 returns-clause-words_after c =

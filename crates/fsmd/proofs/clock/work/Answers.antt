@@ -1,14 +1,13 @@
 -- `fsmd::clock::work` meets its contract: the words so far, then the wires from n on, give what all wires give, and whether one goes over. Assumes nothing.
-use Prim.Native.Nat.{ℕ, ◌+◌, ◌-◌, ◌≤◌}
+use Prim.Native.Nat.{ℕ, ◌+◌}
 use native.Mathlib.Omega.{arith}
-use mathlib.Core.Bool.{Bool, true, ◌||◌, or_assoc, or-false}
-use mathlib.Core.Path.{◌≡◌, refl, sym, ap, ◌∙◌, subst}
-use lib.ListN.{length, take, drop, set, length-set, get_or}
-use borrow.Author.Rules.{rules}
-use Rattle.fsmd.specs.Clock.{PowerOfTwo, read_in}
+use mathlib.Core.Bool.{Bool, ◌||◌, or_assoc, or-false}
+use mathlib.Core.Path.{◌≡◌, sym, ap, ◌∙◌}
+use lib.ListN.{take, drop, set, length-set, get_or}
+use Rattle.fsmd.specs.Clock.{read_in}
 use Rattle.fsmd.specs.Layout.{max_registers}
-use Rattle.fsmd.specs.Machine.{worked, wire_value, wire_over, wires_over}
-use Rattle.fsmd.specs.Table.{wire_at, valid_wires}
+use Rattle.fsmd.specs.Machine.{wire_value, wire_over, wires_over}
+use Rattle.fsmd.specs.Table.{wire_at}
 use Rattle.fsmd.proofs.Environment.{value_within, over_within, work_next, over_next, work_done, over_done}
 use Rattle.fsmd.proofs.Windows.{wires_from, wire_valid, wires_pass}
 use Rattle.fsmd.proofs.clock.work.Goals as goal
@@ -47,13 +46,13 @@ returns-clause-words_after c =
     let n = c.loop-n.n in
     let e : n ≡ a.count = omega arith in
     ap (λ (i : ℕ). take (max_registers + i) c.loop-n.words) (sym e)
-        ∙ sym (work_done a.sampled a.table.now a.first a.count n (take (max_registers + n) c.loop-n.words) (omega arith))
-        ∙ c.loop-n.invariant.3
+    ∙ sym (work_done a.sampled a.table.now a.first a.count n (take (max_registers + n) c.loop-n.words) (omega arith))
+    ∙ c.loop-n.invariant.3
 
 pub returns-clause-value : goal.returns-clause-value
 returns-clause-value c =
     let a = c.args in
     let n = c.loop-n.n in
     sym (or-false c.loop-n.over)
-        ∙ ap (λ (x : Bool). c.loop-n.over || x) (sym (over_done a.sampled a.table.now a.first a.count n (take (max_registers + n) c.loop-n.words) (omega arith)))
-        ∙ c.loop-n.invariant.4
+    ∙ ap (λ (x : Bool). c.loop-n.over || x) (sym (over_done a.sampled a.table.now a.first a.count n (take (max_registers + n) c.loop-n.words) (omega arith)))
+    ∙ c.loop-n.invariant.4

@@ -1,15 +1,10 @@
 -- `fsmd::sampling::is_wordless` meets its contract: the states from k on decide for all. Assumes nothing.
-use Prim.Native.Nat.{◌-◌, ◌≤◌, ◌<◌}
+use Prim.Native.Nat.{◌<◌}
 use native.Mathlib.Omega.{arith}
 use mathlib.Core.Bool.{not}
-use mathlib.Core.Path.{◌≡◌, sym, ap₂, ap, ◌∙◌}
-use lib.ListN.{get_or, drop}
-use borrow.Author.Rules.{rules}
+use mathlib.Core.Path.{sym, ap₂, ap, ◌∙◌}
+use lib.ListN.{get_or}
 use Rattle.runs.proofs.Every.{below_fails, below_passes, below_done}
-use Rattle.runs.specs.Lists.{up_from, every}
-use Rattle.fsmd.specs.Layout.{max_states}
-use Rattle.fsmd.specs.Machine.{wordless_machine}
-use Rattle.fsmd.specs.Table.{machine_of}
 use Rattle.fsmd.proofs.Machines.{wordless_wires, wordless_state, wordless_is, admitted_facts}
 use Rattle.fsmd.proofs.sampling.is_wordless.Goals as goal
 

@@ -10,7 +10,7 @@ loop-k-preserved c =
     let f = c.first_wire-first in
     let t = c.args.table.now in
     let k = c.loop-k.k in
-    let more = order_more t c.loop-k.end k c.loop-k.invariant.1 (omega (arith, c.if-first-end.false, f.ensures.0)) in
+    let more = order_more t c.loop-k.end k c.loop-k.invariant.1 (omega (arith, f.ensures.0)) in
     (omega (arith, c.loop-k-test.true), subst (λ (e : ℕ). InOrder t e (k + 1)) (sym (ap₂ (λ (x y : ℕ). x + y) f.ensures.0 c.wire_count.ensures.0)) more)
 
 pub returns : goal.returns

@@ -1,4 +1,5 @@
 -- `cfg::admission::ending_fits` meets its contract. Assumes nothing.
+use native.Mathlib.Omega.{arith}
 use mathlib.Core.Path.{sym, ◌∙◌}
 use borrow.Author.Rules.{rules}
 use Rattle.cfg.proofs.Words.{goto_fits, ite_fits, halt_fits, none_fits}
@@ -18,4 +19,4 @@ returns-in-3 c =
 
 pub returns-in_default : goal.returns-in_default
 returns-in_default c =
-        sym (none_fits c.args.head.blocks c.args.head.registers c.args.table.now c.args.at c.requires c.in_default.rest.0.0.1 c.in_default.rest.0.1 c.in_default.rest.1)
+        sym (none_fits c.args.head.blocks c.args.head.registers c.args.table.now c.args.at c.requires (λ e. omega arith) (λ e. omega arith) (λ e. omega arith))

@@ -10,8 +10,7 @@ use Rattle.cfg.proofs.Passing.{many_passing, few_passing}
 use Rattle.cfg.proofs.admission.block_fits.Goals as goal
 
 pub returns-then-used-gt-INSTRUCTIONS : goal.returns-then-used-gt-INSTRUCTIONS
-returns-then-used-gt-INSTRUCTIONS c =
-        sym (many_passing c.args.words c.args.head.blocks c.args.head.registers c.args.table.now c.args.n c.if-used-gt-INSTRUCTIONS.true)
+returns-then-used-gt-INSTRUCTIONS c = sym (many_passing c.args.words c.args.head.blocks c.args.head.registers c.args.table.now c.args.n c.if-used-gt-INSTRUCTIONS.true)
 
 pub returns-then-not-code_valid : goal.returns-then-not-code_valid
 returns-then-not-code_valid c =

@@ -93,8 +93,7 @@ returns-clause-value c =
     let ok = and_left (admitted_graph k.table.now) (wordless_graph (graph_of k.table.now)) pass in
     let w = and_right (admitted_graph k.table.now) (wordless_graph (graph_of k.table.now)) pass in
     let h = none_refused k.table.now k.registers.now k.start c.if-table-lt-WORDS.false c.if-registers-lt-REGISTERS.false ok w (omega (arith, c.if-table-start.false)) in
-    let marks = replicate max_blocks 0 in
-    c.run_from.ensures.value ∙ marked_answer [] marks unmarked_marks (graph_of k.table.now) (up_to k.budget []) unread k.budget (unread_alike k.budget) k.start (take max_registers k.registers.now) ∙ sym (accepted (graph_runner (graph_of k.table.now) []) unread k.registers.now k.start k.budget (graph_refusal k.table.now k.registers.now k.start) h)
+    c.run_from.ensures.value ∙ marked_answer [] (replicate max_blocks 0) unmarked_marks (graph_of k.table.now) (up_to k.budget []) unread k.budget (unread_alike k.budget) k.start (take max_registers k.registers.now) ∙ sym (accepted (graph_runner (graph_of k.table.now) []) unread k.registers.now k.start k.budget (graph_refusal k.table.now k.registers.now k.start) h)
 
 pub returns-clause-registers_after : goal.returns-clause-registers_after
 returns-clause-registers_after c =
@@ -103,5 +102,4 @@ returns-clause-registers_after c =
     let ok = and_left (admitted_graph k.table.now) (wordless_graph (graph_of k.table.now)) pass in
     let w = and_right (admitted_graph k.table.now) (wordless_graph (graph_of k.table.now)) pass in
     let h = none_refused k.table.now k.registers.now k.start c.if-table-lt-WORDS.false c.if-registers-lt-REGISTERS.false ok w (omega (arith, c.if-table-start.false)) in
-    let marks = replicate max_blocks 0 in
-    c.run_from.ensures.registers_after ∙ rw (marked_registers [] marks unmarked_marks (graph_of k.table.now) (up_to k.budget []) unread k.budget (unread_alike k.budget) k.start (take max_registers k.registers.now)) (sym (accepted_left (graph_runner (graph_of k.table.now) []) unread k.registers.now k.start k.budget (graph_refusal k.table.now k.registers.now k.start) h))
+    c.run_from.ensures.registers_after ∙ rw (marked_registers [] (replicate max_blocks 0) unmarked_marks (graph_of k.table.now) (up_to k.budget []) unread k.budget (unread_alike k.budget) k.start (take max_registers k.registers.now)) (sym (accepted_left (graph_runner (graph_of k.table.now) []) unread k.registers.now k.start k.budget (graph_refusal k.table.now k.registers.now k.start) h))

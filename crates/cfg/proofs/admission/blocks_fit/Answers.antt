@@ -12,4 +12,4 @@ use Rattle.cfg.proofs.admission.blocks_fit.Goals as goal
 pub loop-n-preserved : goal.loop-n-preserved
 loop-n-preserved c =
     let n = c.loop-n.n in
-    (omega arith, c.loop-n.invariant.1 ∙ rw (up_from_cons n c.args.head.blocks c.loop-n-test.true, ← c.block_fits_lem.ensures, not-false c.block_fits_lem.result c.if-not-block_fits.false))
+    (omega arith, c.loop-n.invariant.1 ∙ rw (up_from_cons n c.args.head.blocks c.loop-n-test.true, ← c.block_fits.ensures, c.if-not-block_fits.false))

@@ -14,4 +14,4 @@ use Rattle.cfg.proofs.admission.code_valid.Goals as goal
 pub loop-i-preserved : goal.loop-i-preserved
 loop-i-preserved c =
     let i = c.loop-i.i in
-    (omega arith, c.loop-i.invariant.1 ∙ rw (up_from_cons i c.args.count c.loop-i-test.true, ← c.instruction_at-next.ensures, ← c.instruction_valid.ensures, not-false c.instruction_valid.result c.if-not-instruction_valid.false))
+    (omega arith, c.loop-i.invariant.1 ∙ rw (up_from_cons i c.args.count c.loop-i-test.true, ← c.instruction_at-next.ensures, ← c.instruction_valid.ensures, c.if-not-instruction_valid.false))

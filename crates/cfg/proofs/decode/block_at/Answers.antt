@@ -19,4 +19,4 @@ returns c =
     let is = l.block.instructions in
     let h = l.invariant.1 in
     let e : l.i ≡ max_instructions = omega (arith, c.loop-i-test.false) in
-    rw (c.Ending-at.ensures, all_decoded (instruction_at a.table.now (block_offset a.n)) is h (λ j b. l.invariant.2 j (omega arith)))
+    rw (c.ending_at-ending.ensures, all_decoded (instruction_at a.table.now (block_offset a.n)) is h (λ j b. l.invariant.2 j (omega arith)))

@@ -11,7 +11,7 @@ use cfg::{Block, GraphTable, admission, decode};
 
 pub mod line; // line.rt: the bytes of one line
 
-#[derive(Drop)]
+#[derive(Clone, Copy)]
 pub enum WriteAnswer {
     // The refusal's number, and the length needed where the output is short, else 0.
     Refused(u32, u32),

@@ -15,7 +15,7 @@ use fsmd::MachineTable;
 // The most bytes of a listing.
 pub const LONGEST: usize = 4096;
 
-#[derive(Drop)]
+#[derive(Clone, Copy)]
 pub enum ListAnswer {
     // The bytes of the listing.
     Listed(u32),

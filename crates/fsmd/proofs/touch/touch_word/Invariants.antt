@@ -1,0 +1,14 @@
+-- `fsmd::touch::touch_word` meets its contract: after the registers from i on, the word has their bits. Assumes nothing.
+use Prim.Native.Nat.{◌≤◌}
+use native.Mathlib.Omega.{arith}
+use mathlib.Core.Path.{◌≡◌, sym, ap, ◌∙◌}
+use lib.ListN.{length}
+use borrow.Author.Rules.{rules}
+use Rattle.fsmd.proofs.TouchLaws.{bits_from, bits_all, bits_none, bits_few, bits_step}
+use Rattle.fsmd.proofs.touch.touch_word.Given as goal
+
+abbrev pub invariant-loop-i : goal.invariant-loop-i
+invariant-loop-i l = (l.i ≤ length l.next) × (l.word ≡ bits_from l.next l.i)
+
+abbrev pub decreases-loop-i : goal.decreases-loop-i
+decreases-loop-i l = l.i

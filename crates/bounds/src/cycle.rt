@@ -15,7 +15,7 @@ use fsmd::{MachineTable, Wire};
 use word::Code;
 
 // How many words there is room for in one array: those of few wires, of more, and of all.
-#[derive(Drop)]
+#[derive(Clone, Copy)]
 struct Room;
 
 impl Room {

@@ -10,14 +10,14 @@ ghost use Rattle.capture.specs.Steps.{position_behind, Passed, Within, noted, Mo
 use cfg::GraphTable;
 use recording::{Fault, Position, Step};
 
-#[derive(Drop)]
+#[derive(Clone, Copy)]
 pub enum Difference {
     Nowhere,
     // The first cycle.
     At(u32),
 }
 
-#[derive(Drop)]
+#[derive(Clone, Copy)]
 pub enum CaptureAnswer {
     // The refusal's number, the recording and its line; both are 0 where R is not 1 to 16.
     Refused(u32, u32, u64),
@@ -26,14 +26,14 @@ pub enum CaptureAnswer {
 }
 
 // A position in a recording, and its next line.
-#[derive(Drop)]
+#[derive(Clone, Copy)]
 struct Head {
     position: Position,
     step: Step,
 }
 
 // Where the merge stands in both recordings, and what it has found.
-#[derive(Drop)]
+#[derive(Clone, Copy)]
 struct Merge {
     first: Head,
     second: Head,
@@ -41,7 +41,7 @@ struct Merge {
     difference: Difference,
 }
 
-#[derive(Drop)]
+#[derive(Clone, Copy)]
 enum MergeStep {
     Go(Merge),
     // One of the recordings goes on no more.

@@ -6,7 +6,7 @@ ghost use Rattle.capture.specs.Steps.{scan_at, position_at, Within, Advanced, po
 
 use delimited::Field;
 
-#[derive(Drop)]
+#[derive(Clone, Copy)]
 pub enum Fault {
     Nothing,
     // The refusal's number and the line.
@@ -14,21 +14,21 @@ pub enum Fault {
 }
 
 // A line's cycle and where the next line begins.
-#[derive(Drop)]
+#[derive(Clone, Copy)]
 enum Scan {
     Cycle(u32, usize),
     NoForm,
 }
 
 // Where the next line begins, its number, and the least cycle that is above that of the line before.
-#[derive(Drop)]
+#[derive(Clone, Copy)]
 pub struct Position {
     pub at: usize,
     pub line: u64,
     pub least: u64,
 }
 
-#[derive(Drop)]
+#[derive(Clone, Copy)]
 pub enum Step {
     // The line's cycle, and where the line behind it begins.
     Entry(u32, usize),

@@ -5,34 +5,34 @@ ghost use Rattle.cases.specs.Limits.{Within};
 use buffers::byte_word;
 
 // A place in the stream, and whether all so far was there and within its limit.
-#[derive(Drop)]
+#[derive(Clone, Copy)]
 pub struct Cursor {
     pub at: usize,
     pub good: bool,
 }
 
 // A number, and the place behind it.
-#[derive(Drop)]
+#[derive(Clone, Copy)]
 pub struct Number {
     pub value: u32,
     pub next: Cursor,
 }
 
 // So many items from a place on.
-#[derive(Drop)]
+#[derive(Clone, Copy)]
 pub struct Region {
     pub at: usize,
     pub count: u32,
 }
 
-#[derive(Drop)]
+#[derive(Clone, Copy)]
 pub struct Taken {
     pub region: Region,
     pub next: Cursor,
 }
 
 // Where both runs start and what they may use.
-#[derive(Drop)]
+#[derive(Clone, Copy)]
 pub struct Starts {
     pub start_block: u32,
     pub block_budget: u32,
@@ -42,21 +42,21 @@ pub struct Starts {
 }
 
 // Two recordings of so many registers: their bytes.
-#[derive(Drop)]
+#[derive(Clone, Copy)]
 pub struct Captures {
     pub registers: u32,
     pub first: Region,
     pub second: Region,
 }
 
-#[derive(Drop)]
+#[derive(Clone, Copy)]
 pub struct TakenCaptures {
     pub captures: Captures,
     pub next: Cursor,
 }
 
 // What is asked about: a state, a register, and the lowest and highest words of the registers. The place behind it is that behind the case.
-#[derive(Drop)]
+#[derive(Clone, Copy)]
 pub struct Asked {
     pub state: u32,
     pub register: u32,
@@ -67,7 +67,7 @@ pub struct Asked {
 
 // The text's bytes, sizes of buffers, pairs of index and word, register words, the words and starters of runs with words, two recordings,
 // and what is asked about.
-#[derive(Drop)]
+#[derive(Clone, Copy)]
 pub struct Case {
     pub text: Region,
     pub graph: u32,

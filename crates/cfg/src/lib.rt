@@ -11,7 +11,7 @@ pub mod starters; // starters.rt: the starters of a run with words
 pub mod run; // run.rt: a graph's run with a budget
 
 // The head of a graph table: how many blocks and registers the graph has.
-#[derive(Drop)]
+#[derive(Clone, Copy)]
 pub struct GraphTable {
     pub blocks: u32,
     pub registers: u32,
@@ -35,7 +35,7 @@ impl GraphTable {
 }
 
 // Code, written register, first and second operand; of a set the first operand is the literal.
-#[derive(Drop)]
+#[derive(Clone, Copy)]
 pub struct Instruction {
     pub code: u32,
     pub d: u32,
@@ -67,14 +67,14 @@ impl Instruction {
 }
 
 // Two registers compared.
-#[derive(Drop)]
+#[derive(Clone, Copy)]
 pub struct Condition {
     pub comparison: Comparison,
     pub a: u32,
     pub b: u32,
 }
 
-#[derive(Drop)]
+#[derive(Clone, Copy)]
 pub enum Ending {
     // The target.
     Goto(u32),
@@ -105,7 +105,7 @@ impl Ending {
 }
 
 // The first `count` instructions are the block's.
-#[derive(Drop)]
+#[derive(Clone, Copy)]
 pub struct Block {
     pub count: u32,
     pub instructions: [Instruction; Block::INSTRUCTIONS],

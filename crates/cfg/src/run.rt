@@ -12,14 +12,14 @@ use runs::RunAnswer;
 use word::{Code, Comparison, Registers};
 
 // The block that comes next.
-#[derive(Drop)]
+#[derive(Clone, Copy)]
 pub enum Next {
     To(u32),
     Nowhere,
 }
 
 // A run's answer, and the registers that it leaves.
-#[derive(Drop)]
+#[derive(Clone, Copy)]
 pub struct Ran {
     pub answer: RunAnswer,
     pub registers: Registers,

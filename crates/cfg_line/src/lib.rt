@@ -12,7 +12,7 @@ use cfg::{Condition, GraphTable, Instruction};
 use delimited::Field;
 use word::{Code, Comparison};
 
-#[derive(Drop)]
+#[derive(Clone, Copy)]
 pub enum Line {
     // B and R.
     Graph(u32, u32),
@@ -28,14 +28,14 @@ pub enum Line {
 }
 
 // A line's form, and where the next line begins.
-#[derive(Drop)]
+#[derive(Clone, Copy)]
 pub struct Parsed {
     pub line: Line,
     pub next: usize,
 }
 
 // What a line's first field names.
-#[derive(Drop)]
+#[derive(Clone, Copy)]
 pub enum Keyword {
     Graph,
     Block,
@@ -51,13 +51,13 @@ pub enum Keyword {
 }
 
 // A field's bytes as a number, where the next field or line begins, and the byte between.
-#[derive(Drop)]
+#[derive(Clone, Copy)]
 enum Name {
     Packed(u64, usize, u8),
     Bad,
 }
 
-#[derive(Drop)]
+#[derive(Clone, Copy)]
 enum Comparing {
     By(Comparison, usize),
     Bad,

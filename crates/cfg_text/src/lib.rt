@@ -12,14 +12,14 @@ use cfg::{Block, Condition, Ending, GraphTable, Instruction};
 use cfg_line::Line;
 use word::Code;
 
-#[derive(Drop)]
+#[derive(Clone, Copy)]
 pub enum ReadAnswer {
     // The refusal's number and line; the line is 0 where no line is at fault.
     Refused(u32, u32),
     Read,
 }
 
-#[derive(Drop)]
+#[derive(Clone, Copy)]
 pub enum Due {
     Graph,
     // A block line, or nothing where all blocks are read.
@@ -29,7 +29,7 @@ pub enum Due {
 }
 
 // What is due, B and R, how many blocks are read, how many instructions of the block.
-#[derive(Drop)]
+#[derive(Clone, Copy)]
 pub struct ReadState {
     pub due: Due,
     pub blocks: u32,
@@ -38,7 +38,7 @@ pub struct ReadState {
     pub count: u32,
 }
 
-#[derive(Drop)]
+#[derive(Clone, Copy)]
 pub enum LineStep {
     Go(ReadState),
     // The refusal, with its line.

@@ -11,7 +11,7 @@ use cfg::{Block, GraphTable, admission, decode};
 
 pub mod line; // line.rt: the bytes of one line
 
-#[derive(Drop)]
+#[derive(Clone, Copy)]
 pub enum WriteAnswer {
     // The refusal's number, and the length needed where the output is short, else 0.
     Refused(u32, u32),
@@ -80,7 +80,7 @@ fn write_by_way_of(text: &mut [u8], table: &[u32], out: &mut [u8]) -> WriteAnswe
     if out.len() < n {
         return WriteAnswer::Refused(8, n as u32);
     }
-    bytes::copy(&text[..n], out);
+    out[..n].copy_from_slice(&text[..n]);
     WriteAnswer::Written(n as u32)
 }
 

@@ -5,7 +5,7 @@ ghost use Rattle.delimited.specs.Number.{at_most};
 ghost use Rattle.delimited.specs.Cursor.{stops, digits_at_most, field_at};
 
 // A field's value, and where the next field or line begins.
-#[derive(Drop)]
+#[derive(Clone, Copy)]
 pub enum Field {
     Value(u32, usize),
     Bad,

@@ -85,7 +85,7 @@ fn valid_wires(table: &[u32], registers: usize, first: usize, count: usize) -> b
 }
 
 // What is found at next references: whether all are valid, and then their touch word.
-#[derive(Drop)]
+#[derive(Clone, Copy)]
 struct NextReferences {
     valid: bool,
     touch: u32,

@@ -14,7 +14,7 @@ use buffers::{byte_index, word_index};
 use word::{Code, Registers};
 
 // What a cycle gives: the registers, the word of the next state, whether a sum goes over, and how many blocks are arrived at.
-#[derive(Drop)]
+#[derive(Clone, Copy)]
 pub struct Next {
     pub registers: Registers,
     pub state: u32,
@@ -23,7 +23,7 @@ pub struct Next {
 }
 
 // What a wire gives: its word, and whether it or one before it goes over where its block is arrived at.
-#[derive(Drop)]
+#[derive(Clone, Copy)]
 struct Output {
     word: u32,
     over: bool,

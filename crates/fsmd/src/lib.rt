@@ -14,7 +14,7 @@ pub mod clock; // clock.rt: one cycle
 pub mod run; // run.rt: a run with a budget
 
 // The head of a machine table: how many states and registers the machine has.
-#[derive(Drop)]
+#[derive(Clone, Copy)]
 pub struct MachineTable {
     pub states: u32,
     pub registers: u32,
@@ -67,7 +67,7 @@ impl MachineTable {
 }
 
 // A wire: what it does, and its operands. A reference below 16 is a register, and 16 + i is wire i of the state.
-#[derive(Drop)]
+#[derive(Clone, Copy)]
 pub struct Wire {
     pub code: u32,
     pub a: u32,

@@ -19,7 +19,7 @@ use runs::RunAnswer;
 use word::Registers;
 
 // What a run gives: the registers that it leaves, its answer, and how many blocks its cycles arrived at.
-#[derive(Drop)]
+#[derive(Clone, Copy)]
 pub struct Ran {
     pub registers: Registers,
     pub answer: RunAnswer,
@@ -27,7 +27,7 @@ pub struct Ran {
 }
 
 // What Run machine answers; blocks are 0 where it is refused.
-#[derive(Drop)]
+#[derive(Clone, Copy)]
 pub struct MachineAnswer {
     pub run: RunAnswer,
     pub blocks: u64,

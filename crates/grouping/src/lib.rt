@@ -13,7 +13,7 @@ mod loops; // loops.rt: starters by loop detection
 mod population; // population.rt: the blocks that each state takes
 
 // How many states there are, their starters in order and the state of each block.
-#[derive(Drop)]
+#[derive(Clone, Copy)]
 pub struct Grouping {
     pub count: usize,
     pub starters: [u8; GraphTable::BLOCKS],
@@ -21,7 +21,7 @@ pub struct Grouping {
 }
 
 // The starters in order, and a mark at each of them.
-#[derive(Drop)]
+#[derive(Clone, Copy)]
 struct Starters {
     pub count: usize,
     pub list: [u8; GraphTable::BLOCKS],
@@ -29,7 +29,7 @@ struct Starters {
 }
 
 // What detection finds: the target of an illegal edge, or none.
-#[derive(Drop)]
+#[derive(Clone, Copy)]
 enum Detected {
     IllegalTo(u8),
     Legal,

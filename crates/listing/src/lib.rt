@@ -15,7 +15,7 @@ use fsmd::MachineTable;
 // The most bytes of a listing.
 pub const LONGEST: usize = 4096;
 
-#[derive(Drop)]
+#[derive(Clone, Copy)]
 pub enum ListAnswer {
     // The bytes of the listing.
     Listed(u32),
@@ -33,7 +33,7 @@ fn hand_over(new: &[u8], out: &mut [u8]) -> ListAnswer
     if out.len() < n {
         return ListAnswer::Short(n as u32);
     }
-    bytes::copy(new, out);
+    out[..n].copy_from_slice(new);
     ListAnswer::Listed(n as u32)
 }
 

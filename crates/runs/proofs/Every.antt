@@ -2,7 +2,7 @@
 use Prim.Native.Nat.{ℕ, ◌+◌, ◌<◌, ◌≤◌}
 use native.Mathlib.Numerals.{add-one}
 use native.Mathlib.Omega.{arith}
-use mathlib.Core.Bool.{Bool, true, false, not, ◌&&◌, and_true, and_false}
+use mathlib.Core.Bool.{Bool, true, false, not, ◌&&◌, and-true, and-false}
 use mathlib.Core.List.{List, [], ◌∷◌}
 use mathlib.Core.Path.{◌≡◌, sym, ap, ◌∙◌}
 use lib.ListN.{length, get_or, take, drop, drop_of_length-le}
@@ -27,10 +27,10 @@ module _ {A : Type 0} (p : A → Bool) where
 
   -- and from the last one down: the element at i decides, or those before it do
   pub every_last_fails : (l : List A) (i : ℕ) (d : A) → i < length l → p (get_or l i d) ≡ false → every p (take (i + 1) l) ≡ false
-  every_last_fails l i d h e = every_split l i d h ∙ ap (λ (b : Bool). every p (take i l) && (b && true)) e ∙ and_false (every p (take i l))
+  every_last_fails l i d h e = every_split l i d h ∙ ap (λ (b : Bool). every p (take i l) && (b && true)) e ∙ and-false (every p (take i l))
 
   pub every_last_passes : (l : List A) (i : ℕ) (d : A) → i < length l → p (get_or l i d) ≡ true → every p (take (i + 1) l) ≡ every p (take i l)
-  every_last_passes l i d h e = every_split l i d h ∙ ap (λ (b : Bool). every p (take i l) && (b && true)) e ∙ and_true (every p (take i l))
+  every_last_passes l i d h e = every_split l i d h ∙ ap (λ (b : Bool). every p (take i l) && (b && true)) e ∙ and-true (every p (take i l))
 
 -- the same of the numbers below n, where r is what the test at k gave
 module _ (p : ℕ → Bool) (n k : ℕ) where

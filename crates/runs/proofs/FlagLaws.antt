@@ -1,7 +1,7 @@
 -- The flag of a run: raised exactly when a block or cycle that the run passes goes over, and kept. Assumes nothing.
 use Prim.Native.Nat.{ℕ, zero, suc, ◌<◌}
 use native.Mathlib.Omega.{arith}
-use mathlib.Core.Bool.{Bool, true, false, ◌||◌, or_false}
+use mathlib.Core.Bool.{Bool, true, false, ◌||◌, or-false}
 use mathlib.Core.Logic.{◌⊎◌, inl, inr, ◌↔◌}
 use mathlib.Core.Path.{◌≡◌, refl, sym, ap, ◌∙◌}
 use lib.Arith.{lt_of_le-ne}
@@ -28,7 +28,7 @@ module _ (r : Runner) (ws : Supply) where
           let n = going_stands ws c e in
           let l = going_lasts ws c e in
           flag_of (step_going r ws c n.0 n.1 l) ∙ ap (λ (b : Bool). c.contents.flag || b) (over_going c n.0 n.1 l)
-      go false e = flag_of (step_ended r ws c e) ∙ sym (ap (λ (b : Bool). c.contents.flag || b) (over_ended c e) ∙ or_false c.contents.flag)
+      go false e = flag_of (step_ended r ws c e) ∙ sym (ap (λ (b : Bool). c.contents.flag || b) (over_ended c e) ∙ or-false c.contents.flag)
 
   flag_last : (k : ℕ) (c : Configuration) → (times r ws (suc k) c).contents.flag ≡ ((times r ws k c).contents.flag || step_over r ws (times r ws k c))
   flag_last k c = flag_of (times_last r ws k c) ∙ flag_step (times r ws k c)

@@ -1,12 +1,14 @@
 // What the runs of graphs and machines share: the answer of a run with a budget, its words, and the register buffer in and out of a
 // register file.
+#![tactic(auto)]
+
 ghost use Rattle.std.specs.Prelude.{◌≡◌, ◌++◌, ◌≤◌, ltb, length, get_or, take, drop};
 ghost use Rattle.word.specs.Word.{choose};
 ghost use Rattle.word.specs.RegisterFile.{file_words};
 
 use word::Registers;
 
-#[derive(Drop)]
+#[derive(Clone, Copy)]
 pub enum RunAnswer {
     // The refusal's number.
     Refused(u32),

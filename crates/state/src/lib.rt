@@ -16,21 +16,21 @@ use cfg::GraphTable;
 use fsmd::MachineTable;
 
 // A block in the making: the reference of its arrival, and how many wires its state has so far.
-#[derive(Drop)]
+#[derive(Clone, Copy)]
 pub struct BlockProgress {
     pub arrival: u32,
     pub wires: usize,
 }
 
 // A state in the making: how many edges lead out of its placed blocks, used up or not, and how many wires it has.
-#[derive(Drop)]
+#[derive(Clone, Copy)]
 pub struct StateProgress {
     pub edges: usize,
     pub wires: usize,
 }
 
 // What a finished state has: the reference of its next state, how many next registers there are, and how many wires.
-#[derive(Drop)]
+#[derive(Clone, Copy)]
 pub struct Exit {
     pub next: u32,
     pub registers: usize,

@@ -2,7 +2,7 @@
 
 pub mod table; // table.rt: the machine table of a graph, and the operation that makes it
 
-#[derive(Drop)]
+#[derive(Clone, Copy)]
 pub enum SynthesisAnswer {
     // The refusal's number.
     Refused(u32),

@@ -11,7 +11,7 @@ use fsmd::MachineTable;
 use fsmd::admission::admitted;
 use fsmd::touch::touch;
 
-#[derive(Drop)]
+#[derive(Clone, Copy)]
 pub enum TouchesAnswer {
     // The refusal's number.
     Refused(u32),
@@ -19,7 +19,7 @@ pub enum TouchesAnswer {
     Answered(bool),
 }
 
-#[derive(Drop)]
+#[derive(Clone, Copy)]
 pub enum FirstTouchingAnswer {
     // The refusal's number.
     Refused(u32),

@@ -46,7 +46,7 @@ word_neg (negsuc n) t = (less_negsuc n, omega arith)
 -- ---- a signed number of 32 bits, kept in 64
 
 pub widened : (z : ℤ) → SFits w32 z → to_z w64 (of_z w64 (to_z w32 (of_z w32 z))) ≡ z
-widened z h = rw (to_z-of_z h) (to_z-of_z (sfits_widen tt h))
+widened z h = rw (to_z-of_z h) (to_z-of_z {w = w64} (sfits_widen (tt {0}) h))
 
 -- ---- shifts of signed readings
 

@@ -3,7 +3,7 @@ use Rattle.std.proofs.Common.{◌≡◌, ℕ, suc, ◌+◌, ◌^◌, ◌<◌, �
 use lib.ListN.{length-map, get_or-append}
 use lib.Seq.{get_or-append_seam}
 use Rattle.runs.specs.Lists.{every}
-use Rattle.runs.proofs.ListLaws.{and_left, and_right, every_at, get_d_map}
+use Rattle.runs.proofs.ListLaws.{and_left, and_right, every_at, get_or-map}
 use Rattle.runs.proofs.Tests.{or_true, or_right, Compared, compared, same, other}
 use Rattle.word.specs.Word.{choose, set_code, arity}
 use Rattle.fsmd.specs.declared.Wire.{Wire}
@@ -130,7 +130,7 @@ cycle_holds m q s rs e hs known l valid i h =
     (all.inside (get_or q.next_registers i 0) v)
   where
     next : (env : List ℕ) → get_or (map (λ x. get_or env x 0) q.next_registers) i 0 ≡ get_or env (get_or q.next_registers i 0) 0
-    next env = get_d_map (λ x. get_or env x 0) q.next_registers i 0 0 h
+    next env = get_or-map (λ x. get_or env x 0) q.next_registers i 0 0 h
 
     next_register : (env rest : List ℕ) → get_or (map (λ x. get_or env x 0) q.next_registers ++ rest) i 0 ≡ get_or env (get_or q.next_registers i 0) 0
     next_register env rest = get_or-append (map (λ x. get_or env x 0) q.next_registers) rest 0 i (rw length-map h) ∙ next env

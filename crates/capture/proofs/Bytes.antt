@@ -1,7 +1,7 @@
 -- Lines compared by their bytes: two lines of one cycle say the same where their bytes are the same. Assumes nothing.
 use mathlib.Core.Path.{◌≡◌, ◌∙◌, refl, sym, ap}
 use mathlib.Core.List.{List, [], ◌∷◌, ◌++◌, append_cancel_right}
-use mathlib.Core.Bool.{Bool, true, false, ◌&&◌, and_true, and_assoc}
+use mathlib.Core.Bool.{Bool, true, false, ◌&&◌, and-true, and_assoc}
 use mathlib.Core.Option.{Option, none, some}
 use Prim.Native.Nat.{ℕ, zero, suc, ◌+◌, ◌≤◌, ◌<◌}
 use lib.Dec.{eqb}
@@ -28,7 +28,7 @@ module _ (one two : List ℕ) where
       (sym (and_assoc all (eqb (get_or one i 0) (get_or two i 0)) (same (drop (i + 1) one) (drop (i + 1) two))))
 
   pub bytes_end : (i : ℕ) (all : Bool) → length one ≤ i → length two ≤ i → SameFrom i all ≡ all
-  bytes_end i all h k = rw (drop_of_length-le one h, drop_of_length-le two k) (and_true all)
+  bytes_end i all h k = rw (drop_of_length-le one h, drop_of_length-le two k) (and-true all)
 
 pub other_length : (one two : List ℕ) → (length one ≡ length two → ⊥) → same one two ≡ false
 other_length one two n = go (same one two) refl

@@ -12,7 +12,7 @@ use borrow.Author.Tests.{leb-true, ltb-true, ltb-false, eqb-true, ne_eqb, eq-eqb
 use Rattle.cfg.proofs.Lengths.{table_length}
 use Rattle.word.specs.Word.{choose, arity}
 use Rattle.runs.specs.Lists.{up_from, mem, same, every}
-use Rattle.runs.proofs.ListLaws.{and_left, and_right, and_both, every_at, same_eq, length-up_from, get_d_map-up_from}
+use Rattle.runs.proofs.ListLaws.{and_left, and_right, and_both, every_at, same_eq, length-up_from, get_or-map-up_from}
 use Rattle.cfg.specs.declared.Instruction.{Instruction}
 use Rattle.cfg.specs.declared.Condition.{Condition}
 use Rattle.cfg.specs.declared.Ending.{Ending}
@@ -35,7 +35,7 @@ registers_are t = refl
 -- below B the decoded block, from B up the empty one
 pub block_below : (t : List ℕ) (n : ℕ) → n < get_or t 0 0 → block_of (graph_of t) n ≡ block_at t n
 unfolding graph_of
-block_below t n h = get_d_map-up_from (block_at t) (get_or t 0 0) n empty_block h
+block_below t n h = get_or-map-up_from (block_at t) (get_or t 0 0) n empty_block h
 
 pub block_past : (t : List ℕ) (n : ℕ) → get_or t 0 0 ≤ n → block_of (graph_of t) n ≡ empty_block
 block_past t n h = get_or-eq_default (graph_of t).blocks empty_block {n = n} (rw blocks_length h)

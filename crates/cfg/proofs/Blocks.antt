@@ -1,5 +1,5 @@
 -- What a table's words stand for: endings, blocks. Assumes nothing.
-use Prim.Native.Nat.{ℕ, zero, suc, ◌+◌, ◌-◌, ◌<◌}
+use Prim.Native.Nat.{ℕ, ◌+◌, ◌<◌}
 use native.Mathlib.Omega.{arith}
 use mathlib.Core.Path.{◌≡◌, refl, sym, ◌∙◌}
 use mathlib.Core.Bool.{Bool, true, false}
@@ -10,7 +10,7 @@ use lib.Seq.{get_or-set_same, get_or-set_other, ext_get_or}
 use borrow.Author.Tests.{eqb-true, eqb-false, eq-eqb, ne_eqb}
 use Rattle.word.specs.Word.{comparison_at}
 use Rattle.runs.specs.Lists.{up_from}
-use Rattle.runs.proofs.ListLaws.{get_d_map-up_from}
+use Rattle.runs.proofs.ListLaws.{get_or-map-up_from}
 use Rattle.cfg.specs.declared.Instruction.{Instruction}
 use Rattle.cfg.specs.declared.Ending.TheVariants.{Goto, Ite, Halt}
 use Rattle.cfg.specs.Layout.{max_instructions, ending_offset, block_offset}
@@ -52,7 +52,7 @@ module _ (t : List ℕ) (n : ℕ) where
 
   pub instruction_of : (i : ℕ) → i < max_instructions → get_or (block_at t n).instructions i no_instruction ≡ instruction_at t (block_offset n) i
   unfolding block_at
-  instruction_of i h = get_d_map-up_from (instruction_at t (block_offset n)) max_instructions i no_instruction h
+  instruction_of i h = get_or-map-up_from (instruction_at t (block_offset n)) max_instructions i no_instruction h
 
 -- ---- eight instructions, decoded one after another
 
@@ -70,4 +70,4 @@ module _ (f : ℕ → Instruction) (l : List Instruction) where
   pub all_decoded : length l ≡ max_instructions → ((j : ℕ) → j < max_instructions → get_or l j no_instruction ≡ f j) → l ≡ map f (up_from 0 max_instructions)
   all_decoded h k =
       ext_get_or no_instruction l (map f (up_from 0 max_instructions)) h
-      (λ i b. k i (omega arith) ∙ sym (get_d_map-up_from f max_instructions i no_instruction (omega arith)))
+      (λ i b. k i (omega arith) ∙ sym (get_or-map-up_from f max_instructions i no_instruction (omega arith)))

@@ -1,7 +1,7 @@
 -- Which instructions are valid and pass, by their code. Assumes nothing.
 use Prim.Native.Nat.{ℕ, zero, suc, ◌≤◌, ◌<◌}
 use native.Mathlib.Omega.{arith}
-use mathlib.Core.Bool.{Bool, true, false, ◌&&◌, ◌||◌, and_true}
+use mathlib.Core.Bool.{Bool, true, false, ◌&&◌, ◌||◌, and-true}
 use mathlib.Core.Path.{◌≡◌, refl, sym, ap, ◌∙◌}
 use lib.Dec.{eqb, ltb}
 use lib.ListN.{get_or, take, drop}
@@ -52,4 +52,4 @@ module _ (r : ℕ) (i : Instruction) (words : Bool) where
   low_good l h =
       let n : arity i.code ≡ 0 → ⊥ = λ e. absurd (omega (arith, reads i.code l h)) in
       rw (le-leb 1 i.code l, le-leb i.code 11 h, ne_eqb i.code 20 (λ e. absurd (omega arith)), ne_eqb (arity i.code) 0 n, or_true words)
-      (and_true (ltb i.d r && (eqb i.code 1 || ltb i.a r) && choose (eqb (arity i.code) 2) (ltb i.b r) (eqb i.b 0)))
+      (and-true (ltb i.d r && (eqb i.code 1 || ltb i.a r) && choose (eqb (arity i.code) 2) (ltb i.b r) (eqb i.b 0)))

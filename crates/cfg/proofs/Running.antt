@@ -3,7 +3,7 @@ use Prim.Native.Nat.{ℕ, suc, ◌+◌, ◌%◌, ◌≤◌, ◌<◌}
 use native.Mathlib.Numerals.{add-one}
 use native.Mathlib.Omega.{arith}
 use mathlib.Core.Path.{◌≡◌, refl, sym, ap, subst, ◌∙◌}
-use mathlib.Core.Bool.{Bool, true, false, ◌||◌, or_assoc, or_false}
+use mathlib.Core.Bool.{Bool, true, false, ◌||◌, or_assoc, or-false}
 use mathlib.Core.List.{List, [], ◌∷◌}
 use lib.Dec.{eqb}
 use lib.ListN.{length, get_or, drop, set, drop_of_length-le}
@@ -133,7 +133,7 @@ module _ (s : ℕ) (k : Block) (fits : k.count ≤ length k.instructions) where
   flag_done i rs f h =
       ap (λ (l : List Instruction). f || instructions_over s l rs) (none_left k fits i h)
       ∙ ap (λ (b : Bool). f || b) (over_nil s rs)
-      ∙ or_false f
+      ∙ or-false f
 
 -- ---- what admission gives of a block that is run
 

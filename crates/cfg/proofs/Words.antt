@@ -3,7 +3,7 @@ use Prim.Native.Nat.{ℕ, zero, suc, ◌+◌, ◌-◌, ◌*◌, ◌≤◌, ◌<�
 use native.Mathlib.Numerals.{add-one}
 use native.Mathlib.Omega.{arith}
 use mathlib.Core.Path.{◌≡◌, refl, sym, ap, ◌∙◌}
-use mathlib.Core.Bool.{Bool, true, false, ◌&&◌, and_assoc, and_comm, and_true}
+use mathlib.Core.Bool.{Bool, true, false, ◌&&◌, and_assoc, and_comm, and-true}
 use mathlib.Core.List.{List, [], ◌∷◌, ◌++◌, map, append_assoc}
 use lib.Dec.{eqb, leb, ltb}
 use lib.ListN.{length, get_or, take, drop, replicate, length-drop, length-append, get_or-eq_default}
@@ -98,7 +98,7 @@ pub block_words_lem : (t : List ℕ) (n : ℕ) → block_offset n + block_words 
 block_words_lem t n h =
     let o = block_offset n in
     let z : o + code_offset + instruction_words * 0 ≡ o + code_offset = omega arith in
-    rw (words_of_lem (block_at t n), count_at t n, ending_of t n, instructions_are t n, code_words_lem t o 0 max_instructions (omega arith), z, block_list t o h, eq-eqb (get_or t o 0) (get_or t o 0) refl, same_front (take code_words (drop (o + code_offset) t)) (ending_words_of (ending_at t (o + ending_offset)) ++ (0 ∷ [])) (take ending_words (drop (o + ending_offset) t) ++ (get_or t (o + last_offset) 0 ∷ [])), same_append (ending_words_of (ending_at t (o + ending_offset))) (0 ∷ []) (take ending_words (drop (o + ending_offset) t)) (get_or t (o + last_offset) 0 ∷ []) (ending_length (ending_at t (o + ending_offset)) ∙ sym (length-take-le ending_words (drop (o + ending_offset) t) (rw length-drop (omega arith)))), eqb_sym 0 (get_or t (o + last_offset) 0), and_true (eqb (get_or t (o + last_offset) 0) 0))
+    rw (words_of_lem (block_at t n), count_at t n, ending_of t n, instructions_are t n, code_words_lem t o 0 max_instructions (omega arith), z, block_list t o h, eq-eqb (get_or t o 0) (get_or t o 0) refl, same_front (take code_words (drop (o + code_offset) t)) (ending_words_of (ending_at t (o + ending_offset)) ++ (0 ∷ [])) (take ending_words (drop (o + ending_offset) t) ++ (get_or t (o + last_offset) 0 ∷ [])), same_append (ending_words_of (ending_at t (o + ending_offset))) (0 ∷ []) (take ending_words (drop (o + ending_offset) t)) (get_or t (o + last_offset) 0 ∷ []) (ending_length (ending_at t (o + ending_offset)) ∙ sym (length-take-le ending_words (drop (o + ending_offset) t) (rw length-drop (omega arith)))), eqb_sym 0 (get_or t (o + last_offset) 0), and-true (eqb (get_or t (o + last_offset) 0) 0))
 
 -- ---- an ending fits
 
@@ -120,10 +120,10 @@ same_goto : (k c a b x y : ℕ) → k ≡ 1 → same (1 ∷ 0 ∷ 0 ∷ 0 ∷ x 
 same_goto k c a b x y h = rw (h, eqb_sym 0 c, eqb_sym 0 a, eqb_sym 0 b, eqb_sym 0 y, eq-eqb x x refl)
 
 same_ite : (k c a b x y z : ℕ) → k ≡ 2 → same (2 ∷ z ∷ a ∷ b ∷ x ∷ y ∷ []) (k ∷ c ∷ a ∷ b ∷ x ∷ y ∷ []) ≡ eqb z c
-same_ite k c a b x y z h = rw (h, eq-eqb a a refl, eq-eqb b b refl, eq-eqb x x refl, eq-eqb y y refl, and_true (eqb z c))
+same_ite k c a b x y z h = rw (h, eq-eqb a a refl, eq-eqb b b refl, eq-eqb x x refl, eq-eqb y y refl, and-true (eqb z c))
 
 same_halt : (k c a b x y : ℕ) → k ≡ 3 → same (3 ∷ 0 ∷ 0 ∷ 0 ∷ 0 ∷ 0 ∷ []) (k ∷ c ∷ a ∷ b ∷ x ∷ y ∷ []) ≡ eqb c 0 && (eqb a 0 && (eqb b 0 && (eqb x 0 && eqb y 0)))
-same_halt k c a b x y h = rw (h, eqb_sym 0 c, eqb_sym 0 a, eqb_sym 0 b, eqb_sym 0 x, eqb_sym 0 y, and_true (eqb y 0))
+same_halt k c a b x y h = rw (h, eqb_sym 0 c, eqb_sym 0 a, eqb_sym 0 b, eqb_sym 0 x, eqb_sym 0 y, and-true (eqb y 0))
 
 same_none : (k : ℕ) (l : List ℕ) → (k ≡ 3 → ⊥) → same (3 ∷ 0 ∷ 0 ∷ 0 ∷ 0 ∷ 0 ∷ []) (k ∷ l) ≡ false
 same_none k l h = rw (ne_eqb 3 k (λ e. h (sym e)))

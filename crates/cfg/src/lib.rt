@@ -1,4 +1,6 @@
 // The control-flow graph: limits, blocks, and the layout of its table.
+#![tactic(auto)]
+
 ghost use Rattle.std.specs.Prelude.{◌≡◌};
 ghost use Rattle.cfg.specs.Graph.{no_instruction, empty_block};
 

@@ -1,7 +1,7 @@
 -- A name is known by its packed bytes. Assumes nothing.
 use mathlib.Core.Path.{◌≡◌, ◌∙◌, refl, sym, ap}
 use mathlib.Core.List.{List, [], ◌∷◌}
-use mathlib.Core.Bool.{Bool, true, false, ◌&&◌, and_false}
+use mathlib.Core.Bool.{Bool, true, false, ◌&&◌, and-false}
 use Prim.Native.Nat.{ℕ, suc, ◌+◌, ◌*◌, ◌≤◌, ◌<◌, ◌^◌}
 use native.Mathlib.Omega.{arith}
 use lib.ListN.{length}
@@ -99,7 +99,7 @@ module _ (k at : ℕ) (s : List ℕ) where
   unfolding front_field stop_of packed
   name_long b h l =
       let g = packed_grows (k * 256 + b) (front_field s) in
-      rw (h, le-ltb (packed (k * 256 + b) (front_field s)) (2 ^ 48) (omega arith), and_false)
+      rw (h, le-ltb (packed (k * 256 + b) (front_field s)) (2 ^ 48) (omega arith), and-false)
 
   pub name_none : name_from k at [] ≡ Bad
   unfolding front_field stop_of packed

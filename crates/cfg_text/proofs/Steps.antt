@@ -1,7 +1,7 @@
 -- What each step of reading does is what the definition does. Assumes nothing.
 use mathlib.Core.Path.{◌≡◌, ◌∙◌, refl, sym, ap}
 use mathlib.Core.List.{List, [], ◌∷◌, ◌++◌}
-use mathlib.Core.Bool.{true, false, and_true}
+use mathlib.Core.Bool.{true, false, and-true}
 use Prim.Native.Nat.{ℕ, zero, suc, ◌+◌, ◌*◌, ◌≤◌, ◌<◌}
 use native.Mathlib.Omega.{arith}
 use lib.ListN.{length, take, length-append}
@@ -56,7 +56,7 @@ module _ (r : ℕ) (i : Instruction) where
       by : (n : ℕ) → (n ≡ 0 → ⊥) → (n ≡ 1 → ⊥) → all_below r (take n (i.a ∷ i.b ∷ [])) ≡ ltb i.b r
       by zero z u = absurd (z refl)
       by (suc zero) z u = absurd (u refl)
-      by (suc (suc n)) z u = rw (lt-ltb i.a r l, take-nil n) (and_true (ltb i.b r))
+      by (suc (suc n)) z u = rw (lt-ltb i.a r l, take-nil n) (and-true (ltb i.b r))
 
 -- ---- the code's place is of one kind only
 

@@ -11,7 +11,7 @@ use native.Mathlib.Decide.{dec_lt}
 use borrow.Author.Tests.{ltb-true, eqb-true, eqb-false, eq-eqb, lt-ltb}
 use Rattle.word.specs.Word.{arity}
 use Rattle.runs.specs.Lists.{every, padded}
-use Rattle.runs.proofs.ListLaws.{and_left, and_right, and_both, length_padded, get_d_padded}
+use Rattle.runs.proofs.ListLaws.{and_left, and_right, and_both, length_padded, get_or-padded}
 use Rattle.cfg.specs.Layout.{max_blocks, max_registers, max_instructions}
 use Rattle.cfg.specs.Graph.{CFG, no_instruction, instructions_of, valid_instruction, valid_ending, unused, valid_block}
 use Rattle.cfg.proofs.Admitted.{ValidInstruction, ValidEnding, ValidBlock, valid_instruction_lem, valid_block_lem, targets_below}
@@ -149,7 +149,7 @@ module _ (b r : ℕ) (k : Block) (v : ValidBlock b r k) (eight : length k.instru
       instructions =
           ext_get_or no_instruction (padded max_instructions no_instruction (instructions_of k)) k.instructions
           (length_padded max_instructions no_instruction (instructions_of k) ∙ sym eight)
-          (λ i h. let n : i < max_instructions = rw length_padded at h in get_d_padded max_instructions no_instruction (instructions_of k) i n ∙ at i n (dec_lt i k.count))
+          (λ i h. let n : i < max_instructions = rw length_padded at h in get_or-padded max_instructions no_instruction (instructions_of k) i n ∙ at i n (dec_lt i k.count))
 
 valid_code : (b r : ℕ) (k : Block) → valid_block b r k ≡ true → every (valid_instruction r) (instructions_of k) ≡ true
 unfolding valid_block

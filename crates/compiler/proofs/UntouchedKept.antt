@@ -8,7 +8,7 @@ use lib.Dec.{eqb, ltb}
 use lib.ListN.{length, get_or, drop, length-map, get_or-append}
 use lib.Seq.{get_or-drop, get_or-append-add}
 use borrow.Author.Tests.{ltb-true, ltb-false, eqb-true, not-false}
-use Rattle.runs.proofs.ListLaws.{get_d_map}
+use Rattle.runs.proofs.ListLaws.{get_or-map}
 use Rattle.fsmd.specs.Layout.{max_registers, machine_words, record_offset, next_registers_offset}
 use Rattle.fsmd.specs.Machine.{State, FSMD, worked, clock, machine_runner}
 use Rattle.fsmd.specs.Touch.{touches}
@@ -42,7 +42,7 @@ module _ (m : FSMD) (sampled : ℕ) (q : State) (rs : List ℕ) (i : ℕ) (l : l
   by_reference h e =
       let n : length (map read next) ≡ length next = length-map next read in
       get_or-append (map read next) (drop m.registers rs) 0 i (omega arith)
-      ∙ get_d_map read next i 0 0 h ∙ ap read e ∙ registers_first sampled q rs i (omega arith)
+      ∙ get_or-map read next i 0 0 h ∙ ap read e ∙ registers_first sampled q rs i (omega arith)
 
   from_r_up : length next ≤ i → get_or (map read next ++ drop m.registers rs) i 0 ≡ get_or rs i 0
   from_r_up h =

@@ -1,6 +1,6 @@
 -- One more byte of a number. Assumes nothing.
 use Rattle.std.proofs.Common.{◌≡◌, ℕ, suc, ◌+◌, ◌-◌, ◌*◌, ◌<◌, ◌≤◌, Bool, true, false, eqb, leb, List, [], ◌∷◌, length, get_or, drop, sym, refl, ap, ◌∙◌, add-one, arith, drop-cons, eq-eqb, ne_eqb, le-leb, leb-true}
-use mathlib.Core.Bool.{false≢true, and_false, and_true}
+use mathlib.Core.Bool.{false≢true, and-false, and-true}
 use mathlib.Core.Option.{Option, none}
 use borrow.Author.Tests.{lt-leb}
 use Rattle.word.specs.Word.{choose}
@@ -99,7 +99,7 @@ module _ (most v end at : ℕ) (s : List ℕ) (e : stops end ≡ true) where
       none_read : (f : List ℕ) → digits_at_most most v (b ∷ f) ≡ none
       none_read f =
           let g = value_grows (v * 10 + (b - 48)) f in
-          rw (lt-leb (value_from (v * 10 + (b - 48)) f) most (omega arith), and_false)
+          rw (lt-leb (value_from (v * 10 + (b - 48)) f) most (omega arith), and-false)
 
   pub digits_more : (b : ℕ) → 48 ≤ b → b ≤ 57
       → field_at (digits_at_most most v) end at (b ∷ s) ≡ field_at (digits_at_most most (v * 10 + (b - 48))) end (at + 1) s
@@ -110,7 +110,7 @@ module _ (most v end at : ℕ) (s : List ℕ) (e : stops end ≡ true) where
 
 all_digits : (b : ℕ) (f : List ℕ) → (b ≡ 48 → ⊥) → decimal (b ∷ f) ≡ every digit (b ∷ f)
 unfolding decimal
-all_digits b [] n = sym (and_true (digit b))
+all_digits b [] n = sym (and-true (digit b))
 all_digits b (c ∷ f) n = rw (ne_eqb b 48 n)
 
 module _ (most end at : ℕ) (s : List ℕ) (e : stops end ≡ true) where

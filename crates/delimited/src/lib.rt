@@ -1,5 +1,7 @@
 // Fields of delimited text, ended by a comma or a line feed. A text is read from front to back: a function takes the text and where
 // it stands, and hands back where the next field or line begins.
+#![tactic(auto)]
+
 ghost use Rattle.std.specs.Prelude.{◌≡◌, true, drop};
 ghost use Rattle.delimited.specs.Number.{at_most};
 ghost use Rattle.delimited.specs.Cursor.{stops, digits_at_most, field_at};

@@ -8,7 +8,7 @@ use lib.Dec.{eqb, leb}
 use lib.ListN.{length, get_or, take, drop, length-map}
 use borrow.Author.Tests.{leb-true, le-leb, eqb-true, eq-eqb}
 use Rattle.runs.proofs.Every.{below_at, below_of}
-use Rattle.runs.proofs.ListLaws.{and_left, and_right, and_both, every_map, length-up_from, get_d_map-up_from}
+use Rattle.runs.proofs.ListLaws.{and_left, and_right, and_both, every_map, length-up_from, get_or-map-up_from}
 use Rattle.runs.specs.Lists.{up_from, every}
 use Rattle.fsmd.specs.Clock.{Roomy, fits_small}
 use Rattle.fsmd.specs.Layout.{max_states, max_blocks, max_registers, max_wires, record_offset, next_state_offset, next_registers_offset, room_words, small_room_words}
@@ -30,7 +30,7 @@ registers_is t = refl
 
 pub state_is : (t : List ℕ) (k : ℕ) → k < get_or t 0 0 → state_of (machine_of t) k ≡ state_at t k
 unfolding machine_of
-state_is t k h = get_d_map-up_from (state_at t) (get_or t 0 0) k empty_state h
+state_is t k h = get_or-map-up_from (state_at t) (get_or t 0 0) k empty_state h
 
 -- ---- states that read no sampled word
 

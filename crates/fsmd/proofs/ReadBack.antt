@@ -9,9 +9,9 @@ use lib.ListN.{length, get_or, length-map}
 use lib.Seq.{ext_get_or}
 use borrow.Author.Tests.{ltb-true}
 use Rattle.word.specs.Word.{choose}
-use Rattle.runs.proofs.ListLaws.{length-up_from, get_d_map-up_from, length_padded, get_d_padded}
+use Rattle.runs.proofs.ListLaws.{length-up_from, get_or-map-up_from, length_padded, get_or-padded}
 use Rattle.runs.proofs.MembershipLaws.{only_in, only_same, map_in, in_up_from}
-use Rattle.runs.proofs.Sets.{In, get_d_any}
+use Rattle.runs.proofs.Sets.{In, get_or-any}
 use Rattle.runs.specs.Lists.{up_from, padded}
 use Rattle.runs.specs.Runs.{Runner}
 use Rattle.fsmd.specs.Layout.{max_states, max_blocks, max_registers, max_wires, block_states_offset, arrivals_offset, absent}
@@ -94,7 +94,7 @@ module _ (m : FSMD) (rest : List ℕ) (f : Fits m) where
       let n : length (map (state_at t) (up_from 0 (get_or t 0 0))) ≡ length m.states = length-map (up_from 0 (get_or t 0 0)) (state_at t) ∙ length-up_from 0 (get_or t 0 0) ∙ count_is m rest in
       ext_get_or empty_state (map (state_at t) (up_from 0 (get_or t 0 0))) m.states n (λ k h.
       let b : k < length m.states = omega arith in
-      get_d_map-up_from (state_at t) (get_or t 0 0) k empty_state (omega (arith, count_is m rest)) ∙ read_state k b)
+      get_or-map-up_from (state_at t) (get_or t 0 0) k empty_state (omega (arith, count_is m rest)) ∙ read_state k b)
 
   -- so the two have the same cycles
   pub read_runner : machine_runner (machine_of (machine_table_of m ++ rest)) ≡ machine_runner m
@@ -106,14 +106,14 @@ module _ (m : FSMD) (rest : List ℕ) (f : Fits m) where
   read_block_state b h =
       let t = machine_table_of m ++ rest in
       sym (window_at t block_states_offset max_blocks b h) ∙ ap (λ (l : List ℕ). get_or l b 0) (back_blocks m rest)
-      ∙ get_d_any (padded max_blocks absent m.block_states) b 0 absent (rw (length_padded max_blocks absent m.block_states) h)
-      ∙ get_d_padded max_blocks absent m.block_states b h
+      ∙ get_or-any (padded max_blocks absent m.block_states) b 0 absent (rw (length_padded max_blocks absent m.block_states) h)
+      ∙ get_or-padded max_blocks absent m.block_states b h
 
   read_arrival : (b : ℕ) → b < max_blocks → arrival_at (machine_table_of m ++ rest) b ≡ get_or m.arrivals b 0
   read_arrival b h =
       let t = machine_table_of m ++ rest in
       sym (window_at t arrivals_offset max_blocks b h) ∙ ap (λ (l : List ℕ). get_or l b 0) (back_arrivals m rest)
-      ∙ get_d_padded max_blocks 0 m.arrivals b h
+      ∙ get_or-padded max_blocks 0 m.arrivals b h
 
   -- a block's words are right in the table where they are in the machine
   read_right : (b : ℕ) → b < max_blocks → right_at (machine_table_of m ++ rest) b ≡ right_block_of m b
@@ -132,11 +132,11 @@ module _ (m : FSMD) (rest : List ℕ) (f : Fits m) where
 
   read_block_states : (b : ℕ) → b < max_blocks → get_or (machine_of (machine_table_of m ++ rest)).block_states b absent ≡ get_or m.block_states b absent
   unfolding machine_of
-  read_block_states b h = ap (λ (l : List ℕ). get_or l b absent) (back_blocks m rest) ∙ get_d_padded max_blocks absent m.block_states b h
+  read_block_states b h = ap (λ (l : List ℕ). get_or l b absent) (back_blocks m rest) ∙ get_or-padded max_blocks absent m.block_states b h
 
   read_arrivals : (b : ℕ) → b < max_blocks → get_or (machine_of (machine_table_of m ++ rest)).arrivals b 0 ≡ get_or m.arrivals b 0
   unfolding machine_of
-  read_arrivals b h = ap (λ (l : List ℕ). get_or l b 0) (back_arrivals m rest) ∙ get_d_padded max_blocks 0 m.arrivals b h
+  read_arrivals b h = ap (λ (l : List ℕ). get_or l b 0) (back_arrivals m rest) ∙ get_or-padded max_blocks 0 m.arrivals b h
 
   -- so the two run the same blocks in a cycle
   pub read_blocks : blocks_run (machine_of (machine_table_of m ++ rest)) ≡ blocks_run m

@@ -4,13 +4,13 @@ use native.Mathlib.Nat.{two-pow-succ, pow-succ', pow-le-pow_right, zero-div, div
 use native.Mathlib.Omega.{arith}
 use mathlib.Core.Bool.{Bool, true, false, not, ◌&&◌}
 use mathlib.Core.List.{List, [], ◌∷◌, map}
-use mathlib.Core.Path.{◌≡◌, refl, sym, ap, ap₂, ◌∙◌}
+use mathlib.Core.Path.{◌≡◌, refl, sym, ap, ◌∙◌}
 use lib.Dec.{eqb, ltb}
 use lib.ListN.{length, get_or, length-map, get_or-eq_default}
 use borrow.Author.Tests.{ltb-true, ltb-false, lt-ltb, eq-eqb, ne_eqb}
 use Rattle.word.specs.Word.{truth}
 use Rattle.runs.specs.Lists.{up_from}
-use Rattle.runs.proofs.ListLaws.{length-up_from, up_from_cons, up_from_done, get_d_map-up_from}
+use Rattle.runs.proofs.ListLaws.{length-up_from, up_from_cons, up_from_done, get_or-map-up_from}
 use Rattle.fsmd.specs.Layout.{max_registers}
 use Rattle.fsmd.specs.Touch.{touches, bits_of, bit, touch_word}
 
@@ -89,6 +89,6 @@ module _ (next : List ℕ) where
       all = map (touches next) (up_from 0 (length next))
 
       go : (b : Bool) → ltb i (length next) ≡ b → get_or all i false ≡ (b && not (eqb (get_or next i 0) i))
-      go true e = get_d_map-up_from (touches next) (length next) i false (ltb-true i (length next) e) ∙ ap (λ (b : Bool). b && not (eqb (get_or next i 0) i)) e
+      go true e = get_or-map-up_from (touches next) (length next) i false (ltb-true i (length next) e) ∙ ap (λ (b : Bool). b && not (eqb (get_or next i 0) i)) e
       go false e =
           get_or-eq_default all false (rw (length-map (up_from 0 (length next)) (touches next), length-up_from 0 (length next)) (ltb-false i (length next) e))

@@ -8,8 +8,8 @@ use mathlib.Core.Path.{◌≡◌, refl, sym, ap, ◌∙◌}
 use lib.ListN
 use lib.ListN.{length, get_or, take, drop, set, length-drop, length-map, drop_of_length-le}
 use lib.Seq.{drop-cons, length-take-le, take_all, get_or-take, get_or-drop}
-use Rattle.runs.proofs.ListLaws.{length-up_from, get_d_up_from, get_d_map, copied_more}
-use Rattle.runs.proofs.Sets.{get_d_any}
+use Rattle.runs.proofs.ListLaws.{length-up_from, get_or-up_from, get_or-map, copied_more}
+use Rattle.runs.proofs.Sets.{get_or-any}
 use Rattle.runs.specs.Lists.{up_from}
 use Rattle.fsmd.specs.Table.{wire_at, valid_wire, valid_wires}
 use Rattle.fsmd.specs.declared.Wire.{Wire}
@@ -25,7 +25,7 @@ module _ (t : List ℕ) (at n : ℕ) where
 
   -- with any other word for what is past the end
   pub window_any : (i d : ℕ) → i < n → at + n ≤ length t → get_or (take n (drop at t)) i d ≡ get_or t (at + i) 0
-  window_any i d h room = get_d_any (take n (drop at t)) i d 0 (rw (window_length room) h) ∙ window_at i h
+  window_any i d h room = get_or-any (take n (drop at t)) i d 0 (rw (window_length room) h) ∙ window_at i h
 
 -- f of each of these words, put over the front of a list one after another
 module _ (t : List ℕ) (at n : ℕ) (room : at + n ≤ length t) (f : ℕ → ℕ) where
@@ -40,7 +40,7 @@ module _ (t : List ℕ) (at n : ℕ) (room : at + n ≤ length t) (f : ℕ → �
   put_more d i v h k e =
       let l = window_length t at n room in
       let m = put_length in
-      ap (set (take i (map f (take n (drop at t))) ++ drop i d) i) (e ∙ ap f (sym (window_at t at n i h)) ∙ sym (get_d_map f (take n (drop at t)) i 0 0 (omega arith)))
+      ap (set (take i (map f (take n (drop at t))) ++ drop i d) i) (e ∙ ap f (sym (window_at t at n i h)) ∙ sym (get_or-map f (take n (drop at t)) i 0 0 (omega arith)))
       ∙ copied_more d (map f (take n (drop at t))) i (omega arith) (omega arith)
 
 -- ---- the wires from a first one on
@@ -56,7 +56,7 @@ module _ (t : List ℕ) (first count : ℕ) where
   wires_next n h =
       rw (add-one n)
       (drop-cons wires_from n (wire_at t 0) (rw wires_length h)
-      ∙ ap (λ (w : Wire). w ∷ drop (suc n) wires_from) (ListN.get_d_map (wire_at t) (up_from first count) n 0 ∙ ap (wire_at t) (get_d_up_from first count n 0 h)))
+      ∙ ap (λ (w : Wire). w ∷ drop (suc n) wires_from) (ListN.get_or-map (wire_at t) (up_from first count) n 0 ∙ ap (wire_at t) (get_or-up_from first count n 0 h)))
 
   pub wires_end : (n : ℕ) → count ≤ n → drop n wires_from ≡ []
   wires_end n h = drop_of_length-le wires_from {i = n} (rw wires_length h)

@@ -1,7 +1,7 @@
 -- What a wire reads: how many words, and that a wire is valid exactly where its code is known and each reference it reads is valid. Assumes nothing.
 use Prim.Native.Nat.{ℕ, zero, suc, ◌≤◌}
 use native.Mathlib.Omega.{arith}
-use mathlib.Core.Bool.{Bool, true, false, ◌&&◌, ◌||◌, and_true, and_assoc}
+use mathlib.Core.Bool.{Bool, true, false, ◌&&◌, ◌||◌, and-true, and_assoc}
 use mathlib.Core.List.{[], ◌∷◌}
 use mathlib.Core.Path.{◌≡◌, refl, sym, ap, ◌∙◌}
 use lib.Dec.{eqb, leb, ltb}
@@ -45,10 +45,10 @@ module _ (p : ℕ → Bool) where
   -- the first k of three, by k
   three_tests : (k a b c : ℕ) → every p (take k (a ∷ b ∷ c ∷ [])) ≡ ((ltb k 1 || p a) && (ltb k 2 || p b) && (ltb k 3 || p c))
   three_tests zero a b c = refl
-  three_tests (suc zero) a b c = sym (and_true (p a && true))
+  three_tests (suc zero) a b c = sym (and-true (p a && true))
   three_tests (suc (suc zero)) a b c = sym (and_assoc (p a) (p b) true)
   three_tests (suc (suc (suc k))) a b c =
-      rw (le-ltb (suc (suc (suc k))) 1 (omega arith), le-ltb (suc (suc (suc k))) 2 (omega arith), le-ltb (suc (suc (suc k))) 3 (omega arith), end k, and_true (p c))
+      rw (le-ltb (suc (suc (suc k))) 1 (omega arith), le-ltb (suc (suc (suc k))) 2 (omega arith), le-ltb (suc (suc (suc k))) 3 (omega arith), end k, and-true (p c))
       (sym (and_assoc (p a) (p b) (p c)))
     where
       end : (k : ℕ) → take {A = ℕ} k [] ≡ []

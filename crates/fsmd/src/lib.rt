@@ -1,4 +1,6 @@
 // The synthesised machine, a finite state machine with its datapath: limits, wires, and the layout of its table.
+#![tactic(auto)]
+
 ghost use Rattle.std.specs.Prelude.{◌≡◌};
 ghost use Rattle.fsmd.specs.Machine.{wire_arity};
 

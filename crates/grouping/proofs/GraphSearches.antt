@@ -23,13 +23,13 @@ use Rattle.grouping.proofs.VisitMaps.{Maps, visit_maps}
 
 -- ---- padding
 
-get_d_past : (n d x : ℕ) → get_or (padded n d []) x d ≡ d
-get_d_past zero d x = refl
-get_d_past (suc n) d zero = refl
-get_d_past (suc n) d (suc x) = get_d_past n d x
+get_or-past : (n d x : ℕ) → get_or (padded n d []) x d ≡ d
+get_or-past zero d x = refl
+get_or-past (suc n) d zero = refl
+get_or-past (suc n) d (suc x) = get_or-past n d x
 
 padded_at : (n d : ℕ) (l : List ℕ) → length l ≤ n → (x : ℕ) → get_or (padded n d l) x d ≡ get_or l x d
-padded_at n d [] h x = get_d_past n d x
+padded_at n d [] h x = get_or-past n d x
 padded_at zero d (y ∷ l) h x = absurd (omega arith)
 padded_at (suc n) d (y ∷ l) h zero = refl
 padded_at (suc n) d (y ∷ l) h (suc x) = padded_at n d l (omega arith) x

@@ -6,7 +6,7 @@ use mathlib.Core.List.{List, [], ◌∷◌, ◌++◌, append-nil, append_assoc}
 use native.Mathlib.Omega.{arith}
 use lib.ListN.{length, get_or, replicate, length-append}
 use Rattle.runs.proofs.Tests.{Compared, same, other, compared}
-use Rattle.runs.proofs.Sets.{In, Distinct, in_left, in_append, distinct_snoc, distinct_below, get_d_in, get_d_any}
+use Rattle.runs.proofs.Sets.{In, Distinct, in_left, in_append, distinct_snoc, distinct_below, get_or-in, get_or-any}
 use Rattle.cfg.specs.Graph.{CFG, successors}
 use Rattle.fsmd.specs.Layout.{absent}
 use Rattle.grouping.specs.Visit.{visit}
@@ -136,7 +136,7 @@ module _ (g : CFG) (a : Closed g) (finished : List ℕ) where
       bound = distinct_below (length g.blocks) finished (ranked_distinct g starters finished l.ranked) (λ x i. reached_below a (l.only x i))
 
       home : (k d : ℕ) → k < length starters → state_in (populate g starters) (get_or starters k d) ≡ k
-      home k d h = ap (state_in (populate g starters)) (get_d_any starters k d absent h) ∙ p.starter k h
+      home k d h = ap (state_in (populate g starters)) (get_or-any starters k d absent h) ∙ p.starter k h
 
       unstated : (x : ℕ) → (Reached g x → ⊥) → Compared (state_in (populate g starters) x) absent → state_in (populate g starters) x ≡ absent
       unstated x f (same h q) = q
@@ -145,7 +145,7 @@ module _ (g : CFG) (a : Closed g) (finished : List ℕ) where
       before : (x : ℕ) → Reached g x → (In x starters → ⊥)
           → (get_or starters (state_in (populate g starters) x) absent ≡ x) ⊎ ((q : ℕ) × (state_in (populate g starters) q ≡ state_in (populate g starters) x) × In x (successors g q))
           → (q : ℕ) × (state_in (populate g starters) q ≡ state_in (populate g starters) x) × In x (successors g q)
-      before x r f (inl q) = absurd (f (subst (λ z. In z starters) q (get_d_in starters (state_in (populate g starters) x) absent (p.taken.low x (p.all x r)))))
+      before x r f (inl q) = absurd (f (subst (λ z. In z starters) q (get_or-in starters (state_in (populate g starters) x) absent (p.taken.low x (p.all x r)))))
       before x r f (inr q) = q
 
       swapped : (u v : ℕ) → Legal starters (populate g starters) u v → In v starters ⊎ (state_in (populate g starters) v ≡ state_in (populate g starters) u)

@@ -11,7 +11,7 @@ use lib.Dec.{eqb}
 use borrow.Author.Tests.{not-true, not-false, eqb-true, eqb-false}
 use Rattle.runs.specs.Lists.{mem}
 use Rattle.runs.proofs.Tests.{or_false, or_true, and_true, and_false, Compared, same, other, compared}
-use Rattle.runs.proofs.Sets.{In, Distinct, mem→In, mem→Out, in_append, in_right, distinct_below, get_d_in, distinct_at}
+use Rattle.runs.proofs.Sets.{In, Distinct, mem→In, mem→Out, in_append, in_right, distinct_below, get_or-in, distinct_at}
 use Rattle.cfg.specs.Layout.{max_blocks}
 use Rattle.cfg.specs.Graph.{CFG, successors}
 use Rattle.fsmd.specs.Layout.{absent}
@@ -293,7 +293,7 @@ populated g a starters distinct known zero_in = record { taken = f.taken; starte
 
     starter : (k : ℕ) → k < length starters → state_in (populate g starters) (get_or starters k absent) ≡ k
     starter k h =
-        let i = get_d_in starters k absent h in
+        let i = get_or-in starters k absent h in
         let e = f.front_taken (get_or starters k absent) i in
         distinct_at starters (state_in (populate g starters) (get_or starters k absent)) k absent distinct (f.taken.low (get_or starters k absent) e) h (f.taken.home (get_or starters k absent) i e)
 

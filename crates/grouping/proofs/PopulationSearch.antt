@@ -1,7 +1,7 @@
 -- Population by a stack of bytes: a block is seen where a state has taken it. Assumes nothing.
 use Prim.Native.Nat.{ℕ, suc, ◌+◌, ◌-◌, ◌*◌, ◌≤◌, ◌<◌}
 use mathlib.Core.Path.{◌≡◌, refl, sym, ap, ◌∙◌}
-use mathlib.Core.Bool.{true, false, not, ◌&&◌, and_false}
+use mathlib.Core.Bool.{true, false, not, ◌&&◌, and-false}
 use mathlib.Core.List.{List, [], ◌∷◌}
 use native.Mathlib.Omega.{arith}
 use native.Mathlib.Numerals.{add-one}
@@ -11,7 +11,7 @@ use lib.Seq.{get_or-set_same, get_or-set_other, drop-cons}
 use borrow.Author.Tests.{eq-eqb, ne_eqb}
 use Rattle.cfg.specs.Layout.{max_blocks}
 use Rattle.runs.specs.Lists.{mem}
-use Rattle.runs.proofs.Sets.{get_d_any}
+use Rattle.runs.proofs.Sets.{get_or-any}
 use Rattle.fsmd.specs.Layout.{absent}
 use Rattle.grouping.specs.declared.Starters.{Starters}
 use Rattle.grouping.specs.Grouping.{populating}
@@ -42,10 +42,10 @@ pub record TakeEdges (bytes starters marks : List ℕ) (r k : ℕ) (whole states
 -- a block that a state has, and one that none has
 module _ (starters : List ℕ) (r k : ℕ) (path : List ℕ) (x : ℕ) (states : List ℕ) (n : length states ≡ max_blocks) (l : x < max_blocks) where
   stops_taken : (get_or states x 0 ≡ absent → ⊥) → (populating starters r k).stop path x states ≡ true
-  stops_taken f = rw (get_d_any states x absent 0 (omega arith), ne_eqb (get_or states x 0) absent f)
+  stops_taken f = rw (get_or-any states x absent 0 (omega arith), ne_eqb (get_or states x 0) absent f)
 
   free : get_or states x 0 ≡ absent → (populating starters r k).stop path x states ≡ mem x starters && not (eqb x r)
-  free e = rw (get_d_any states x absent 0 (omega arith), eq-eqb (get_or states x 0) absent e)
+  free e = rw (get_or-any states x absent 0 (omega arith), eq-eqb (get_or states x 0) absent e)
 
 module _ (bytes starters marks : List ℕ) (first r k : ℕ) (index : r ≡ first) (states : List ℕ) (n : length states ≡ max_blocks) (l : r < max_blocks) where
   -- the starter's block is another state's already
@@ -58,7 +58,7 @@ module _ (bytes starters marks : List ℕ) (first r k : ℕ) (index : r ≡ firs
     begun : AtVisit bytes (populating starters r k) (visit_bytes (populating starters r k) bytes r states) absent (set states r k) (set states r k) (set (replicate max_blocks 0) 0 r) (replicate max_blocks 0) 1
     begun =
         begins bytes (populating starters r k) absent states r (set states r k)
-        (free starters r k [] r states n l e ∙ rw (eq-eqb r r refl) (and_false (mem r starters)))
+        (free starters r k [] r states n l e ∙ rw (eq-eqb r r refl) (and-false (mem r starters)))
         l
         (length-set states r k ∙ n)
         (omega (arith, used_set absent states r k (omega arith) e (λ f. omega arith)))

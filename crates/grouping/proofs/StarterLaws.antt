@@ -1,7 +1,7 @@
 -- The starters in bytes: block 0 alone, and one more. Assumes nothing.
 use Prim.Native.Nat.{ℕ, zero, suc, ◌+◌, ◌-◌, ◌≤◌, ◌<◌}
 use mathlib.Core.Path.{◌≡◌, refl, sym, ap, ◌∙◌}
-use mathlib.Core.Bool.{Bool, true, false, not, ◌||◌, or_true, or_false}
+use mathlib.Core.Bool.{Bool, true, false, not, ◌||◌, or-true, or-false}
 use mathlib.Core.List.{List, [], ◌∷◌, ◌++◌}
 use native.Mathlib.Omega.{arith}
 use native.Mathlib.Numerals.{add-one}
@@ -55,7 +55,7 @@ marking s i = record {
 }
 
 mem_snoc : (x y : ℕ) (l : List ℕ) → mem x (l ++ (y ∷ [])) ≡ mem x l || eqb x y
-mem_snoc x y [] = or_false (eqb x y)
+mem_snoc x y [] = or-false (eqb x y)
 mem_snoc x y (z ∷ l) = ap (λ (b : Bool). eqb x z || b) (mem_snoc x y l) ∙ assoc (eqb x z) (mem x l) (eqb x y)
   where
     assoc : (a b c : Bool) → a || (b || c) ≡ (a || b) || c
@@ -94,8 +94,8 @@ module _ (s : Starters) (i : Listed s) (t : ℕ) (l : t < max_blocks) where
         }
       where
         marked : (x : ℕ) → x < max_blocks → Compared x t → mem x (starters_of s) || eqb x t ≡ not (eqb (get_or (set s.marks t 1) x 0) 0)
-        marked x h (same e p) = rw (e, p, get_or-set_same s.marks t 1 0 marks_in) (or_true (mem t (starters_of s)))
-        marked x h (other e p) = rw (e, get_or-set_other s.marks t x 1 0 p) (or_false (mem x (starters_of s)) ∙ i.marked x h)
+        marked x h (same e p) = rw (e, p, get_or-set_same s.marks t 1 0 marks_in) (or-true (mem t (starters_of s)))
+        marked x h (other e p) = rw (e, get_or-set_other s.marks t x 1 0 p) (or-false (mem x (starters_of s)) ∙ i.marked x h)
 
         blocks : (k : ℕ) → k < s.count + 1 → Compared k s.count → get_or (set s.list s.count t) k 0 < max_blocks
         blocks k h (same e p) = rw (p, get_or-set_same s.list s.count t 0 list_in) l

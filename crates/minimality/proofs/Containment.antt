@@ -5,7 +5,7 @@ use mathlib.Core.Path.{◌≡◌, refl, sym, ◌∙◌, ap, subst}
 use mathlib.Core.List.{List, [], ◌∷◌, ◌++◌}
 use native.Mathlib.Omega.{arith}
 use lib.ListN.{length, get_or}
-use Rattle.runs.proofs.Sets.{In, Subset, Found, there, missing, mem→In, In→mem, found, in_append, get_d_in}
+use Rattle.runs.proofs.Sets.{In, Subset, Found, there, missing, mem→In, In→mem, found, in_append, get_or-in}
 use Rattle.cfg.specs.Graph.{CFG, successors}
 use Rattle.fsmd.specs.Layout.{absent}
 use Rattle.grouping.specs.Grouping.{loops, populate, groups}
@@ -38,7 +38,7 @@ module _ (g : CFG) (a : Closed g) (set : List ℕ) (fit : Fit g set) where
             → ((u : ℕ) → length finished < n + rank finished u → Reached g u → Source u) → Source x
         go (there e i) q ih = (x, itself g (Reachable g) (λ s p. p) set r e, refl)
         go (missing e f) (inl q) ih =
-            absurd (f (inside x (subst (λ z. In z starters) q (get_d_in starters (state_in states x) absent (given.taken.low x (given.all x r))))))
+            absurd (f (inside x (subst (λ z. In z starters) q (get_or-in starters (state_in states x) absent (given.taken.low x (given.all x r))))))
         go (missing e f) (inr q) ih =
             let before = given.taken.reach q.0 (λ w. given.all x r (sym q.1 ∙ w)) in
             let falls = rank_falls g starters finished l.ranked q.0 x (l.all q.0 before) q.2 (λ i. f (inside x i)) in

@@ -6,7 +6,7 @@ use mathlib.Core.Path.{◌≡◌, refl, sym, ◌∙◌}
 use mathlib.Core.List.{List}
 use lib.ListN.{length, get_or}
 use Rattle.runs.specs.Lists.{mem}
-use Rattle.runs.proofs.Sets.{In, Distinct, Found, there, missing, mem→In, found, get_d_in, get_d_any, in_get_d, distinct_at}
+use Rattle.runs.proofs.Sets.{In, Distinct, Found, there, missing, mem→In, found, get_or-in, get_or-any, in-get_or, distinct_at}
 use Rattle.cfg.specs.Graph.{CFG, successors}
 use Rattle.fsmd.specs.Layout.{absent}
 use Rattle.grouping.specs.Grouping.{loops}
@@ -29,7 +29,7 @@ module _ (g : CFG) (a : Closed g) where
         go v o (inr q) = q
 
     home : (s : ℕ) → mem s starters ≡ true → s ≡ get_or starters (state s) absent
-    home s e = let k = in_get_d s starters absent (mem→In s starters e) in sym (rw (← k.2, d.own k.0 absent k.1) refl)
+    home s e = let k = in-get_or s starters absent (mem→In s starters e) in sym (rw (← k.2, d.own k.0 absent k.1) refl)
 
     -- so a block comes from the starter of its state
     starter_of : {s x : ℕ} → From g (Reachable g) starters s x → s ≡ get_or starters (state x) absent
@@ -62,11 +62,11 @@ module _ (g : CFG) (a : Closed g) where
       where
         go : Found x set → Found x (loops g).finished → Owner x
         go (there e i) q =
-            let k = in_get_d x set absent i in
+            let k = in-get_or x set absent i in
             record { place = k.0; low = λ r. k.1; own = λ j. (k.1, k.2); from = λ s f. k.2 ∙ sym (only_itself e f.path) }
         go (missing e f) (there b j) =
             let one = fit.one x (reachable ((looped g a).only x j)) e in
-            let k = in_get_d one.0 set absent (mem→In one.0 set one.1.starter) in
+            let k = in-get_or one.0 set absent (mem→In one.0 set one.1.starter) in
             record { place = k.0; low = λ r. k.1; own = λ i. absurd (f i); from = λ s h. k.2 ∙ sym (one.2 s h) }
         go (missing e f) (missing b h) =
             let out : Reached g x → ⊥ = λ r. h ((looped g a).all x r) in
@@ -83,8 +83,8 @@ module _ (g : CFG) (a : Closed g) where
         own : (k d : ℕ) → k < length set → (owner (get_or set k d)).place ≡ k
         own k d h =
             let o = owner (get_or set k d) in
-            let i = o.own (get_d_in set k d h) in
-            distinct_at set o.place k absent distinct i.0 h (i.1 ∙ get_d_any set k d absent h)
+            let i = o.own (get_or-in set k d h) in
+            distinct_at set o.place k absent distinct i.0 h (i.1 ∙ get_or-any set k d absent h)
 
         legal : (u v : ℕ) → Reachable g u → mem v (successors g u) ≡ true → (mem v set ≡ true) ⊎ ((owner v).place ≡ (owner u).place)
         legal u v r e = go (found v set)

@@ -7,7 +7,7 @@ use mathlib.Core.Path.{◌≡◌, sym, ◌∙◌, ap, subst, fun_ext}
 use mathlib.Core.List.{List, ◌++◌}
 use lib.ListN.{length, get_or, drop, get_or-eq_default}
 use Rattle.runs.specs.Lists.{padded}
-use Rattle.runs.proofs.ListLaws.{length_padded, get_d_padded}
+use Rattle.runs.proofs.ListLaws.{length_padded, get_or-padded}
 use Rattle.cfg.specs.Graph.{CFG}
 use Rattle.cfg.specs.Table.{graph_of, admitted_graph}
 use Rattle.cfg.proofs.Admitted.{valid_graph_lem, admitted_halves}
@@ -40,7 +40,7 @@ module _ (m : FSMD) (rest : List ℕ) where
   read_block_state few b = rw (back_blocks m rest) (go (dec_lt b max_blocks))
     where
       go : Dec (b < max_blocks) → get_or (padded max_blocks absent m.block_states) b absent ≡ get_or m.block_states b absent
-      go (yes h) = get_d_padded max_blocks absent m.block_states b h
+      go (yes h) = get_or-padded max_blocks absent m.block_states b h
       go (no h) =
           get_or-eq_default (padded max_blocks absent m.block_states) absent {n = b} (omega (arith, length_padded max_blocks absent m.block_states))
           ∙ sym (get_or-eq_default m.block_states absent {n = b} (omega arith))

@@ -12,7 +12,7 @@ use borrow.Author.Tests.{eq-eqb, ne_eqb}
 use Rattle.runs.specs.Lists.{mem, only, keep, or_else, every, first, concat_map}
 use Rattle.runs.proofs.Tests.{Compared, same, other, compared}
 use Rattle.runs.proofs.ListLaws.{only_append}
-use Rattle.runs.proofs.Sets.{In, Distinct, Subset, get_d_in}
+use Rattle.runs.proofs.Sets.{In, Distinct, Subset, get_or-in}
 use Rattle.runs.proofs.MembershipLaws.{only_in, in_only, distinct_only, first_some}
 use Rattle.word.specs.Word.{choose}
 use Rattle.placement.specs.Placement.{place_next}
@@ -34,7 +34,7 @@ pub without_at : (l : List ℕ) (i : ℕ) → Distinct l → i < length l → wi
 without_at [] i d h = absurd (omega arith)
 without_at (y ∷ l) zero d h = rw (eq-eqb y y refl) (without_other y l d.0)
 without_at (y ∷ l) (suc i) d h =
-    rw (ne_eqb y (get_or l i 0) (λ (e : y ≡ get_or l i 0). d.0 (subst (λ z. In z l) (sym e) (get_d_in l i 0 (omega arith))))) (ap (λ m. y ∷ m) (without_at l i d.1 (omega arith)))
+    rw (ne_eqb y (get_or l i 0) (λ (e : y ≡ get_or l i 0). d.0 (subst (λ z. In z l) (sym e) (get_or-in l i 0 (omega arith))))) (ap (λ m. y ∷ m) (without_at l i d.1 (omega arith)))
 
 -- how many pass a test, of all that the blocks of a list have
 module _ {A : Type 0} (p : A → Bool) (f : ℕ → List A) where

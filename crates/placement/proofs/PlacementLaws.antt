@@ -11,7 +11,7 @@ use lib.Dec.{eqb}
 use borrow.Author.Tests.{eqb-true, eq-eqb, not-true}
 use Rattle.runs.specs.Lists.{up_from, mem, every, first}
 use Rattle.runs.proofs.Tests.{or_true, or_right, and_true}
-use Rattle.runs.proofs.Sets.{In, Distinct, Subset, found, Found, there, missing, mem→In, mem→Out, Out→mem, In→mem, pigeonhole, in_get_d, get_d_any, in_right}
+use Rattle.runs.proofs.Sets.{In, Distinct, Subset, found, Found, there, missing, mem→In, mem→Out, Out→mem, In→mem, pigeonhole, in-get_or, get_or-any, in_right}
 use Rattle.runs.proofs.MembershipLaws.{only_in, in_only, up_from_in, every_in, in_every, first_some, first_none}
 use Rattle.cfg.specs.Graph.{CFG, successors}
 use Rattle.fsmd.specs.Layout.{absent}
@@ -325,7 +325,7 @@ module _ (g : CFG) (a : Closed g) (s : Groups) (G : Grouped g s) (k : ℕ) (k_in
   -- a starter of the state is its starter
   own_starter : (x : ℕ) → In x s.starters → state_in s.states x ≡ k → x ≡ get_or s.starters k absent
   own_starter x i e =
-      let r = in_get_d x s.starters absent i in
+      let r = in-get_or x s.starters absent i in
       let h : r.0 ≡ k = sym (G.starter_home r.0 absent r.1) ∙ ap (state_in s.states) r.2 ∙ e in
       sym r.2 ∙ ap (λ (n : ℕ). get_or s.starters n absent) h
 
@@ -354,7 +354,7 @@ module _ (g : CFG) (a : Closed g) (s : Groups) (G : Grouped g s) (k : ℕ) (k_in
     all = λ x e. there_is x (o.complete x (state_member x e));
     distinct = o.distinct;
     others = h.0;
-    starter_first = λ d. h.1 ∙ ap (λ (z : ℕ). z ∷ h.0) (get_d_any s.starters k absent d k_in);
+    starter_first = λ d. h.1 ∙ ap (λ (z : ℕ). z ∷ h.0) (get_or-any s.starters k absent d k_in);
     no_starter = lone;
     forward = sorted_forward g s (members g s k) inside [] (order g s k) o (λ v i. absurd i);
     later = later;

@@ -14,7 +14,7 @@ use borrow.Rule.Slice.PartMut.{put_mid, same_len_mid}
 use Rattle.runs.specs.Lists.{up_from, only, keep, first}
 use Rattle.runs.proofs.Tests.{Compared, same, other, compared}
 use Rattle.runs.proofs.ListLaws.{up_from_cons, copied_more}
-use Rattle.runs.proofs.Sets.{Distinct, get_d_any, get_d_in}
+use Rattle.runs.proofs.Sets.{Distinct, get_or-any, get_or-in}
 use Rattle.runs.proofs.MembershipLaws.{distinct_only, distinct_up_from}
 use Rattle.fsmd.specs.Layout.{max_blocks, absent}
 use Rattle.grouping.specs.Bytes.{edges_in}
@@ -58,7 +58,7 @@ module _ {states blocks : List ℕ} {k count x : ℕ} (m : Members states blocks
       size = length-set blocks count x ∙ m.size;
       within = omega arith;
       few = let f = m.few in omega arith;
-      rest = members_next l ∙ rw (get_d_any states x absent 0 h, eq-eqb (get_or states x 0) k e, taken) (sym (append_snoc (take count blocks) x (members_from states k (x + 1) (max_blocks - (x + 1)))));
+      rest = members_next l ∙ rw (get_or-any states x absent 0 h, eq-eqb (get_or states x 0) k e, taken) (sym (append_snoc (take count blocks) x (members_from states k (x + 1) (max_blocks - (x + 1)))));
     }
       where
         taken : take (count + 1) (set blocks count x) ≡ take count blocks ++ (x ∷ [])
@@ -69,7 +69,7 @@ module _ {states blocks : List ℕ} {k count x : ℕ} (m : Members states blocks
       size = m.size;
       within = omega arith;
       few = let f = m.few in omega arith;
-      rest = members_next l ∙ rw (get_d_any states x absent 0 h, ne_eqb (get_or states x 0) k f) refl;
+      rest = members_next l ∙ rw (get_or-any states x absent 0 h, ne_eqb (get_or states x 0) k f) refl;
     }
 
   pub members_all : length states ≤ x → k < max_blocks → take count blocks ≡ members_in states k
@@ -149,13 +149,13 @@ module _ {targets : ℕ → List ℕ} {whole front left counts : List ℕ} {roun
   module _ (i : ℕ) (h : i < length left) where
     -- the counts are high enough for the block's edges to lower them
     pub placing_enough : (x : ℕ) → waiting (targets (get_or left i 0)) x ≤ counts_in counts x
-    placing_enough x = omega (arith, ap (λ f. f x) p.exact, enough targets (get_or left i 0) left p.distinct (get_d_in left i 0 h) x)
+    placing_enough x = omega (arith, ap (λ f. f x) p.exact, enough targets (get_or left i 0) left p.distinct (get_or-in left i 0 h) x)
 
     pub placing_on : first (λ x. eqb (counts_in counts x) 0) left ≡ Option.some (get_or left i 0) → (lower : List ℕ) → counts_in lower ≡ lowered (targets (get_or left i 0)) (counts_in counts)
         → (m : ℕ) → rounds ≡ suc m → Placing targets whole (front ++ (get_or left i 0 ∷ [])) (take i left ++ drop (i + 1) left) lower m
     placing_on e lower w m t = rw (← others) (record {
       distinct = distinct_only (λ y. not (eqb y (get_or left i 0))) left p.distinct;
-      exact = w ∙ ap (lowered (targets (get_or left i 0))) p.exact ∙ waits_on targets (get_or left i 0) left p.distinct (get_d_in left i 0 h);
+      exact = w ∙ ap (lowered (targets (get_or left i 0))) p.exact ∙ waits_on targets (get_or left i 0) left p.distinct (get_or-in left i 0 h);
       rest = p.rest ∙ rw (t, run_on targets m left (get_or left i 0) p.distinct (sym choice_is ∙ e)) (sym (append_snoc front (get_or left i 0) (blocks_of (run targets m (without (get_or left i 0) left)))));
     })
       where

@@ -7,7 +7,7 @@ use mathlib.Core.List.{List, [], ◌∷◌}
 use native.Mathlib.Omega.{arith}
 use lib.ListN.{length, get_or}
 use Rattle.runs.specs.Lists.{mem}
-use Rattle.runs.proofs.Sets.{In, Distinct, mem→In, In→mem, Out→mem, in_get_d, get_d_in}
+use Rattle.runs.proofs.Sets.{In, Distinct, mem→In, In→mem, Out→mem, in-get_or, get_or-in}
 use Rattle.cfg.specs.Graph.{CFG, successors}
 use Rattle.fsmd.specs.Layout.{max_blocks, absent}
 use Rattle.grouping.specs.Grouping.{Groups}
@@ -66,7 +66,7 @@ module _ (g : CFG) (a : Closed g) (s : Groups) (G : Grouped g s) where
     distinct = p.distinct;
     others = p.others;
     order_is = p.starter_first absent;
-    starter = In→mem (get_or s.starters k absent) s.starters (get_d_in s.starters k absent h);
+    starter = In→mem (get_or s.starters k absent) s.starters (get_or-in s.starters k absent h);
     ahead = ahead_made s.starters p.others (successors g (get_or s.starters k absent)) f.0;
     ordered = ordered_made g s.starters p.others f.1 p.no_starter;
   }
@@ -90,14 +90,14 @@ module _ (g : CFG) (a : Closed g) (s : Groups) (G : Grouped g s) where
   }
     where
       zero_in : In 0 s.starters
-      zero_in = rw (G.entry_IsFirst absent) at (get_d_in s.starters 0 absent G.some_state_lem)
+      zero_in = rw (G.entry_IsFirst absent) at (get_or-in s.starters 0 absent G.some_state_lem)
 
       of_starter : (y : ℕ) → mem y s.starters ≡ true
           → (get_or s.states y absent < length s.starters)
           × (get_or s.starters (get_or s.states y absent) absent ≡ y)
           × StateOrder g s (get_or s.states y absent) y
       of_starter y m =
-          let r = in_get_d y s.starters absent (mem→In y s.starters m) in
+          let r = in-get_or y s.starters absent (mem→In y s.starters m) in
           let e : get_or s.states y absent ≡ r.0 = rw r.2 at (G.starter_home r.0 absent r.1) in
           let o : StateOrder g s r.0 y = rw r.2 at (state_order r.0 r.1) in
           (rw e r.1, rw e r.2, rw e o)

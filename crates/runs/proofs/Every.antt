@@ -8,7 +8,7 @@ use mathlib.Core.Path.{◌≡◌, sym, ap, ◌∙◌}
 use lib.ListN.{length, get_or, take, drop, drop_of_length-le}
 use lib.Seq.{drop-cons, take-suc}
 use borrow.Author.Tests.{not-true, not-false}
-use Rattle.runs.proofs.ListLaws.{length-up_from, get_d_up_from, every_append, every_at, every_all}
+use Rattle.runs.proofs.ListLaws.{length-up_from, get_or-up_from, every_append, every_at, every_all}
 use Rattle.runs.specs.Lists.{up_from, every}
 
 module _ {A : Type 0} (p : A → Bool) where
@@ -36,20 +36,20 @@ module _ {A : Type 0} (p : A → Bool) where
 module _ (p : ℕ → Bool) (n k : ℕ) where
   pub below_fails : k < n → (r : Bool) → r ≡ p k → not r ≡ true → every p (drop k (up_from 0 n)) ≡ false
   below_fails h r e f =
-      every_fails p (up_from 0 n) k 0 (rw length-up_from h) (ap p (get_d_up_from 0 n k 0 h ∙ omega arith) ∙ sym e ∙ not-true r f)
+      every_fails p (up_from 0 n) k 0 (rw length-up_from h) (ap p (get_or-up_from 0 n k 0 h ∙ omega arith) ∙ sym e ∙ not-true r f)
 
   pub below_passes : k < n → (r : Bool) → r ≡ p k → not r ≡ false → every p (drop k (up_from 0 n)) ≡ every p (drop (k + 1) (up_from 0 n))
   below_passes h r e f =
-      every_passes p (up_from 0 n) k 0 (rw length-up_from h) (ap p (get_d_up_from 0 n k 0 h ∙ omega arith) ∙ sym e ∙ not-false r f)
+      every_passes p (up_from 0 n) k 0 (rw length-up_from h) (ap p (get_or-up_from 0 n k 0 h ∙ omega arith) ∙ sym e ∙ not-false r f)
 
   pub below_done : n ≤ k → every p (drop k (up_from 0 n)) ≡ true
   below_done h = every_done p (up_from 0 n) k (rw length-up_from h)
 
   pub below_at : every p (up_from 0 n) ≡ true → k < n → p k ≡ true
-  below_at e h = ap p (sym (get_d_up_from 0 n k 0 h ∙ omega arith)) ∙ every_at p (up_from 0 n) e k 0 (rw length-up_from h)
+  below_at e h = ap p (sym (get_or-up_from 0 n k 0 h ∙ omega arith)) ∙ every_at p (up_from 0 n) e k 0 (rw length-up_from h)
 
 pub below_of : (p : ℕ → Bool) (n : ℕ) → ((k : ℕ) → k < n → p k ≡ true) → every p (up_from 0 n) ≡ true
 below_of p n f =
     every_all p (up_from 0 n) 0 (λ i h.
     let b : i < n = rw length-up_from at h in
-    ap p (get_d_up_from 0 n i 0 b ∙ omega arith) ∙ f i b)
+    ap p (get_or-up_from 0 n i 0 b ∙ omega arith) ∙ f i b)

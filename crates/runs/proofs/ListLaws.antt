@@ -79,11 +79,11 @@ pub length-up_from : (k n : ℕ) → length (up_from k n) ≡ n
 length-up_from k zero = refl
 length-up_from k (suc n) = ap suc (length-up_from (suc k) n)
 
-pub get_d_up_from : (k n i d : ℕ) → i < n → get_or (up_from k n) i d ≡ k + i
-get_d_up_from k zero i d h = absurd (omega arith)
-get_d_up_from k (suc n) zero d h = sym (add-zero k)
-get_d_up_from k (suc n) (suc i) d h =
-    let e = get_d_up_from (suc k) n i d (omega arith) in
+pub get_or-up_from : (k n i d : ℕ) → i < n → get_or (up_from k n) i d ≡ k + i
+get_or-up_from k zero i d h = absurd (omega arith)
+get_or-up_from k (suc n) zero d h = sym (add-zero k)
+get_or-up_from k (suc n) (suc i) d h =
+    let e = get_or-up_from (suc k) n i d (omega arith) in
     e ∙ omega arith
 
 -- one more number, from the front
@@ -196,12 +196,12 @@ module _ {A : Type 0} where
   length_padded (suc n) d (x ∷ l) = ap suc (length_padded n d l)
 
   -- the list's elements, and d from its end
-  pub get_d_padded : (n : ℕ) (d : A) (l : List A) (i : ℕ) → i < n → get_or (padded n d l) i d ≡ get_or l i d
-  get_d_padded zero d l i h = absurd (omega arith)
-  get_d_padded (suc n) d [] zero h = refl
-  get_d_padded (suc n) d [] (suc i) h = get_d_padded n d [] i (omega arith)
-  get_d_padded (suc n) d (x ∷ l) zero h = refl
-  get_d_padded (suc n) d (x ∷ l) (suc i) h = get_d_padded n d l i (omega arith)
+  pub get_or-padded : (n : ℕ) (d : A) (l : List A) (i : ℕ) → i < n → get_or (padded n d l) i d ≡ get_or l i d
+  get_or-padded zero d l i h = absurd (omega arith)
+  get_or-padded (suc n) d [] zero h = refl
+  get_or-padded (suc n) d [] (suc i) h = get_or-padded n d [] i (omega arith)
+  get_or-padded (suc n) d (x ∷ l) zero h = refl
+  get_or-padded (suc n) d (x ∷ l) (suc i) h = get_or-padded n d l i (omega arith)
 
   -- what is padded from an index on, one element after another
   pub padded_drop : (n : ℕ) (d : A) (i : ℕ) (l : List A) → padded (suc n) d (drop i l) ≡ get_or l i d ∷ padded n d (drop (suc i) l)
@@ -211,15 +211,15 @@ module _ {A : Type 0} where
   padded_drop n d (suc i) (x ∷ l) = padded_drop n d i l
 
 -- f of the elements
-pub get_d_map {ℓ ℓ'} : {A : Type ℓ} {B : Type ℓ'} (f : A → B) (l : List A) (i : ℕ) (d : A) (e : B) → i < length l → get_or (map f l) i e ≡ f (get_or l i d)
-get_d_map f [] i d e h = absurd (omega arith)
-get_d_map f (x ∷ l) zero d e h = refl
-get_d_map f (x ∷ l) (suc i) d e h = get_d_map f l i d e (omega arith)
+pub get_or-map {ℓ ℓ'} : {A : Type ℓ} {B : Type ℓ'} (f : A → B) (l : List A) (i : ℕ) (d : A) (e : B) → i < length l → get_or (map f l) i e ≡ f (get_or l i d)
+get_or-map f [] i d e h = absurd (omega arith)
+get_or-map f (x ∷ l) zero d e h = refl
+get_or-map f (x ∷ l) (suc i) d e h = get_or-map f l i d e (omega arith)
 
 -- f of a number, at its place of those counted up
-pub get_d_map-up_from {ℓ} : {B : Type ℓ} (f : ℕ → B) (n i : ℕ) (e : B) → i < n → get_or (map f (up_from 0 n)) i e ≡ f i
-get_d_map-up_from f n i e h =
-    get_d_map f (up_from 0 n) i 0 e (rw length-up_from h) ∙ ap f (get_d_up_from 0 n i 0 h ∙ omega arith)
+pub get_or-map-up_from {ℓ} : {B : Type ℓ} (f : ℕ → B) (n i : ℕ) (e : B) → i < n → get_or (map f (up_from 0 n)) i e ≡ f i
+get_or-map-up_from f n i e h =
+    get_or-map f (up_from 0 n) i 0 e (rw length-up_from h) ∙ ap f (get_or-up_from 0 n i 0 h ∙ omega arith)
 
 pub take-map-up_from {ℓ} : {B : Type ℓ} (f : ℕ → B) (k m c : ℕ) → c ≤ m → take c (map f (up_from k m)) ≡ map f (up_from k c)
 take-map-up_from f k m zero h = refl

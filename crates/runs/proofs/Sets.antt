@@ -140,24 +140,24 @@ pub distinct_below : (n : ℕ) (l : List ℕ) → Distinct l → ((x : ℕ) → 
 distinct_below n l o b = subst (λ k. length l ≤ k) (below_length n) (pigeonhole l (below n) o (λ x i. in_below n x (b x i)))
 
 -- an element by its place
-pub get_d_in : (l : List ℕ) (k d : ℕ) → k < length l → In (get_or l k d) l
-get_d_in [] k d h = absurd (omega arith)
-get_d_in (x ∷ l) zero d h = inl refl
-get_d_in (x ∷ l) (suc k) d h = inr (get_d_in l k d (omega arith))
+pub get_or-in : (l : List ℕ) (k d : ℕ) → k < length l → In (get_or l k d) l
+get_or-in [] k d h = absurd (omega arith)
+get_or-in (x ∷ l) zero d h = inl refl
+get_or-in (x ∷ l) (suc k) d h = inr (get_or-in l k d (omega arith))
 
-pub get_d_any : (l : List ℕ) (k d e : ℕ) → k < length l → get_or l k d ≡ get_or l k e
-get_d_any [] k d e h = absurd (omega arith)
-get_d_any (x ∷ l) zero d e h = refl
-get_d_any (x ∷ l) (suc k) d e h = get_d_any l k d e (omega arith)
+pub get_or-any : (l : List ℕ) (k d e : ℕ) → k < length l → get_or l k d ≡ get_or l k e
+get_or-any [] k d e h = absurd (omega arith)
+get_or-any (x ∷ l) zero d e h = refl
+get_or-any (x ∷ l) (suc k) d e h = get_or-any l k d e (omega arith)
 
-pub in_get_d : (x : ℕ) (l : List ℕ) (d : ℕ) → In x l → (k : ℕ) × (k < length l) × (get_or l k d ≡ x)
-in_get_d x [] d i = absurd i
-in_get_d x (y ∷ l) d (inl p) = (0, omega arith, sym p)
-in_get_d x (y ∷ l) d (inr i) = let r = in_get_d x l d i in (suc r.0, let h = r.1 in omega arith, r.2)
+pub in-get_or : (x : ℕ) (l : List ℕ) (d : ℕ) → In x l → (k : ℕ) × (k < length l) × (get_or l k d ≡ x)
+in-get_or x [] d i = absurd i
+in-get_or x (y ∷ l) d (inl p) = (0, omega arith, sym p)
+in-get_or x (y ∷ l) d (inr i) = let r = in-get_or x l d i in (suc r.0, let h = r.1 in omega arith, r.2)
 
 pub distinct_at : (l : List ℕ) (i j d : ℕ) → Distinct l → i < length l → j < length l → get_or l i d ≡ get_or l j d → i ≡ j
 distinct_at [] i j d o p q e = absurd (omega arith)
 distinct_at (x ∷ l) zero zero d o p q e = refl
-distinct_at (x ∷ l) zero (suc j) d o p q e = absurd (o.0 (subst (λ z. In z l) (sym e) (get_d_in l j d (omega arith))))
-distinct_at (x ∷ l) (suc i) zero d o p q e = absurd (o.0 (subst (λ z. In z l) e (get_d_in l i d (omega arith))))
+distinct_at (x ∷ l) zero (suc j) d o p q e = absurd (o.0 (subst (λ z. In z l) (sym e) (get_or-in l j d (omega arith))))
+distinct_at (x ∷ l) (suc i) zero d o p q e = absurd (o.0 (subst (λ z. In z l) e (get_or-in l i d (omega arith))))
 distinct_at (x ∷ l) (suc i) (suc j) d o p q e = ap suc (distinct_at l i j d o.1 (omega arith) (omega arith) e)

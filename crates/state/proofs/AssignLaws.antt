@@ -7,7 +7,7 @@ use mathlib.Core.List.{List, [], ◌∷◌, ◌++◌, map}
 use lib.ListN.{length, get_or, set, take, drop, length-append, length-map, drop_of_length-le}
 use lib.Seq.{drop-cons, length-take-le, get_or-take}
 use Rattle.runs.specs.Lists.{up_from}
-use Rattle.runs.proofs.ListLaws.{length-up_from, get_d_map-up_from}
+use Rattle.runs.proofs.ListLaws.{length-up_from, get_or-map-up_from}
 use Rattle.cfg.specs.declared.Instruction.{Instruction}
 use Rattle.cfg.specs.Layout.{max_instructions, block_offset}
 use Rattle.cfg.specs.Graph.{instructions_of, no_instruction}
@@ -62,7 +62,7 @@ module _ (t : List ℕ) (x : ℕ) (few : get_or t (block_offset x) 0 ≤ max_ins
   unfolding block_at
   code_at i lt =
       get_or-take (get_or t (block_offset x) 0) (map (instruction_at t (block_offset x)) (up_from 0 max_instructions)) i no_instruction lt
-      ∙ get_d_map-up_from (instruction_at t (block_offset x)) max_instructions i no_instruction (omega arith)
+      ∙ get_or-map-up_from (instruction_at t (block_offset x)) max_instructions i no_instruction (omega arith)
 
   -- the first i instructions are done
   abbrev pub Assigning : BlockBuild → ℕ → List ℕ → ℕ → List ℕ → ℕ → List ℕ → ℕ → Type 0

@@ -12,7 +12,7 @@ use lib.Seq.{get_or-set_same, get_or-set_other, ext_get_or}
 use borrow.Author.Tests.{lt-ltb, le-ltb}
 use Rattle.word.specs.Word.{choose}
 use Rattle.runs.specs.Lists.{up_from, mem, padded}
-use Rattle.runs.proofs.ListLaws.{length-up_from, length_padded, get_d_padded, get_d_map-up_from}
+use Rattle.runs.proofs.ListLaws.{length-up_from, length_padded, get_or-padded, get_or-map-up_from}
 use Rattle.runs.proofs.Tests.{Compared, same, other, compared}
 use Rattle.runs.proofs.Sets.{In, Distinct, Found, there, missing, found}
 use Rattle.cfg.specs.Table.{block_at, graph_of, admitted_graph}
@@ -92,7 +92,7 @@ arrivals_length t s k = length-map (up_from 0 max_blocks) (λ (x : ℕ). choose 
 
 first_at : (t : List ℕ) (s : Groups) (k x : ℕ) → x < max_blocks → get_or (first_arrivals t s k) x 0 ≡ choose (ltb (state_for s x) k) (arrival_made (graph_of t) s x) 0
 unfolding first_arrivals
-first_at t s k x h = get_d_map-up_from (λ (y : ℕ). choose (ltb (state_for s y) k) (arrival_made (graph_of t) s y) 0) max_blocks x 0 h
+first_at t s k x h = get_or-map-up_from (λ (y : ℕ). choose (ltb (state_for s y) k) (arrival_made (graph_of t) s y) 0) max_blocks x 0 h
 
 -- before the first state
 pub none_listed : (t : List ℕ) (s : Groups) → first_arrivals t s 0 ≡ replicate max_blocks 0
@@ -153,7 +153,7 @@ module _ (t : List ℕ) (a : admitted_graph t ≡ true) (s : Groups) (G : Groupe
       ext_get_or 0 (first_arrivals t s n) (padded max_blocks 0 m) (arrivals_length t s n ∙ sym (length_padded max_blocks 0 m))
       (λ x h.
       let low : x < max_blocks = let l = arrivals_length t s n in omega arith in
-      first_at t s n x low ∙ go x (dec_lt (state_for s x) n) ∙ sym (get_d_padded max_blocks 0 m x low ∙ arrival_at_lem (graph_of t) s x))
+      first_at t s n x low ∙ go x (dec_lt (state_for s x) n) ∙ sym (get_or-padded max_blocks 0 m x low ∙ arrival_at_lem (graph_of t) s x))
     where
       go : (x : ℕ) → Dec (state_for s x < length s.starters) → choose (ltb (state_for s x) (length s.starters)) (arrival_made (graph_of t) s x) 0 ≡ arrival_made (graph_of t) s x
       go x (yes l) = rw (lt-ltb (state_for s x) (length s.starters) l) refl

@@ -89,10 +89,10 @@ map_set f [] i a = refl
 map_set f (x ∷ xs) zero a = refl
 map_set f (x ∷ xs) (suc i) a = ap (λ (l : List ℕ). f x ∷ l) (map_set f xs i a)
 
-pub get_d_map : (f : ℕ → ℕ) (l : List ℕ) (i : ℕ) → i < length l → get_or (map f l) i 0 ≡ f (get_or l i 0)
-get_d_map f [] i h = omega arith
-get_d_map f (x ∷ xs) zero h = refl
-get_d_map f (x ∷ xs) (suc i) h = get_d_map f xs i (omega arith)
+pub get_or-map : (f : ℕ → ℕ) (l : List ℕ) (i : ℕ) → i < length l → get_or (map f l) i 0 ≡ f (get_or l i 0)
+get_or-map f [] i h = omega arith
+get_or-map f (x ∷ xs) zero h = refl
+get_or-map f (x ∷ xs) (suc i) h = get_or-map f xs i (omega arith)
 
 -- the references of what is put behind E read it
 pub map-up_from : (E L : List ℕ) → map (at (E ++ L)) (up_from (length E) (length L)) ≡ L

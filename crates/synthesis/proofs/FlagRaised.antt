@@ -1,7 +1,7 @@
 -- Which wires of a state go over: only those of instructions, and they count only where their block is arrived at. Assumes nothing.
 use Prim.Native.Nat.{ℕ}
 use mathlib.Core.Path.{◌≡◌, refl, sym, ap, ap₂, ◌∙◌}
-use mathlib.Core.Bool.{Bool, true, false, ◌&&◌, ◌||◌, or_assoc, or_false}
+use mathlib.Core.Bool.{Bool, true, false, ◌&&◌, ◌||◌, or_assoc, or-false}
 use mathlib.Core.List.{List, [], ◌∷◌, ◌++◌}
 use lib.ListN.{length, get_or}
 use Rattle.word.specs.Word.{truth, add_code, sub_code}
@@ -34,7 +34,7 @@ over_append sampled E (w ∷ ws) vs =
 
 over_one : (sampled : ℕ) (E : List ℕ) (w : Wire) → wires_over sampled E (w ∷ []) ≡ wire_over (at E) w
 unfolding wires_over
-over_one sampled E w = or_false (wire_over (at E) w)
+over_one sampled E w = or-false (wire_over (at E) w)
 
 -- ---- what synthesis adds by itself raises no flag
 
@@ -52,7 +52,7 @@ grown_over sampled E {ws} {vs} a =
     ap (wires_over sampled E) a.wires
     ∙ over_append sampled E ws a.more
     ∙ ap (λ (b : Bool). wires_over sampled E ws || b) (own_none sampled (worked sampled E ws) a.more a.own)
-    ∙ or_false (wires_over sampled E ws)
+    ∙ or-false (wires_over sampled E ws)
 
 pub start_over : (sampled : ℕ) (rs : List ℕ) (r : ℕ) → wires_over sampled rs (start_block r []).wires ≡ false
 start_over sampled rs r = grown_over sampled rs (start_grown r []) ∙ own_none sampled rs [] refl
@@ -61,7 +61,7 @@ start_over sampled rs r = grown_over sampled rs (start_grown r []) ∙ own_none 
 
 both_over : (b x y z : Bool) → ((x || (b && y)) || (b && z)) ≡ (x || (b && (y || z)))
 both_over true x y z = or_assoc x y z
-both_over false x y z = or_false (x || false) ∙ refl
+both_over false x y z = or-false (x || false) ∙ refl
 
 module _ (sampled : ℕ) (rs : List ℕ) (size : length rs ≡ max_registers) (R : ℕ) where
   assign_over : (i : Instruction) (p : BlockBuild) (b : Bool) {q : List ℕ} → ValidInstruction R i → PointReads sampled rs R p (truth b) q
@@ -77,8 +77,8 @@ module _ (sampled : ℕ) (rs : List ℕ) (size : length rs ≡ max_registers) (R
   assigns_over : (is : List Instruction) (p : BlockBuild) (b : Bool) {q : List ℕ} → ValidCode R is → PointReads sampled rs R p (truth b) q
       → wires_over sampled rs (assigns is p).wires ≡ (wires_over sampled rs p.wires || (b && instructions_over sampled is q))
   unfolding assigns instructions_over
-  assigns_over [] p true f l = sym (or_false (wires_over sampled rs p.wires))
-  assigns_over [] p false f l = sym (or_false (wires_over sampled rs p.wires))
+  assigns_over [] p true f l = sym (or-false (wires_over sampled rs p.wires))
+  assigns_over [] p false f l = sym (or-false (wires_over sampled rs p.wires))
   assigns_over (i ∷ is) p b {q} f l =
       assigns_over is (assign i p) b f.1 (assign_reads sampled rs size R i p f.0 l)
       ∙ ap (λ (x : Bool). x || (b && instructions_over sampled is (execute sampled i q))) (assign_over i p b f.0 l)

@@ -5,7 +5,7 @@ use Prim.Native.Nat.{ℕ, suc, ◌≤◌}
 use native.Mathlib.Omega.{arith}
 use mathlib.Core.Path.{◌≡◌, refl, ap, ◌∙◌}
 use mathlib.Core.Logic.{◌⊎◌, inl, inr}
-use mathlib.Core.Bool.{Bool, true, false, not, ◌||◌, or_false}
+use mathlib.Core.Bool.{Bool, true, false, not, ◌||◌, or-false}
 use mathlib.Core.List.{List, [], ◌∷◌, ◌++◌, append-nil}
 use lib.ListN.{length, drop}
 use lib.Seq.{append_snoc}
@@ -168,7 +168,7 @@ module _ (g : CFG) (s : Groups) (sampled : ℕ) (rs : List ℕ) (size : length r
       let none = arrive_none sampled rs size R f.few_registers into b.wires (one_away R (drop R rs) E (leads_to x) c b.edges h t.taken) in
       rw (put_inner g s x b o.0, arrival_inner g s x b o.0) (record {
         reached = c;
-        raised = block_over sampled rs size R rest (block_of g x) p false (f.block x).body none.1 ∙ or_false (wires_over sampled rs p.wires)
+        raised = block_over sampled rs size R rest (block_of g x) p false (f.block x).body none.1 ∙ or-false (wires_over sampled rs p.wires)
             ∙ grown_over sampled rs (arrive_grown R into b.wires) ∙ t.raised;
         steps = t.steps;
         taken = made_passed sampled rs size R (block_of g x) (f.block x) p c rest none.1

@@ -19,7 +19,7 @@ use Rattle.runs.proofs.ListLaws.{length-up_from}
 use Rattle.cfg.proofs.Admitted.{ValidInstruction}
 use Rattle.synthesis.proofs.WireValues.{set_value, and_value, or_value, and_not_value, select_value, comparison_value, instruction_value}
 use Rattle.synthesis.proofs.Environments.{at, Below, worked_append, worked_nil, worked_cons, worked_selects, snoc_length, length_worked, Grows, worked_grows}
-use Rattle.synthesis.proofs.Environments.{below_mono, below_set, below_up_from, map-append, map_set, get_d_map, map_behind, map_registers}
+use Rattle.synthesis.proofs.Environments.{below_mono, below_set, below_up_from, map-append, map_set, get_or-map, map_behind, map_registers}
 
 -- In the environment E reference t reads v, and the references vs, one for each of R registers, read q; q's words from R up are `high`.
 pub record Reads (R : ℕ) (high : List ℕ) (E : List ℕ) (t : ℕ) (vs : List ℕ) (v : ℕ) (q : List ℕ) : Type 0 where
@@ -86,7 +86,7 @@ module _ {R : ℕ} {high : List ℕ} where
   -- what the references of the registers read
   pub reads_at : (E : List ℕ) {t : ℕ} {vs : List ℕ} {v : ℕ} {q : List ℕ} → Reads R high E t vs v q → (r : ℕ) → r < R → at E (get_or vs r 0) ≡ get_or q r 0
   reads_at E {t} {vs} l r h =
-      sym (get_d_map (at E) vs r (let c = l.count in omega arith))
+      sym (get_or-map (at E) vs r (let c = l.count in omega arith))
       ∙ sym (get_or-append (map (at E) vs) high 0 r (let c = l.count in simp length-map (omega arith)))
       ∙ ap (λ (q : List ℕ). get_or q r 0) l.words
 

@@ -8,7 +8,7 @@ use mathlib.Core.Path.{◌≡◌, refl, sym, ◌∙◌, ap}
 use mathlib.Core.List.{List, [], ◌∷◌}
 use lib.ListN.{length, get_or, get_or-eq_default}
 use Rattle.runs.specs.Lists.{mem}
-use Rattle.runs.proofs.Sets.{In, get_d_in}
+use Rattle.runs.proofs.Sets.{In, get_or-in}
 use Rattle.cfg.specs.declared.Ending.{Ending}
 use Rattle.cfg.specs.declared.Ending.TheVariants.{Goto, Ite, Halt}
 use Rattle.cfg.specs.declared.Block.{Block}
@@ -83,7 +83,7 @@ module _ (t : List ℕ) (a : admitted_graph t ≡ true) (s : Groups) (G : Groupe
       each : (i : ℕ) → i < length (order (graph_of t) s k) → Placeable t (get_or (order (graph_of t) s k) i 0)
       each i h =
           let x = get_or (order (graph_of t) s k) i 0 in
-          let l = block_low x (get_d_in (order (graph_of t) s k) i 0 h) in
+          let l = block_low x (get_or-in (order (graph_of t) s k) i 0 h) in
           let d = admitted_facts t a in
           let v = d.block x l in
           let b = d.few_blocks in

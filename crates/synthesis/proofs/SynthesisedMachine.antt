@@ -10,9 +10,9 @@ use lib.Dec.{eqb, leb, ltb}
 use borrow.Author.Tests.{lt-ltb, le-leb}
 use Rattle.word.specs.Word.{choose}
 use Rattle.runs.specs.Lists.{up_from}
-use Rattle.runs.proofs.ListLaws.{length-up_from, get_d_map-up_from}
+use Rattle.runs.proofs.ListLaws.{length-up_from, get_or-map-up_from}
 use Rattle.runs.proofs.Tests.{Compared, same, other, compared}
-use Rattle.runs.proofs.Sets.{In→mem, get_d_in}
+use Rattle.runs.proofs.Sets.{In→mem, get_or-in}
 use Rattle.cfg.specs.Graph.{CFG}
 use Rattle.cfg.proofs.Admitted.{ValidGraph}
 use Rattle.fsmd.specs.Layout.{max_states, max_blocks, max_registers, max_wires, absent}
@@ -40,7 +40,7 @@ module _ (g : CFG) (s : Groups) where
 
   pub state_at_lem : (k : ℕ) → k < length s.starters → state_at (machine_for g s) k ≡ state_made g s k
   unfolding machine_for
-  state_at_lem k h = get_d_map-up_from (state_made g s) (length s.starters) k empty_state h
+  state_at_lem k h = get_or-map-up_from (state_made g s) (length s.starters) k empty_state h
 
   pub registers_are : (machine_for g s).registers ≡ g.registers
   unfolding machine_for
@@ -59,7 +59,7 @@ module _ (g : CFG) (s : Groups) where
   arrival_at_lem b = go (dec_lt b (length s.states))
     where
       go : Dec (b < length s.states) → get_or (map (arrival_made g s) (up_from 0 (length s.states))) b 0 ≡ arrival_made g s b
-      go (yes h) = get_d_map-up_from (arrival_made g s) (length s.states) b 0 h
+      go (yes h) = get_or-map-up_from (arrival_made g s) (length s.states) b 0 h
       go (no h) =
           get_or-eq_default (map (arrival_made g s) (up_from 0 (length s.states))) 0 (simp (length-map, length-up_from) (omega arith))
           ∙ sym (made_none g s b (get_or-eq_default s.states absent (omega arith)))
@@ -88,7 +88,7 @@ module _ (g : CFG) (v : ValidGraph g) (s : Groups) (G : Grouped g s) where
   state_order : (k : ℕ) → k < length s.starters → StateOrder g s k (get_or s.starters k absent)
   state_order k h =
       let b = get_or s.starters k absent in
-      rw (G.starter_home k absent h) at ((arranged g (valid_closed g v) s G).placed b (In→mem b s.starters (get_d_in s.starters k absent h)))
+      rw (G.starter_home k absent h) at ((arranged g (valid_closed g v) s G).placed b (In→mem b s.starters (get_or-in s.starters k absent h)))
 
   pub made_valid : (k : ℕ) → k < length s.starters → StateValid g s k
   made_valid k h = state_valid g s k (get_or s.starters k absent) (graph_fits g v) (state_order k h)

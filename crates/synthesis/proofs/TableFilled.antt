@@ -10,7 +10,7 @@ use borrow.Author.Tests.{lt-ltb, le-ltb}
 use Rattle.buffers.proofs.Copies.{sets_right, sets_whole}
 use Rattle.runs.specs.Lists.{padded}
 use Rattle.runs.proofs.ListLaws.{length_padded}
-use Rattle.runs.proofs.Sets.{get_d_in}
+use Rattle.runs.proofs.Sets.{get_or-in}
 use Rattle.cfg.specs.Layout.{graph_words}
 use Rattle.cfg.specs.Table.{graph_of, admitted_graph}
 use Rattle.cfg.proofs.Admitted.{admitted_facts, blocks_length, registers_are}
@@ -68,7 +68,7 @@ module _ (t : List ℕ) (a : admitted_graph t ≡ true) (s : Groups) (G : Groupe
   starter_low : (i : ℕ) → i < length s.starters → get_or s.starters i 0 < max_blocks
   starter_low i h =
       let x = get_or s.starters i 0 in
-      let l = reached_below closed (G.starter_reached x (get_d_in s.starters i 0 h)) in
+      let l = reached_below closed (G.starter_reached x (get_or-in s.starters i 0 h)) in
       let b = closed.few_blocks_lem in
       omega arith
 

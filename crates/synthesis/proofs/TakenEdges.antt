@@ -2,7 +2,7 @@
 use Prim.Native.Nat.{ℕ, suc, ◌+◌, ◌≤◌, ◌<◌}
 use mathlib.Core.Path.{◌≡◌, refl, ap, ◌∙◌}
 use mathlib.Core.Logic.{◌⊎◌, inl, inr}
-use mathlib.Core.Bool.{Bool, true, false, not, ◌&&◌, ◌||◌, or_false}
+use mathlib.Core.Bool.{Bool, true, false, not, ◌&&◌, ◌||◌, or-false}
 use mathlib.Core.List.{List, [], ◌∷◌, ◌++◌}
 use lib.ListN.{length, drop}
 use Rattle.word.specs.Word.{choose, truth}
@@ -105,7 +105,7 @@ module _ (sampled : ℕ) (rs : List ℕ) (size : length rs ≡ max_registers) (R
 
   join_none : (e : Edge) (p : BlockBuild) (s : Bool) {q : List ℕ} → NotTaken R (drop R rs) (worked sampled rs p.wires) e → PointReads sampled rs R p (truth s) q
       → PointReads sampled rs R (join e p) (truth s) q
-  join_none e p s {q} o l = rw (or_false s) at (join_reads sampled rs size R e p s false l o.1)
+  join_none e p s {q} o l = rw (or-false s) at (join_reads sampled rs size R e p s false l o.1)
 
   joins_none : (es : List Edge) (p : BlockBuild) (s : Bool) {q : List ℕ} → NoneTaken R (drop R rs) (worked sampled rs p.wires) es → PointReads sampled rs R p (truth s) q
       → PointReads sampled rs R (joins es p) (truth s) q

@@ -10,7 +10,7 @@ use Rattle.grouping.specs.Grouping.{Groups}
 unfoldable pub members : CFG → Groups → ℕ → List ℕ
 members g s k = only (λ x. eqb (get_or s.states x absent) k) (up_from 0 (length g.blocks))
 
--- the incoming in_state edges of x all come from placed blocks; an edge to a starter is none of them
+-- the incoming in-state edges of x all come from placed blocks; an edge to a starter is none of them
 abbrev pub ready : CFG → Groups → List ℕ → List ℕ → ℕ → Bool
 ready g s blocks placed x = mem x s.starters || every (λ u. not (mem x (successors g u)) || mem u placed) blocks
 

@@ -1,8 +1,7 @@
 -- `cfg::admission::all_zero` meets its contract. Assumes nothing.
-use Prim.Native.Nat.{◌-◌, ◌≤◌}
 use native.Mathlib.Omega.{arith}
 use mathlib.Core.Bool.{Bool, ◌&&◌, and-false}
-use mathlib.Core.Path.{◌≡◌, ap, ◌∙◌}
+use mathlib.Core.Path.{ap, ◌∙◌}
 use Rattle.cfg.proofs.Words.{zero_go, zero_stop}
 use Rattle.cfg.proofs.admission.all_zero.Goals as goal
 use Rattle.cfg.proofs.admission.all_zero.Goals.{then-table-i-ne0, else-table-i-ne0}

@@ -3,8 +3,6 @@ use Prim.Native.Nat.{◌+◌, ◌-◌, ◌*◌}
 use native.Mathlib.Omega.{arith}
 use mathlib.Core.Path.{◌≡◌, sym, ◌∙◌}
 use lib.ListN.{get_or}
-use borrow.Author.Tests.{not-true, not-false}
-use borrow.Author.Rules.{rules}
 use Rattle.cfg.specs.Layout.{max_instructions, instruction_words, code_offset, ending_offset, block_offset}
 use Rattle.cfg.proofs.Passing.{many_passing, few_passing}
 use Rattle.cfg.proofs.admission.block_fits.Goals as goal

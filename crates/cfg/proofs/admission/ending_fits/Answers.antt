@@ -1,7 +1,6 @@
 -- `cfg::admission::ending_fits` meets its contract. Assumes nothing.
 use native.Mathlib.Omega.{arith}
 use mathlib.Core.Path.{sym, ◌∙◌}
-use borrow.Author.Rules.{rules}
 use Rattle.cfg.proofs.Words.{goto_fits, ite_fits, halt_fits, none_fits}
 use Rattle.cfg.proofs.admission.ending_fits.Goals as goal
 

@@ -3,8 +3,6 @@ use Prim.Native.Nat.{◌-◌, ◌*◌}
 use native.Mathlib.Omega.{arith}
 use mathlib.Core.Path.{◌≡◌, sym, ◌∙◌}
 use lib.ListN.{get_or}
-use borrow.Author.Tests.{not-true, not-false}
-use borrow.Author.Rules.{rules}
 use Rattle.cfg.specs.Layout.{block_words, all_block_words, graph_words, block_offset}
 use Rattle.cfg.proofs.Passing.{passing_blocks}
 use Rattle.cfg.proofs.Words.{no_block, many_blocks, no_register, many_registers}

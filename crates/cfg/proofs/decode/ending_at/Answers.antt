@@ -1,7 +1,6 @@
 -- `cfg::decode::ending_at` meets its contract. Assumes nothing.
 use native.Mathlib.Omega.{arith}
 use mathlib.Core.Path.{sym}
-use borrow.Author.Rules.{rules}
 use Rattle.cfg.proofs.Blocks.{ending_goto, ending_ite, ending_halt}
 use Rattle.cfg.proofs.decode.ending_at.Goals as goal
 

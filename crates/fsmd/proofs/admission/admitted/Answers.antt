@@ -1,8 +1,7 @@
 -- `fsmd::admission::admitted` meets its contract: the tests in the definition's order. Assumes nothing.
 use native.Mathlib.Omega.{arith}
 use mathlib.Core.Path.{sym, ◌∙◌}
-use borrow.Author.Rules.{rules}
-use borrow.Author.Tests.{le-leb, lt-leb, not-true, not-false}
+use borrow.Author.Tests.{le-leb, lt-leb}
 use Rattle.fsmd.specs.Layout.{max_states, max_registers}
 use Rattle.fsmd.proofs.Machines.{admitted_is}
 use Rattle.fsmd.proofs.admission.admitted.Goals as goal
@@ -45,7 +44,7 @@ returns-then-not-all_within c =
     let n = c.word_index-states in
     let r = c.word_index-registers in
     let e = admitted_is c.args.table.now n.result r.result (n.ensures.0 ∙ g.ensures.0) (r.ensures.0 ∙ g.ensures.1) in
-    sym (e ∙ rw (le-leb 1 n.result (omega arith), le-leb n.result max_states (omega arith), le-leb 1 r.result (omega arith), le-leb r.result max_registers (omega arith), sym c.all_within.ensures ∙ not-true _ c.if-not-all_within.true))
+    sym (e ∙ rw (le-leb 1 n.result (omega arith), le-leb n.result max_states (omega arith), le-leb 1 r.result (omega arith), le-leb r.result max_registers (omega arith), sym c.all_within.ensures ∙ c.if-not-all_within.true))
 
 pub returns-then-not-all_apart : goal.returns-then-not-all_apart
 returns-then-not-all_apart c =
@@ -53,7 +52,7 @@ returns-then-not-all_apart c =
     let n = c.word_index-states in
     let r = c.word_index-registers in
     let e = admitted_is c.args.table.now n.result r.result (n.ensures.0 ∙ g.ensures.0) (r.ensures.0 ∙ g.ensures.1) in
-    sym (e ∙ rw (le-leb 1 n.result (omega arith), le-leb n.result max_states (omega arith), le-leb 1 r.result (omega arith), le-leb r.result max_registers (omega arith), sym c.all_within.ensures ∙ not-false _ c.if-not-all_within.false, sym c.all_apart.ensures ∙ not-true _ c.if-not-all_apart.true))
+    sym (e ∙ rw (le-leb 1 n.result (omega arith), le-leb n.result max_states (omega arith), le-leb 1 r.result (omega arith), le-leb r.result max_registers (omega arith), sym c.all_within.ensures ∙ c.if-not-all_within.false, sym c.all_apart.ensures ∙ c.if-not-all_apart.true))
 
 pub returns-then-not-all_valid : goal.returns-then-not-all_valid
 returns-then-not-all_valid c =
@@ -61,7 +60,7 @@ returns-then-not-all_valid c =
     let n = c.word_index-states in
     let r = c.word_index-registers in
     let e = admitted_is c.args.table.now n.result r.result (n.ensures.0 ∙ g.ensures.0) (r.ensures.0 ∙ g.ensures.1) in
-    sym (e ∙ rw (le-leb 1 n.result (omega arith), le-leb n.result max_states (omega arith), le-leb 1 r.result (omega arith), le-leb r.result max_registers (omega arith), sym c.all_within.ensures ∙ not-false _ c.if-not-all_within.false, sym c.all_apart.ensures ∙ not-false _ c.if-not-all_apart.false, sym c.all_valid.ensures ∙ not-true _ c.if-not-all_valid.true))
+    sym (e ∙ rw (le-leb 1 n.result (omega arith), le-leb n.result max_states (omega arith), le-leb 1 r.result (omega arith), le-leb r.result max_registers (omega arith), sym c.all_within.ensures ∙ c.if-not-all_within.false, sym c.all_apart.ensures ∙ c.if-not-all_apart.false, sym c.all_valid.ensures ∙ c.if-not-all_valid.true))
 
 pub returns : goal.returns
 returns c =
@@ -69,4 +68,4 @@ returns c =
     let n = c.word_index-states in
     let r = c.word_index-registers in
     let e = admitted_is c.args.table.now n.result r.result (n.ensures.0 ∙ g.ensures.0) (r.ensures.0 ∙ g.ensures.1) in
-    sym (e ∙ rw (le-leb 1 n.result (omega arith), le-leb n.result max_states (omega arith), le-leb 1 r.result (omega arith), le-leb r.result max_registers (omega arith), sym c.all_within.ensures ∙ not-false _ c.if-not-all_within.false, sym c.all_apart.ensures ∙ not-false _ c.if-not-all_apart.false, sym c.all_valid.ensures ∙ not-false _ c.if-not-all_valid.false) (sym c.All-right.ensures))
+    sym (e ∙ rw (le-leb 1 n.result (omega arith), le-leb n.result max_states (omega arith), le-leb 1 r.result (omega arith), le-leb r.result max_registers (omega arith), sym c.all_within.ensures ∙ c.if-not-all_within.false, sym c.all_apart.ensures ∙ c.if-not-all_apart.false, sym c.all_valid.ensures ∙ c.if-not-all_valid.false) (sym c.all_right.ensures))

@@ -1,14 +1,11 @@
 -- `fsmd::admission::all_right` meets its contract: the blocks from b on decide for all. Assumes nothing.
 use Prim.Native.Nat.{◌-◌, ◌≤◌}
-use native.Mathlib.Omega.{arith}
-use mathlib.Core.Path.{◌≡◌, sym, ◌∙◌}
+use mathlib.Core.Path.{◌≡◌}
 use lib.ListN.{drop}
-use borrow.Author.Rules.{rules}
-use Rattle.runs.proofs.Every.{below_fails, below_passes, below_done}
 use Rattle.runs.specs.Lists.{up_from, every}
 use Rattle.fsmd.specs.Layout.{max_blocks}
 use Rattle.fsmd.specs.Table.{right_blocks}
-use Rattle.fsmd.proofs.BlockLaws.{right_at, right_blocks_are}
+use Rattle.fsmd.proofs.BlockLaws.{right_at}
 use Rattle.fsmd.proofs.admission.all_right.Given as goal
 
 abbrev pub invariant-loop-b : goal.invariant-loop-b

@@ -1,15 +1,10 @@
 -- `fsmd::admission::all_valid` meets its contract: the states from k on decide for all. Assumes nothing.
-use Prim.Native.Nat.{◌+◌, ◌-◌, ◌≤◌}
-use native.Mathlib.Omega.{arith}
+use Prim.Native.Nat.{◌-◌, ◌≤◌}
 use mathlib.Core.Bool.{◌&&◌}
-use mathlib.Core.Path.{◌≡◌, refl, sym, ◌∙◌}
+use mathlib.Core.Path.{◌≡◌}
 use lib.ListN.{drop}
-use borrow.Author.Rules.{rules}
-use borrow.Author.Tests.{leb-true}
-use Rattle.runs.proofs.Every.{below_fails, below_passes, below_done, below_at}
 use Rattle.runs.specs.Lists.{up_from, every}
-use Rattle.fsmd.specs.Layout.{max_wires}
-use Rattle.fsmd.specs.Table.{valid_state, state_at, within, first_wire_at, wire_count_at, right_touch}
+use Rattle.fsmd.specs.Table.{valid_state, state_at, right_touch}
 use Rattle.fsmd.proofs.admission.all_valid.Given as goal
 
 abbrev pub invariant-loop-k : goal.invariant-loop-k

@@ -1,11 +1,8 @@
 -- `fsmd::admission::all_within` meets its contract: the states from k on decide for all. Assumes nothing.
-use Prim.Native.Nat.{◌-◌, ◌≤◌}
 use native.Mathlib.Omega.{arith}
-use mathlib.Core.Path.{◌≡◌, refl, sym, ◌∙◌}
-use lib.ListN.{drop}
-use borrow.Author.Rules.{rules}
+use mathlib.Core.Bool.{not}
+use mathlib.Core.Path.{sym, ap, ◌∙◌}
 use Rattle.runs.proofs.Every.{below_fails, below_passes, below_done}
-use Rattle.runs.specs.Lists.{up_from, every}
 use Rattle.fsmd.specs.Table.{within}
 use Rattle.fsmd.proofs.admission.all_within.Goals as goal
 
@@ -14,7 +11,7 @@ returns-then-not-within c =
     let a = c.args in
     let t = a.table.now in
     let n = a.states in
-    sym (c.loop-k.invariant.1 ∙ below_fails (within t) n c.loop-k.k c.loop-k-test.true c.within.result c.within.ensures c.if-not-within.true)
+    sym (c.loop-k.invariant.1 ∙ below_fails (within t) n c.loop-k.k c.loop-k-test.true c.within.result c.within.ensures (ap not c.if-not-within.true))
 
 pub loop-k-preserved : goal.loop-k-preserved
 loop-k-preserved c =
@@ -22,7 +19,7 @@ loop-k-preserved c =
     let t = a.table.now in
     let n = a.states in (
       omega arith,
-      c.loop-k.invariant.1 ∙ below_passes (within t) n c.loop-k.k c.loop-k-test.true c.within.result c.within.ensures c.if-not-within.false,
+      c.loop-k.invariant.1 ∙ below_passes (within t) n c.loop-k.k c.loop-k-test.true c.within.result c.within.ensures (ap not c.if-not-within.false),
     )
 
 pub returns : goal.returns

@@ -1,11 +1,8 @@
 -- `fsmd::admission::in_order` meets its contract: the states so far stand in order. Assumes nothing.
-use Prim.Native.Nat.{ℕ, ◌+◌, ◌-◌, ◌≤◌}
+use Prim.Native.Nat.{ℕ, ◌+◌}
 use native.Mathlib.Omega.{arith}
-use mathlib.Core.Bool.{false≢true}
-use mathlib.Core.Path.{◌≡◌, sym, ap, ap₂, ◌∙◌, subst}
-use borrow.Author.Rules.{rules}
-use Rattle.fsmd.specs.Table.{first_wire_at}
-use Rattle.fsmd.proofs.Apart.{InOrder, order_none, order_more, order_apart}
+use mathlib.Core.Path.{◌≡◌, sym, ap₂, subst}
+use Rattle.fsmd.proofs.Apart.{InOrder, order_more, order_apart}
 use Rattle.fsmd.proofs.admission.in_order.Goals as goal
 
 pub loop-k-preserved : goal.loop-k-preserved

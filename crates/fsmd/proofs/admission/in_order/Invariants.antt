@@ -1,11 +1,6 @@
 -- `fsmd::admission::in_order` meets its contract: the states so far stand in order. Assumes nothing.
-use Prim.Native.Nat.{ℕ, ◌+◌, ◌-◌, ◌≤◌}
-use native.Mathlib.Omega.{arith}
-use mathlib.Core.Bool.{false≢true}
-use mathlib.Core.Path.{◌≡◌, sym, ap, ap₂, ◌∙◌, subst}
-use borrow.Author.Rules.{rules}
-use Rattle.fsmd.specs.Table.{first_wire_at}
-use Rattle.fsmd.proofs.Apart.{InOrder, order_none, order_more, order_apart}
+use Prim.Native.Nat.{◌-◌, ◌≤◌}
+use Rattle.fsmd.proofs.Apart.{InOrder}
 use Rattle.fsmd.proofs.admission.in_order.Given as goal
 
 abbrev pub invariant-loop-k : goal.invariant-loop-k

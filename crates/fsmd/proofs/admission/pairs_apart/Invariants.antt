@@ -1,10 +1,7 @@
 -- `fsmd::admission::pairs_apart` meets its contract: the states from k on decide for all. Assumes nothing.
 use Prim.Native.Nat.{◌-◌, ◌≤◌}
-use native.Mathlib.Omega.{arith}
-use mathlib.Core.Path.{◌≡◌, refl, sym, ◌∙◌}
+use mathlib.Core.Path.{◌≡◌}
 use lib.ListN.{drop}
-use borrow.Author.Rules.{rules}
-use Rattle.runs.proofs.Every.{below_fails, below_passes, below_done}
 use Rattle.runs.specs.Lists.{up_from, every}
 use Rattle.fsmd.specs.Table.{apart}
 use Rattle.fsmd.proofs.admission.pairs_apart.Given as goal

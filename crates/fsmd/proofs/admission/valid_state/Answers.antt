@@ -4,7 +4,6 @@ use mathlib.Core.Bool.{Bool, true, false, ◌&&◌}
 use mathlib.Core.List.{List}
 use mathlib.Core.Path.{◌≡◌, sym, ap, ap₂, ◌∙◌}
 use lib.Dec.{eqb}
-use borrow.Author.Rules.{rules}
 use borrow.Author.Tests.{not-true, not-false}
 use Rattle.fsmd.specs.Touch.{touch_word}
 use Rattle.fsmd.specs.Table.{state_at, valid_state, right_touch}
@@ -15,28 +14,16 @@ use Rattle.fsmd.proofs.admission.valid_state.Goals as goal
 decided : (t : List ℕ) (r k : ℕ) (b : Bool) → valid_state r (state_at t k) ≡ b → (b && right_touch t k) ≡ (valid_state r (state_at t k) && right_touch t k)
 decided t r k b e = sym (ap (λ (v : Bool). v && right_touch t k) e)
 
--- where the next references are judged, all before them is valid
-judged : (c : tie.After-next-references)
-    → valid_state c.before.before.before.before.before.before.before.before.before.before.args.registers (state_at c.before.before.before.before.before.before.before.before.before.before.args.table.now c.before.before.before.before.before.before.before.before.before.before.args.k) ≡ c.next-references.result.valid
-judged c =
-    let b = c.before.before.before.before.before in
-    let a = b.before.before.before.before.before.args in
-    let f = b.before.before.first-wire in
-    let n = b.before.wire-count in
-    let p = b.before.before.before.«record» in
-    valid_state_is a.table.now a.registers a.k f.result n.result p.result f.ensures.0 n.ensures.0 p.ensures b.before.before.before.before.before.requires.1.1.1.0
-    ∙ rw (sym b.valid-wires.ensures ∙ not-false _ c.before.before.before.before.if1.false, sym c.before.before.valid-reference.ensures ∙ not-false _ c.before.if2.false) (sym c.next-references.ensures.0)
-
 pub returns-then-not-valid_wires : goal.returns-then-not-valid_wires
 returns-then-not-valid_wires c =
     let a = c.args in
     let t = a.table.now in
     let f = c.first_wire-first in
     let n = c.wire_count-count in
-    let p = c.«record» in
+    let p = c.record-at in
     decided t a.registers a.k false
-    (valid_state_is t a.registers a.k f.result n.result p.result f.ensures.0 n.ensures.0 p.ensures c.requires.1.1.1.0
-    ∙ rw (sym c.valid_wires.ensures ∙ not-true _ c.if-not-valid_wires.true))
+    (valid_state_is t a.registers a.k f.result n.result p.result f.ensures.0 n.ensures.0 p.ensures c.requires.registers_value
+    ∙ rw (sym c.valid_wires.ensures ∙ c.if-not-valid_wires.true))
 
 pub returns-then-not-valid_reference : goal.returns-then-not-valid_reference
 returns-then-not-valid_reference c =
@@ -44,21 +31,33 @@ returns-then-not-valid_reference c =
     let t = a.table.now in
     let f = c.first_wire-first in
     let n = c.wire_count-count in
-    let p = c.«record» in
+    let p = c.record-at in
     decided t a.registers a.k false
-    (valid_state_is t a.registers a.k f.result n.result p.result f.ensures.0 n.ensures.0 p.ensures c.requires.1.1.1.0
-    ∙ rw (sym c.valid_wires.ensures ∙ not-false _ c.if-not-valid_wires.false, sym c.valid_reference.ensures ∙ not-true _ c.if-not-valid_reference.true))
+    (valid_state_is t a.registers a.k f.result n.result p.result f.ensures.0 n.ensures.0 p.ensures c.requires.registers_value
+    ∙ rw (sym c.valid_wires.ensures ∙ c.if-not-valid_wires.false, sym c.valid_reference.ensures ∙ c.if-not-valid_reference.true))
 
 pub returns-then-not-next : goal.returns-then-not-next
 returns-then-not-next c =
     let a = c.args in
-    decided a.table.now a.registers a.k false (judged c.before.before ∙ not-true _ c.if-not-next.true)
+    let t = a.table.now in
+    let f = c.first_wire-first in
+    let n = c.wire_count-count in
+    let p = c.record-at in
+    decided t a.registers a.k false
+    (valid_state_is t a.registers a.k f.result n.result p.result f.ensures.0 n.ensures.0 p.ensures c.requires.registers_value
+    ∙ rw (sym c.valid_wires.ensures ∙ c.if-not-valid_wires.false, sym c.valid_reference.ensures ∙ c.if-not-valid_reference.false) (sym c.next_references-next.ensures.valid_value)
+    ∙ not-true _ c.if-not-next.true)
 
 pub returns : goal.returns
 returns c =
     let a = c.args in
     let t = a.table.now in
-    let p = c.«record» in
+    let f = c.first_wire-first in
+    let n = c.wire_count-count in
+    let p = c.record-at in
     let good = not-false _ c.if-not-next.false in
-    ap₂ eqb c.touch.ensures (c.next_references-next.ensures.1 good ∙ ap touch_word (next_words_lem t a.registers a.k p.result p.ensures c.requires.1.1.1.0))
-    ∙ decided t a.registers a.k true (judged c.before.before.before.before ∙ good)
+    ap₂ eqb c.touch.ensures (c.next_references-next.ensures.touch_value good ∙ ap touch_word (next_words_lem t a.registers a.k p.result p.ensures c.requires.registers_value))
+    ∙ decided t a.registers a.k true
+    (valid_state_is t a.registers a.k f.result n.result p.result f.ensures.0 n.ensures.0 p.ensures c.requires.registers_value
+    ∙ rw (sym c.valid_wires.ensures ∙ c.if-not-valid_wires.false, sym c.valid_reference.ensures ∙ c.if-not-valid_reference.false) (sym c.next_references-next.ensures.valid_value)
+    ∙ good)

@@ -4,8 +4,7 @@ use native.Mathlib.Omega.{arith}
 use mathlib.Core.Bool.{◌||◌}
 use mathlib.Core.Path.{ap, sym, ◌∙◌}
 use lib.Dec.{eqb, ltb}
-use borrow.Author.Rules.{rules}
-use borrow.Author.Tests.{le-leb, lt-leb, not-true, not-false}
+use borrow.Author.Tests.{le-leb, lt-leb}
 use Rattle.fsmd.specs.Table.{valid_wire, valid_reference}
 use Rattle.fsmd.proofs.WireReads.{operand_tests}
 use Rattle.fsmd.proofs.admission.valid_wire.Goals as goal
@@ -24,7 +23,7 @@ returns-then-not-valid_first c =
     let a = c.args in
     let k = a.w.code in
     let s = ap (λ (m : ℕ). eqb k 1 || (ltb m 1 || valid_reference a.registers a.n a.w.a)) (sym c.arity-reads.ensures)
-    ∙ sym c.valid_first.ensures ∙ not-true _ c.if-not-valid_first.true in
+    ∙ sym c.valid_first.ensures ∙ c.if-not-valid_first.true in
     rw (le-leb 1 k (omega arith), le-leb k 20 (omega arith), operand_tests (valid_reference a.registers a.n) a.w, s)
 
 pub returns-then-not-valid_operand : goal.returns-then-not-valid_operand
@@ -33,9 +32,9 @@ returns-then-not-valid_operand c =
     let a = c.args in
     let k = a.w.code in
     let s = ap (λ (m : ℕ). eqb k 1 || (ltb m 1 || valid_reference a.registers a.n a.w.a)) (sym c.arity-reads.ensures)
-    ∙ sym c.valid_first.ensures ∙ not-false _ c.if-not-valid_first.false in
+    ∙ sym c.valid_first.ensures ∙ c.if-not-valid_first.false in
     let u = ap (λ (m : ℕ). ltb m 2 || valid_reference a.registers a.n a.w.b) (sym c.arity-reads.ensures)
-    ∙ sym c.valid_operand.ensures ∙ not-true _ c.if-not-valid_operand.true in
+    ∙ sym c.valid_operand.ensures ∙ c.if-not-valid_operand.true in
     rw (le-leb 1 k (omega arith), le-leb k 20 (omega arith), operand_tests (valid_reference a.registers a.n) a.w, s, u)
 
 pub returns : goal.returns
@@ -45,8 +44,8 @@ returns c =
     let k = a.w.code in
     let e = sym c.arity-reads.ensures in
     let s = ap (λ (m : ℕ). eqb k 1 || (ltb m 1 || valid_reference a.registers a.n a.w.a)) e
-    ∙ sym c.valid_first.ensures ∙ not-false _ c.if-not-valid_first.false in
+    ∙ sym c.valid_first.ensures ∙ c.if-not-valid_first.false in
     let u = ap (λ (m : ℕ). ltb m 2 || valid_reference a.registers a.n a.w.b) e
-    ∙ sym c.valid_operand.ensures ∙ not-false _ c.if-not-valid_operand.false in
+    ∙ sym c.valid_operand.ensures ∙ c.if-not-valid_operand.false in
     rw (le-leb 1 k (omega arith), le-leb k 20 (omega arith), operand_tests (valid_reference a.registers a.n) a.w, s, u)
     (c.valid_operand-2.ensures ∙ ap (λ (m : ℕ). ltb m 3 || valid_reference a.registers a.n a.w.c) c.arity.ensures)

@@ -1,12 +1,8 @@
 -- `fsmd::admission::valid_wires` meets its contract: the wires from n on decide for all. Assumes nothing.
-use Prim.Native.Nat.{◌-◌, ◌≤◌}
 use native.Mathlib.Omega.{arith}
-use mathlib.Core.Path.{◌≡◌, refl, sym, ap, ◌∙◌}
-use lib.ListN.{drop}
-use borrow.Author.Rules.{rules}
-use borrow.Author.Tests.{not-true, not-false}
-use Rattle.fsmd.specs.Table.{valid_wire, valid_wires}
-use Rattle.fsmd.proofs.Windows.{wires_from, wires_fail, wires_pass, wires_pass_all}
+use mathlib.Core.Path.{sym, ap, ◌∙◌}
+use Rattle.fsmd.specs.Table.{valid_wire}
+use Rattle.fsmd.proofs.Windows.{wires_fail, wires_pass, wires_pass_all}
 use Rattle.fsmd.proofs.admission.valid_wires.Goals as goal
 
 pub returns-then-not-valid_wire : goal.returns-then-not-valid_wire
@@ -15,7 +11,7 @@ returns-then-not-valid_wire c =
     let t = a.table.now in
     sym (c.loop-n.invariant.1
     ∙ wires_fail t a.first a.count a.registers c.loop-n.n c.loop-n-test.true
-    (ap (valid_wire a.registers c.loop-n.n) (sym c.wire.ensures) ∙ sym c.valid_wire.ensures ∙ not-true _ c.if-not-valid_wire.true))
+    (ap (valid_wire a.registers c.loop-n.n) (sym c.wire.ensures) ∙ sym c.valid_wire.ensures ∙ c.if-not-valid_wire.true))
 
 pub loop-n-preserved : goal.loop-n-preserved
 loop-n-preserved c =
@@ -24,7 +20,7 @@ loop-n-preserved c =
       omega arith,
       c.loop-n.invariant.1
           ∙ wires_pass t a.first a.count a.registers c.loop-n.n c.loop-n-test.true
-          (ap (valid_wire a.registers c.loop-n.n) (sym c.wire.ensures) ∙ sym c.valid_wire.ensures ∙ not-false _ c.if-not-valid_wire.false),
+          (ap (valid_wire a.registers c.loop-n.n) (sym c.wire.ensures) ∙ sym c.valid_wire.ensures ∙ c.if-not-valid_wire.false),
     )
 
 pub returns : goal.returns

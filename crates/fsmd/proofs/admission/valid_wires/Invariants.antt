@@ -1,12 +1,9 @@
 -- `fsmd::admission::valid_wires` meets its contract: the wires from n on decide for all. Assumes nothing.
 use Prim.Native.Nat.{◌-◌, ◌≤◌}
-use native.Mathlib.Omega.{arith}
-use mathlib.Core.Path.{◌≡◌, refl, sym, ap, ◌∙◌}
+use mathlib.Core.Path.{◌≡◌}
 use lib.ListN.{drop}
-use borrow.Author.Rules.{rules}
-use borrow.Author.Tests.{not-true, not-false}
-use Rattle.fsmd.specs.Table.{valid_wire, valid_wires}
-use Rattle.fsmd.proofs.Windows.{wires_from, wires_fail, wires_pass, wires_pass_all}
+use Rattle.fsmd.specs.Table.{valid_wires}
+use Rattle.fsmd.proofs.Windows.{wires_from}
 use Rattle.fsmd.proofs.admission.valid_wires.Given as goal
 
 abbrev pub invariant-loop-n : goal.invariant-loop-n

@@ -1,11 +1,7 @@
 -- `fsmd::chains::chains_of` meets its contract: the chains of the blocks from b up. Assumes nothing.
-use Prim.Native.Nat.{◌+◌, ◌-◌, ◌≤◌}
-use native.Mathlib.Omega.{arith}
-use mathlib.Core.Path.{◌≡◌, sym}
-use borrow.Author.Rules.{rules}
+use Prim.Native.Nat.{◌≤◌}
 use Rattle.fsmd.specs.Chains.{Chained}
 use Rattle.fsmd.specs.Layout.{max_blocks}
-use Rattle.fsmd.proofs.ChainLaws.{chained_none, chained_skip, chained_put}
 use Rattle.fsmd.proofs.chains.chains_of.Given as goal
 
 abbrev pub invariant-loop-b : goal.invariant-loop-b

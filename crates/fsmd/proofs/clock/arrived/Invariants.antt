@@ -1,19 +1,13 @@
 -- `fsmd::clock::arrived` meets its contract: the blocks of the chain so far, and those that follow. Assumes nothing.
-use Prim.Native.Nat.{ℕ, ◌+◌, ◌-◌}
-use native.Mathlib.Omega.{arith}
+use Prim.Native.Nat.{ℕ, ◌-◌}
 use mathlib.Core.Bool.{Bool, not}
 use mathlib.Core.List.{List}
-use mathlib.Core.Path.{◌≡◌, ap}
 use lib.Dec.{eqb}
-use lib.ListN.{get_or}
-use borrow.Author.Rules.{rules}
-use Rattle.word.specs.Word.{truth}
 use Rattle.fsmd.specs.Chains.{blocks_from}
 use Rattle.fsmd.specs.Clock.{read_in}
 use Rattle.fsmd.specs.Layout.{max_blocks}
 use Rattle.fsmd.specs.Table.{arrival_at}
-use Rattle.fsmd.proofs.ChainLaws.{Along, along_start, along_few, along_end, along_rises, along_next, few_blocks_lem}
-use Rattle.fsmd.proofs.TouchLaws.{bit_low}
+use Rattle.fsmd.proofs.ChainLaws.{Along}
 use Rattle.fsmd.proofs.clock.arrived.Given as goal
 
 -- whether block b is arrived at

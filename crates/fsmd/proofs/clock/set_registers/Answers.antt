@@ -1,11 +1,10 @@
 -- `fsmd::clock::set_registers` meets its contract: the first words are the registers', and the others are there already. Assumes nothing.
-use Prim.Native.Nat.{ℕ, ◌+◌, ◌-◌, ◌*◌, ◌≤◌}
+use Prim.Native.Nat.{ℕ, ◌+◌}
 use native.Mathlib.Omega.{arith}
-use mathlib.Core.List.{List, ◌++◌}
-use mathlib.Core.Path.{◌≡◌, refl, ap, ◌∙◌}
-use lib.ListN.{length, get_or, take, drop, set, length-set}
-use lib.Seq.{take_all}
-use borrow.Author.Rules.{rules, Below-set}
+use mathlib.Core.List.{List}
+use mathlib.Core.Path.{◌≡◌, ap, ◌∙◌}
+use lib.ListN.{length, get_or, set, length-set}
+use borrow.Author.Rules.{rules}
 use Rattle.fsmd.specs.Layout.{max_registers}
 use Rattle.fsmd.proofs.RoomLaws.{four_more, rest_there}
 use Rattle.fsmd.proofs.clock.set_registers.Goals as goal
@@ -13,7 +12,7 @@ use Rattle.fsmd.proofs.clock.set_registers.Goals as goal
 pub returns-then-count-at : goal.returns-then-count-at
 returns-then-count-at c =
     let l = c.loop-at in
-    l.invariant.2 ∙ rest_there c.args.words.now c.args.registers.words l.at c.args.count max_registers c.if-count-at.true l.invariant.1 c.requires.0 c.requires.1
+    l.invariant.2 ∙ rest_there c.args.words.now c.args.registers.words l.at c.args.count max_registers c.if-count-at.true l.invariant.1 c.requires.max_registers_in_bounds c.requires.words_value
 
 pub loop-at-preserved : goal.loop-at-preserved
 loop-at-preserved c =

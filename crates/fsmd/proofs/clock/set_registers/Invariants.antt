@@ -1,13 +1,9 @@
 -- `fsmd::clock::set_registers` meets its contract: the first words are the registers', and the others are there already. Assumes nothing.
-use Prim.Native.Nat.{ℕ, ◌+◌, ◌-◌, ◌*◌, ◌≤◌}
-use native.Mathlib.Omega.{arith}
-use mathlib.Core.List.{List, ◌++◌}
-use mathlib.Core.Path.{◌≡◌, refl, ap, ◌∙◌}
-use lib.ListN.{length, get_or, take, drop, set, length-set}
-use lib.Seq.{take_all}
-use borrow.Author.Rules.{rules, Below-set}
+use Prim.Native.Nat.{ℕ, ◌-◌, ◌*◌, ◌≤◌}
+use mathlib.Core.List.{◌++◌}
+use mathlib.Core.Path.{◌≡◌}
+use lib.ListN.{length, take, drop}
 use Rattle.fsmd.specs.Layout.{max_registers}
-use Rattle.fsmd.proofs.RoomLaws.{four_more, rest_there}
 use Rattle.fsmd.proofs.clock.set_registers.Given as goal
 
 abbrev pub invariant-loop-at : goal.invariant-loop-at

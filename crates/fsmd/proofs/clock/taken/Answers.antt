@@ -1,13 +1,13 @@
 -- `fsmd::clock::taken` meets its contract: the first i registers are taken, the others as they were. Assumes nothing.
-use Prim.Native.Nat.{ℕ, ◌-◌, ◌≤◌, ◌<◌}
+use Prim.Native.Nat.{ℕ, ◌<◌}
 use native.Mathlib.Omega.{arith}
-use mathlib.Core.List.{List, ◌++◌, map}
-use mathlib.Core.Path.{◌≡◌, refl, ap, ◌∙◌}
-use lib.ListN.{length, take, drop, set}
+use mathlib.Core.List.{List}
+use mathlib.Core.Path.{◌≡◌, ap, ◌∙◌}
+use lib.ListN.{length, set}
 use borrow.Author.Rules.{rules}
 use Rattle.fsmd.specs.Clock.{read_in}
 use Rattle.fsmd.specs.Layout.{max_registers}
-use Rattle.fsmd.proofs.Windows.{put_more, put_all}
+use Rattle.fsmd.proofs.Windows.{put_more}
 use Rattle.fsmd.proofs.clock.taken.Goals as goal
 
 pub loop-i-preserved : goal.loop-i-preserved

@@ -1,12 +1,9 @@
 -- `fsmd::clock::word_at` meets its contract: what is left under the mask is the reference modulo the room's words. Assumes nothing.
-use Prim.Native.Nat.{ℕ, ◌-◌, ◌%◌, ◌≤◌, ◌<◌}
-use native.Mathlib.Nat.{mod-lt}
-use native.Mathlib.Omega.{arith}
+use Prim.Native.Nat.{ℕ, ◌-◌, ◌%◌, ◌≤◌}
 use mathlib.Core.Path.{◌≡◌, sym, ap, ◌∙◌, subst}
-use lib.Bits.{bit_and, and_mask, and_le_l}
+use lib.Bits.{bit_and, and_mask}
 use lib.ListN.{length, get_or}
 use lib.Pow.{pow_pos}
-use borrow.Author.Rules.{rules}
 use Rattle.fsmd.specs.Clock.{PowerOfTwo}
 use Rattle.fsmd.proofs.clock.word_at.Goals as goal
 

@@ -1,17 +1,14 @@
 -- `fsmd::run::fits_small` meets its contract: the states from k on decide for all. Assumes nothing.
-use Prim.Native.Nat.{ℕ, ◌+◌, ◌-◌, ◌≤◌}
+use Prim.Native.Nat.{ℕ, ◌+◌}
 use native.Mathlib.Omega.{arith}
 use mathlib.Core.Bool.{Bool, false, true}
 use mathlib.Core.List.{List}
 use mathlib.Core.Path.{◌≡◌, refl, sym, ap, ◌∙◌}
 use lib.Dec.{leb}
-use lib.ListN.{drop}
-use borrow.Author.Rules.{rules}
 use borrow.Author.Tests.{le-leb, lt-leb}
 use Rattle.runs.proofs.Every.{below_fails, below_passes, below_done}
 use Rattle.runs.specs.Lists.{up_from, every}
-use Rattle.fsmd.specs.Clock.{fits_small}
-use Rattle.fsmd.specs.Layout.{max_states, max_registers, small_room_words}
+use Rattle.fsmd.specs.Layout.{max_registers, small_room_words}
 use Rattle.fsmd.specs.Table.{wire_count_at}
 use Rattle.fsmd.proofs.Machines.{admitted_facts}
 use Rattle.fsmd.proofs.run.fits_small.Goals as goal
@@ -24,7 +21,7 @@ pub loop-k-init : goal.loop-k-init
 loop-k-init c =
     let t = c.args.table.now in
     let e = c.word_index-states.ensures.0 in
-    (omega arith, omega (arith, e, (admitted_facts t c.requires.1).few_states_lem), ap (λ (n : ℕ). every (fits t) (up_from 0 n)) (sym e))
+    (omega arith, omega (arith, e, (admitted_facts t c.requires.table_value).few_states_lem), ap (λ (n : ℕ). every (fits t) (up_from 0 n)) (sym e))
 
 pub returns-then-wire_count-gt-SMALL_ROOM : goal.returns-then-wire_count-gt-SMALL_ROOM
 returns-then-wire_count-gt-SMALL_ROOM c =

@@ -1,19 +1,14 @@
 -- `fsmd::run::fits_small` meets its contract: the states from k on decide for all. Assumes nothing.
 use Prim.Native.Nat.{ℕ, ◌+◌, ◌-◌, ◌≤◌}
-use native.Mathlib.Omega.{arith}
-use mathlib.Core.Bool.{Bool, false, true}
+use mathlib.Core.Bool.{Bool}
 use mathlib.Core.List.{List}
-use mathlib.Core.Path.{◌≡◌, refl, sym, ap, ◌∙◌}
+use mathlib.Core.Path.{◌≡◌}
 use lib.Dec.{leb}
 use lib.ListN.{drop}
-use borrow.Author.Rules.{rules}
-use borrow.Author.Tests.{le-leb, lt-leb}
-use Rattle.runs.proofs.Every.{below_fails, below_passes, below_done}
 use Rattle.runs.specs.Lists.{up_from, every}
 use Rattle.fsmd.specs.Clock.{fits_small}
 use Rattle.fsmd.specs.Layout.{max_states, max_registers, small_room_words}
 use Rattle.fsmd.specs.Table.{wire_count_at}
-use Rattle.fsmd.proofs.Machines.{admitted_facts}
 use Rattle.fsmd.proofs.run.fits_small.Given as goal
 
 -- whether state k fits

@@ -1,23 +1,13 @@
 -- `fsmd::run::run` meets its contract: the configuration so far is reached after `count` cycles, which counted `blocks`. Assumes nothing.
-use Prim.Native.Nat.{◌+◌, ◌-◌, ◌*◌, ◌<◌, ◌≤◌}
-use native.Mathlib.Omega.{arith}
-use mathlib.Core.Bool.{true}
-use mathlib.Core.Path.{◌≡◌, refl, sym, ap, ◌∙◌, subst}
-use lib.ListN.{length, get_or, take, drop}
-use lib.Seq.{take_at}
-use borrow.Author.Rules.{rules}
-use borrow.Author.Tests.{le-ltb}
-use Rattle.runs.proofs.RunLaws.{Reached, reached_start, reached_spent, registers_spent, reached_halted, reached_dry, registers_ended, halted_ends, dry_ends}
-use Rattle.runs.proofs.TotalLaws.{Totalled, totalled_start, totalled_spent, totalled_ended}
-use Rattle.runs.specs.Runs.{Contents, Configuration, stands_at, start_at, up_to, moved}
+use Prim.Native.Nat.{◌-◌, ◌*◌, ◌<◌, ◌≤◌}
+use mathlib.Core.Path.{◌≡◌}
+use lib.ListN.{length, get_or, take}
+use Rattle.runs.proofs.RunLaws.{Reached}
+use Rattle.runs.proofs.TotalLaws.{Totalled}
+use Rattle.runs.specs.Runs.{stands_at, start_at, up_to}
 use Rattle.fsmd.specs.Layout.{max_blocks, max_registers}
-use Rattle.fsmd.specs.Clock.{PowerOfTwo, after_cycle}
-use Rattle.fsmd.specs.Machine.{worked, machine_runner, blocks_run}
-use Rattle.fsmd.specs.Table.{machine_of, state_at}
-use Rattle.fsmd.proofs.BlockLaws.{wire_below}
-use Rattle.fsmd.proofs.ChainLaws.{few_arrived}
-use Rattle.fsmd.proofs.Machines.{admitted_facts}
-use Rattle.fsmd.proofs.Steps.{cycled, after_standing, after_halted}
+use Rattle.fsmd.specs.Machine.{machine_runner, blocks_run}
+use Rattle.fsmd.specs.Table.{machine_of}
 use Rattle.fsmd.proofs.run.run.Given as goal
 
 abbrev pub invariant-loop-count : goal.invariant-loop-count

@@ -1,15 +1,12 @@
 -- `fsmd::sampling::is_wordless` meets its contract: the states from k on decide for all. Assumes nothing.
-use Prim.Native.Nat.{◌-◌, ◌≤◌, ◌<◌}
-use native.Mathlib.Omega.{arith}
-use mathlib.Core.Path.{◌≡◌, sym, ap₂, ◌∙◌}
-use lib.ListN.{get_or, drop}
-use borrow.Author.Rules.{rules}
-use Rattle.runs.proofs.Every.{below_fails, below_passes, below_done}
+use Prim.Native.Nat.{◌-◌, ◌≤◌}
+use mathlib.Core.Path.{◌≡◌}
+use lib.ListN.{drop}
 use Rattle.runs.specs.Lists.{up_from, every}
 use Rattle.fsmd.specs.Layout.{max_states}
 use Rattle.fsmd.specs.Machine.{wordless_machine}
 use Rattle.fsmd.specs.Table.{machine_of}
-use Rattle.fsmd.proofs.Machines.{wordless_wires, wordless_state, wordless_is, admitted_facts}
+use Rattle.fsmd.proofs.Machines.{wordless_state}
 use Rattle.fsmd.proofs.sampling.is_wordless.Given as goal
 
 abbrev pub invariant-loop-k : goal.invariant-loop-k

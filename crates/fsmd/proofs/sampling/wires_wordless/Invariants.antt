@@ -1,15 +1,12 @@
 -- `fsmd::sampling::wires_wordless` meets its contract: the wires from n on decide for all. Assumes nothing.
 use Prim.Native.Nat.{◌-◌, ◌≤◌}
-use native.Mathlib.Omega.{arith}
 use mathlib.Core.Bool.{not}
-use mathlib.Core.Path.{◌≡◌, refl, sym, ◌∙◌}
+use mathlib.Core.Path.{◌≡◌}
 use lib.Dec.{eqb}
 use lib.ListN.{drop}
-use borrow.Author.Rules.{rules}
-use borrow.Author.Tests.{eq-eqb, ne_eqb}
 use Rattle.runs.specs.Lists.{every}
 use Rattle.fsmd.proofs.Machines.{wordless_wires}
-use Rattle.fsmd.proofs.Windows.{wires_from, wires_next, wires_end}
+use Rattle.fsmd.proofs.Windows.{wires_from}
 use Rattle.fsmd.proofs.sampling.wires_wordless.Given as goal
 
 abbrev pub invariant-loop-n : goal.invariant-loop-n

@@ -1,6 +1,5 @@
 -- `fsmd::table::wire` meets its contract: the four words are those of the definition. Assumes nothing.
 use mathlib.Core.Path.{refl}
-use borrow.Author.Rules.{rules}
 use Rattle.fsmd.specs.Table.{wire_at}
 use Rattle.fsmd.proofs.table.wire.Goals as goal
 

@@ -1,9 +1,7 @@
 -- `fsmd::touch::touch_word` meets its contract: after the registers from i on, the word has their bits. Assumes nothing.
-use Prim.Native.Nat.{◌≤◌}
 use native.Mathlib.Omega.{arith}
 use mathlib.Core.Path.{◌≡◌, sym, ap, ◌∙◌}
 use lib.ListN.{length}
-use borrow.Author.Rules.{rules}
 use Rattle.fsmd.proofs.TouchLaws.{bits_from, bits_all, bits_none, bits_few, bits_step}
 use Rattle.fsmd.proofs.touch.touch_word.Goals as goal
 
@@ -11,7 +9,9 @@ pub loop-i-init : goal.loop-i-init
 loop-i-init c = let next = c.args.next.now in (omega arith, sym (bits_none next (length next) (omega arith)))
 
 pub with_bit-word-requires-clause-bits_bound : goal.with_bit-word-requires-clause-bits_bound
-with_bit-word-requires-clause-bits_bound c = ?
+with_bit-word-requires-clause-bits_bound c =
+    let few = bits_few c.args.next.now c.loop-i.i c.requires in
+    omega (arith, c.loop-i.invariant.1, few)
 
 pub loop-i-preserved : goal.loop-i-preserved
 loop-i-preserved c =

@@ -1,10 +1,8 @@
 -- `fsmd::touch::touch_word` meets its contract: after the registers from i on, the word has their bits. Assumes nothing.
 use Prim.Native.Nat.{◌≤◌}
-use native.Mathlib.Omega.{arith}
-use mathlib.Core.Path.{◌≡◌, sym, ap, ◌∙◌}
+use mathlib.Core.Path.{◌≡◌}
 use lib.ListN.{length}
-use borrow.Author.Rules.{rules}
-use Rattle.fsmd.proofs.TouchLaws.{bits_from, bits_all, bits_none, bits_few, bits_step}
+use Rattle.fsmd.proofs.TouchLaws.{bits_from}
 use Rattle.fsmd.proofs.touch.touch_word.Given as goal
 
 abbrev pub invariant-loop-i : goal.invariant-loop-i

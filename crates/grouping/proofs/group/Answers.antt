@@ -1,0 +1,43 @@
+-- `grouping::group` meets its contract: each pass of its loop is a round of `GroupingRounds`. Assumes nothing.
+use mathlib.Core.Path.{◌≡◌, sym, ◌∙◌}
+use Prim.Native.Nat.{◌-◌, ◌<◌}
+use native.Mathlib.Omega.{arith}
+use lib.ListN.{length}
+use Rattle.cfg.specs.Layout.{max_blocks}
+use Rattle.cfg.specs.Table.{graph_of}
+use Rattle.grouping.specs.Grouping.{groups}
+use Rattle.grouping.specs.Answer.{grouping_of}
+use Rattle.grouping.specs.Bytes.{starters_of, population}
+use Rattle.grouping.proofs.Reach.{admitted_closed}
+use Rattle.grouping.proofs.GroupingRounds.{Round, round_few, round_first, states_64, illegal_low, round_on, round_last}
+use borrow.Author.Rules.{rules}
+use Rattle.grouping.proofs.group.Goals as goal
+
+-- an illegal edge leads to the next round
+on : (c : goal.at.After-with-more {- TODO place -} invariant-loop decreases-loop) → Round (graph_of c.before.before.before.before.before.before.before.before.before.before.before.before.before.before.args.table.now) (groups (graph_of c.before.before.before.before.before.before.before.before.before.before.before.before.before.before.args.table.now)) c.with.result × (length (starters_of c.before.before.before.before.before.before.before.loop.starters) < length (starters_of c.with.result))
+on c =
+    let l = c.before.before.before.before.before.before.before.loop in
+    round_on (graph_of c.before.before.before.before.before.before.before.before.before.before.before.before.before.before.args.table.now) (admitted_closed c.before.before.before.before.before.before.before.before.before.before.before.before.before.before.args.table.now c.before.before.before.before.before.before.before.before.before.before.before.before.before.before.requires) c.before.before.before.before.before.before.before.before.before.before.before.before.edges-of.result c.before.before.before.before.before.before.before.before.before.before.before.before.edges-of.ensures (groups (graph_of c.before.before.before.before.before.before.before.before.before.before.before.before.before.before.args.table.now)) l.starters l.invariant.0 l.states l.invariant.1 c.before.before.found.given.0.0 (sym c.before.before.before.before.detect.ensures ∙ c.before.before.found.given.1) c.with.result c.with.ensures.0 c.with.ensures.1
+
+pub loop-block-init : goal.loop-block-init
+loop-block-init c =
+    let e = c.edges_of-edges in
+    let l = c.loop_starters-starters in
+    (round_first (graph_of c.args.table.now) (admitted_closed c.args.table.now c.requires) e.result e.ensures l.result l.ensures.0 l.ensures.1, c.populate-states.ensures)
+
+pub returns-in_default : goal.returns-in_default
+unfolding grouping_of
+returns-in_default c =
+    let l = c.loop-block in
+    round_last (graph_of c.args.table.now) (admitted_closed c.args.table.now c.requires) c.edges_of-edges.result c.edges_of-edges.ensures (groups (graph_of c.args.table.now)) l.starters l.invariant.0 l.states l.invariant.1 (sym c.detect-found.ensures ∙ c.in_default.is)
+
+pub with-more-requires : goal.with-more-requires
+with-more-requires c κs =
+    let l = c.loop-block in
+    (l.invariant.0.listed, illegal_low (graph_of c.args.table.now) (admitted_closed c.args.table.now c.requires) c.edges_of-edges.result c.edges_of-edges.ensures (groups (graph_of c.args.table.now)) l.starters l.invariant.0 l.states l.invariant.1 c.in-IllegalTo.block (sym c.detect-found.ensures ∙ c.in-IllegalTo.is))
+
+pub loop-block-smaller : goal.loop-block-smaller
+loop-block-smaller c = let n = on c.before.before in omega (arith, n.1, round_few (admitted_closed c.args.table.now c.requires) n.0)
+
+pub loop-block-preserved : goal.loop-block-preserved
+loop-block-preserved c = ((on c.before.before).0, c.populate-fresh.ensures)

@@ -13,12 +13,6 @@ use Rattle.grouping.proofs.GroupingRounds.{Round, round_few, round_first, states
 use borrow.Author.Rules.{rules}
 use Rattle.grouping.proofs.group.Goals as goal
 
--- an illegal edge leads to the next round
-on : (c : goal.at.After-with-more {- TODO place -} invariant-loop decreases-loop) → Round (graph_of c.before.before.before.before.before.before.before.before.before.before.before.before.before.before.args.table.now) (groups (graph_of c.before.before.before.before.before.before.before.before.before.before.before.before.before.before.args.table.now)) c.with.result × (length (starters_of c.before.before.before.before.before.before.before.loop.starters) < length (starters_of c.with.result))
-on c =
-    let l = c.before.before.before.before.before.before.before.loop in
-    round_on (graph_of c.before.before.before.before.before.before.before.before.before.before.before.before.before.before.args.table.now) (admitted_closed c.before.before.before.before.before.before.before.before.before.before.before.before.before.before.args.table.now c.before.before.before.before.before.before.before.before.before.before.before.before.before.before.requires) c.before.before.before.before.before.before.before.before.before.before.before.before.edges-of.result c.before.before.before.before.before.before.before.before.before.before.before.before.edges-of.ensures (groups (graph_of c.before.before.before.before.before.before.before.before.before.before.before.before.before.before.args.table.now)) l.starters l.invariant.0 l.states l.invariant.1 c.before.before.found.given.0.0 (sym c.before.before.before.before.detect.ensures ∙ c.before.before.found.given.1) c.with.result c.with.ensures.0 c.with.ensures.1
-
 pub loop-block-init : goal.loop-block-init
 loop-block-init c =
     let e = c.edges_of-edges in
@@ -32,12 +26,12 @@ returns-in_default c =
     round_last (graph_of c.args.table.now) (admitted_closed c.args.table.now c.requires) c.edges_of-edges.result c.edges_of-edges.ensures (groups (graph_of c.args.table.now)) l.starters l.invariant.0 l.states l.invariant.1 (sym c.detect-found.ensures ∙ c.in_default.is)
 
 pub with-more-requires : goal.with-more-requires
-with-more-requires c κs =
+with-more-requires c =
     let l = c.loop-block in
     (l.invariant.0.listed, illegal_low (graph_of c.args.table.now) (admitted_closed c.args.table.now c.requires) c.edges_of-edges.result c.edges_of-edges.ensures (groups (graph_of c.args.table.now)) l.starters l.invariant.0 l.states l.invariant.1 c.in-IllegalTo.block (sym c.detect-found.ensures ∙ c.in-IllegalTo.is))
 
 pub loop-block-smaller : goal.loop-block-smaller
-loop-block-smaller c = let n = on c.before.before in omega (arith, n.1, round_few (admitted_closed c.args.table.now c.requires) n.0)
+loop-block-smaller c = let n = round_on (graph_of c.args.table.now) (admitted_closed c.args.table.now c.requires) c.edges_of-edges.result c.edges_of-edges.ensures (groups (graph_of c.args.table.now)) c.loop-block.starters c.loop-block.invariant.0 c.loop-block.states c.loop-block.invariant.1 c.in-IllegalTo.block (sym c.detect-found.ensures ∙ c.in-IllegalTo.is) c.with-more.result c.with-more.ensures.0 c.with-more.ensures.1 in omega (arith, n.1, round_few (admitted_closed c.args.table.now c.requires) n.0)
 
 pub loop-block-preserved : goal.loop-block-preserved
-loop-block-preserved c = ((on c.before.before).0, c.populate-fresh.ensures)
+loop-block-preserved c = ((round_on (graph_of c.args.table.now) (admitted_closed c.args.table.now c.requires) c.edges_of-edges.result c.edges_of-edges.ensures (groups (graph_of c.args.table.now)) c.loop-block.starters c.loop-block.invariant.0 c.loop-block.states c.loop-block.invariant.1 c.in-IllegalTo.block (sym c.detect-found.ensures ∙ c.in-IllegalTo.is) c.with-more.result c.with-more.ensures.0 c.with-more.ensures.1).0, c.populate-fresh.ensures)

@@ -11,12 +11,6 @@ use borrow.Author.Rules.{rules}
 use Rattle.cfg.specs.Layout.{max_blocks}
 use Rattle.grouping.proofs.detection.detect.Goals as goal
 
--- a block that is not visited yet finds room on the stack
-room : (c : goal.at.overflow_cast-passed invariant-edges decreases-edges invariant-visit decreases-visit) → c.before.before.before.before.before.before.before.before.before.before.edges.depth < max_blocks
-room c =
-    let a = c.before.before.before.before.before.before.before.before in
-    detect_room a.before.before.edges.invariant.0 a.at.result c.before.before.before.before.before.before.before.byte-index3.result c.before.before.before.before.before.before.before.byte-index3.ensures.0 a.at.ensures a.before.edges-test.true c.before.before.before.before.before.before.if1.true c.if3.true
-
 pub visit-init : goal.visit-init
 visit-init c = (detect_begins c.args.edges.now c.args.starters c.args.states.now c.requires, refl)
 
@@ -32,31 +26,31 @@ edges-init c =
     (detect_enters v.invariant.0 c.visit-test.true c.byte_index-block.result c.byte_index-k.result c.byte_index-block.ensures.0 c.byte_index-k.ensures.0, v.invariant.1, refl, refl)
 
 pub bounds-passed-depth-then-seen-t-eq0 : goal.bounds-passed-depth-then-seen-t-eq0
-bounds-passed-depth-then-seen-t-eq0 c = omega (arith, room c)
+bounds-passed-depth-then-seen-t-eq0 c = omega (arith, detect_room c.edges.invariant.0 c.at-to.result c.byte_index-t.result c.byte_index-t.ensures.0 c.at-to.ensures c.edges-test.true c.if-t-lt-BLOCKS.true c.if-seen-t-eq0.true)
 
 pub bounds-stack-depth-then-seen-t-eq0 : goal.bounds-stack-depth-then-seen-t-eq0
-bounds-stack-depth-then-seen-t-eq0 c = room c
+bounds-stack-depth-then-seen-t-eq0 c = detect_room c.edges.invariant.0 c.at-to.result c.byte_index-t.result c.byte_index-t.ensures.0 c.at-to.ensures c.edges-test.true c.if-t-lt-BLOCKS.true c.if-seen-t-eq0.true
 
 pub bounds-passed-depth-then-seen-t-eq0-2 : goal.bounds-passed-depth-then-seen-t-eq0-2
-bounds-passed-depth-then-seen-t-eq0-2 c = room c
+bounds-passed-depth-then-seen-t-eq0-2 c = detect_room c.edges.invariant.0 c.at-to.result c.byte_index-t.result c.byte_index-t.ensures.0 c.at-to.ensures c.edges-test.true c.if-t-lt-BLOCKS.true c.if-seen-t-eq0.true
 
 pub overflow_add-depth : goal.overflow_add-depth
-overflow_add-depth c = omega (arith, room c)
+overflow_add-depth c = omega (arith, detect_room c.edges.invariant.0 c.at-to.result c.byte_index-t.result c.byte_index-t.ensures.0 c.at-to.ensures c.edges-test.true c.if-t-lt-BLOCKS.true c.if-seen-t-eq0.true)
 
 pub visit-smaller-then-seen-t-eq0 : goal.visit-smaller-then-seen-t-eq0
 visit-smaller-then-seen-t-eq0 c =
     let i = c.edges.invariant in
-    detect_falls i.0 c.at.result c.byte-index3.result c.byte-index3.ensures.0 c.at.ensures c.edges-test.true c.if1.true c.if-seen-t-eq0.true i.2 i.3
+    detect_falls i.0 c.at-to.result c.byte_index-t.result c.byte_index-t.ensures.0 c.at-to.ensures c.edges-test.true c.if-t-lt-BLOCKS.true c.if-seen-t-eq0.true i.2 i.3
 
 pub visit-preserved-then-seen-t-eq0 : goal.visit-preserved-then-seen-t-eq0
 visit-preserved-then-seen-t-eq0 c =
     let i = c.edges.invariant in
-    (detect_pushes i.0 c.at.result c.byte-index3.result c.byte-index3.ensures.0 c.at.ensures c.edges-test.true c.if1.true (sym c.illegal.ensures ∙ c.if-illegal.false) c.if-seen-t-eq0.true, i.1)
+    (detect_pushes i.0 c.at-to.result c.byte_index-t.result c.byte_index-t.ensures.0 c.at-to.ensures c.edges-test.true c.if-t-lt-BLOCKS.true (sym c.illegal.ensures ∙ c.if-illegal.false) c.if-seen-t-eq0.true, i.1)
 
 pub edges-preserved-else-seen-t-eq0 : goal.edges-preserved-else-seen-t-eq0
 edges-preserved-else-seen-t-eq0 c =
     let i = c.edges.invariant in
-    (detect_known i.0 c.at.result c.byte-index3.result c.byte-index3.ensures.0 c.at.ensures c.edges-test.true c.if1.true (sym c.illegal.ensures ∙ c.if-illegal.false) c.if-seen-t-eq0.false, i.1, i.2, i.3)
+    (detect_known i.0 c.at-to.result c.byte_index-t.result c.byte_index-t.ensures.0 c.at-to.ensures c.edges-test.true c.if-t-lt-BLOCKS.true (sym c.illegal.ensures ∙ c.if-illegal.false) c.if-seen-t-eq0.false, i.1, i.2, i.3)
 
 pub edges-preserved : goal.edges-preserved
 edges-preserved c =
@@ -73,4 +67,4 @@ returns-after-visit c =
 
 pub returns-then-illegal : goal.returns-then-illegal
 returns-then-illegal c =
-        detect_stops c.edges.invariant.0 c.at.result c.byte-index3.result c.byte-index3.ensures.0 c.at.ensures c.edges-test.true c.if1.true (sym c.illegal.ensures ∙ c.if-illegal.true)
+        detect_stops c.edges.invariant.0 c.at-to.result c.byte_index-t.result c.byte_index-t.ensures.0 c.at-to.ensures c.edges-test.true c.if-t-lt-BLOCKS.true (sym c.illegal.ensures ∙ c.if-illegal.true)

@@ -11,12 +11,6 @@ use borrow.Author.Rules.{rules}
 use Rattle.cfg.specs.Layout.{max_blocks}
 use Rattle.grouping.proofs.loops.loop_starters.Goals as goal
 
--- a block that is met for the first time finds room on the stack
-room : (c : goal.at.overflow_cast-passed invariant-edges decreases-edges invariant-visit decreases-visit) → c.before.before.before.before.before.edges.depth < max_blocks
-room c =
-    let a = c.before.before.before in
-    loop_room a.before.before.edges.invariant.0 a.at.result c.before.before.byte-index3.result c.before.before.byte-index3.ensures.0 a.at.ensures a.before.edges-test.true c.before.if1.true c.if2.true
-
 pub visit-init : goal.visit-init
 visit-init c = loop_begins c.args.edges.now c.entry-starters.result c.entry-starters.ensures.0 c.entry-starters.ensures.1
 
@@ -32,16 +26,16 @@ edges-init c =
     (loop_enters v.invariant c.visit-test.true c.byte_index-block.result c.byte_index-k.result c.byte_index-block.ensures.0 c.byte_index-k.ensures.0, refl, refl)
 
 pub bounds-passed-depth-then-marks-t-eq0 : goal.bounds-passed-depth-then-marks-t-eq0
-bounds-passed-depth-then-marks-t-eq0 c = omega (arith, room c)
+bounds-passed-depth-then-marks-t-eq0 c = omega (arith, loop_room c.edges.invariant.0 c.at-to.result c.byte_index-t.result c.byte_index-t.ensures.0 c.at-to.ensures c.edges-test.true c.if-t-lt-BLOCKS.true c.if-marks-t-eq0.true)
 
 pub bounds-stack-depth-then-marks-t-eq0 : goal.bounds-stack-depth-then-marks-t-eq0
-bounds-stack-depth-then-marks-t-eq0 c = room c
+bounds-stack-depth-then-marks-t-eq0 c = loop_room c.edges.invariant.0 c.at-to.result c.byte_index-t.result c.byte_index-t.ensures.0 c.at-to.ensures c.edges-test.true c.if-t-lt-BLOCKS.true c.if-marks-t-eq0.true
 
 pub bounds-passed-depth-then-marks-t-eq0-2 : goal.bounds-passed-depth-then-marks-t-eq0-2
-bounds-passed-depth-then-marks-t-eq0-2 c = room c
+bounds-passed-depth-then-marks-t-eq0-2 c = loop_room c.edges.invariant.0 c.at-to.result c.byte_index-t.result c.byte_index-t.ensures.0 c.at-to.ensures c.edges-test.true c.if-t-lt-BLOCKS.true c.if-marks-t-eq0.true
 
 pub overflow_add-depth : goal.overflow_add-depth
-overflow_add-depth c = omega (arith, room c)
+overflow_add-depth c = omega (arith, loop_room c.edges.invariant.0 c.at-to.result c.byte_index-t.result c.byte_index-t.ensures.0 c.at-to.ensures c.edges-test.true c.if-t-lt-BLOCKS.true c.if-marks-t-eq0.true)
 
 pub visit-smaller-then-marks-t-eq0 : goal.visit-smaller-then-marks-t-eq0
 visit-smaller-then-marks-t-eq0 c =

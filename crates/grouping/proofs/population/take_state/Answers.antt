@@ -3,39 +3,35 @@ use mathlib.Core.Path.{◌≡◌, refl, sym, ap, ◌∙◌}
 use Prim.Native.Nat.{ℕ, ◌+◌, ◌-◌, ◌*◌, ◌<◌}
 use native.Mathlib.Omega.{arith}
 use lib.Dec.{lit<}
-use lib.ListN.{get_or}
+use lib.ListN.{length, get_or}
 use Rattle.fsmd.specs.Layout.{absent}
-use Rattle.grouping.specs.Bytes.{used, taken}
+use Rattle.grouping.specs.Bytes.{Marking, used, taken}
 use Rattle.grouping.proofs.ByteStack.{shallow}
 use Rattle.grouping.proofs.PopulationSearch.{take_rest, TakeVisit, TakeEdges, take_nothing, take_begins, take_whole, take_ends, take_onward, take_enters, take_pops, take_none, take_known, take_starter, take_room, take_falls, take_pushes}
+use mathlib.Core.List.{List}
 use borrow.Author.Rules.{rules}
 use Rattle.cfg.specs.Layout.{max_blocks}
 use Rattle.grouping.proofs.population.take_state.Goals as goal
 
-few : (c : tie.After-byte-index invariant-edges decreases-edges invariant-visit decreases-visit) → c.before.before.before.before.before.args.k < max_blocks
-few c = let a = c.before.before.before.before.before in omega (arith, a.requires.1, a.requires.0.few)
+-- what the starter's byte is, by the state's number
+first_is : (starters : List ℕ) (root number k : ℕ) → root ≡ get_or starters number 0 → number ≡ k → root ≡ get_or starters k 0
+first_is starters root number k e f = e ∙ ap (λ (n : ℕ). get_or starters n 0) f
 
--- the starter's byte, and that it is a block
-first_is : (c : tie.After-byte-index2 invariant-edges decreases-edges invariant-visit decreases-visit) → c.byte-index2.result ≡ get_or c.before.before.before.before.before.before.before.args.starters.now c.before.before.before.before.before.before.before.args.k 0
-first_is c = c.byte-index2.ensures.0 ∙ ap (λ (n : ℕ). get_or c.before.before.before.before.before.before.before.args.starters.now n 0) c.before.before.byte-index.ensures.0
+-- and that it is a block
+root_low : (starters marks : List ℕ) (root k : ℕ) → Marking starters marks → k < length starters → root ≡ get_or starters k 0 → root < max_blocks
+root_low starters marks root k m l e = rw e (m.blocks k l)
 
-root-low : (c : tie.After-byte-index2 invariant-edges decreases-edges invariant-visit decreases-visit) → c.byte-index2.result < max_blocks
-root-low c = rw (first_is c) (c.before.before.before.before.before.before.before.requires.0.blocks c.before.before.before.before.before.before.before.args.k c.before.before.before.before.before.before.before.requires.1)
-
--- a block that is not taken yet finds room on the stack
-room : (c : goal.at.overflow_cast-passed invariant-edges decreases-edges invariant-visit decreases-visit) → c.before.before.before.before.before.before.before.before.edges.depth < max_blocks
-room c =
-    let a = c.before.before.before.before.before.before in
-    take_room a.before.before.edges.invariant.0 a.at.result c.before.before.before.before.before.byte-index5.result c.before.before.before.before.before.byte-index5.ensures.0 a.at.ensures a.before.edges-test.true c.before.before.before.before.if2.true c.before.before.if3.true
+number_low : (starters marks : List ℕ) (k : ℕ) → Marking starters marks → k < length starters → k < absent
+number_low starters marks k m l = omega (arith, m.few)
 
 pub returns-then-states-root : goal.returns-then-states-root
 returns-then-states-root c =
-        take_nothing c.args.edges.now c.args.starters.now c.args.marks.now (get_or c.args.starters.now c.args.k 0) c.byte_index-root.result c.args.k (first_is c.before.before) c.args.states.now c.requires.2 (root-low c.before.before) c.if-states-root.true
+        take_nothing c.args.edges.now c.args.starters.now c.args.marks.now (get_or c.args.starters.now c.args.k 0) c.byte_index-root.result c.args.k (first_is c.args.starters.now c.byte_index-root.result c.byte_index-number.result c.args.k c.byte_index-root.ensures.0 c.byte_index-number.ensures.0) c.args.states.now c.requires.2 (root_low c.args.starters.now c.args.marks.now c.byte_index-root.result c.args.k c.requires.0 c.requires.1 (first_is c.args.starters.now c.byte_index-root.result c.byte_index-number.result c.args.k c.byte_index-root.ensures.0 c.byte_index-number.ensures.0)) c.if-states-root.true
 
 pub visit-init : goal.visit-init
 visit-init c =
-    let k_low : c.args.k < absent = omega (arith, few c.before.before.before.before) in
-    take_begins c.args.edges.now c.args.starters.now c.args.marks.now (get_or c.args.starters.now c.byte_index-number.result 0) c.byte_index-root.result c.args.k c.byte_index-root.ensures.0 c.args.states.now c.requires.2 (root-low c.before.before) k_low c.if-states-root.false c.requires.0
+    let k_low : c.args.k < absent = number_low c.args.starters.now c.args.marks.now c.args.k c.requires.0 c.requires.1 in
+    take_begins c.args.edges.now c.args.starters.now c.args.marks.now (get_or c.args.starters.now c.byte_index-number.result 0) c.byte_index-root.result c.args.k c.byte_index-root.ensures.0 c.args.states.now c.requires.2 (root_low c.args.starters.now c.args.marks.now c.byte_index-root.result c.args.k c.requires.0 c.requires.1 (first_is c.args.starters.now c.byte_index-root.result c.byte_index-number.result c.args.k c.byte_index-root.ensures.0 c.byte_index-number.ensures.0)) k_low c.if-states-root.false c.requires.0
 
 pub bounds-stack-depth : goal.bounds-stack-depth
 bounds-stack-depth c = omega (arith, c.visit-test.true, shallow c.visit.invariant.on.sized)
@@ -49,16 +45,16 @@ edges-init c =
     (take_enters v.invariant c.visit-test.true c.byte_index-block.result c.byte_index-j.result c.byte_index-block.ensures.0 c.byte_index-j.ensures.0, refl, refl)
 
 pub bounds-passed-depth-then-marks-t-eq0 : goal.bounds-passed-depth-then-marks-t-eq0
-bounds-passed-depth-then-marks-t-eq0 c = omega (arith, room c)
+bounds-passed-depth-then-marks-t-eq0 c = omega (arith, take_room c.edges.invariant.0 c.at-to.result c.byte_index-t.result c.byte_index-t.ensures.0 c.at-to.ensures c.edges-test.true c.if-t-lt-BLOCKS.true c.if-states-t.true)
 
 pub bounds-stack-depth-then-marks-t-eq0 : goal.bounds-stack-depth-then-marks-t-eq0
-bounds-stack-depth-then-marks-t-eq0 c = room c
+bounds-stack-depth-then-marks-t-eq0 c = take_room c.edges.invariant.0 c.at-to.result c.byte_index-t.result c.byte_index-t.ensures.0 c.at-to.ensures c.edges-test.true c.if-t-lt-BLOCKS.true c.if-states-t.true
 
 pub bounds-passed-depth-then-marks-t-eq0-2 : goal.bounds-passed-depth-then-marks-t-eq0-2
-bounds-passed-depth-then-marks-t-eq0-2 c = room c
+bounds-passed-depth-then-marks-t-eq0-2 c = take_room c.edges.invariant.0 c.at-to.result c.byte_index-t.result c.byte_index-t.ensures.0 c.at-to.ensures c.edges-test.true c.if-t-lt-BLOCKS.true c.if-states-t.true
 
 pub overflow_add-depth : goal.overflow_add-depth
-overflow_add-depth c = omega (arith, room c)
+overflow_add-depth c = omega (arith, take_room c.edges.invariant.0 c.at-to.result c.byte_index-t.result c.byte_index-t.ensures.0 c.at-to.ensures c.edges-test.true c.if-t-lt-BLOCKS.true c.if-states-t.true)
 
 pub visit-smaller-then-marks-t-eq0 : goal.visit-smaller-then-marks-t-eq0
 visit-smaller-then-marks-t-eq0 c =
@@ -90,7 +86,7 @@ visit-preserved c = take_onward (take_pops c.edges.invariant.0 c.edges-test.fals
 
 pub returns : goal.returns
 returns c =
-    let k_low : c.args.k < absent = omega (arith, few c.before.before.before.before.before.before) in
+    let k_low : c.args.k < absent = number_low c.args.starters.now c.args.marks.now c.args.k c.requires.0 c.requires.1 in
     take_ends c.visit.invariant (omega (arith, c.visit-test.false))
-    ∙ take_whole c.args.edges.now c.args.starters.now c.args.marks.now (get_or c.args.starters.now c.byte_index-number.result 0) c.byte_index-root.result c.args.k c.byte_index-root.ensures.0 c.args.states.now c.requires.2 (root-low c.before.before.before.before) k_low c.if-states-root.false
+    ∙ take_whole c.args.edges.now c.args.starters.now c.args.marks.now (get_or c.args.starters.now c.byte_index-number.result 0) c.byte_index-root.result c.args.k c.byte_index-root.ensures.0 c.args.states.now c.requires.2 (root_low c.args.starters.now c.args.marks.now c.byte_index-root.result c.args.k c.requires.0 c.requires.1 (first_is c.args.starters.now c.byte_index-root.result c.byte_index-number.result c.args.k c.byte_index-root.ensures.0 c.byte_index-number.ensures.0)) k_low c.if-states-root.false
     ∙ ap (λ (n : ℕ). taken c.args.edges.now c.args.starters.now (get_or c.args.starters.now n 0) c.args.k c.args.states.now) c.byte_index-number.ensures.0

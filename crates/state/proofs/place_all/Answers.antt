@@ -1,0 +1,62 @@
+-- `place_all` places the blocks from nothing: what is placed and the rest come to the whole. Assumes nothing.
+use Prim.Native.Nat.{◌-◌, ◌*◌, ◌≤◌, ◌<◌}
+use mathlib.Core.Path.{◌≡◌, refl, sym, ap, ◌∙◌, subst}
+use native.Mathlib.Omega.{arith}
+use lib.ListN.{length, drop}
+use Rattle.state.specs.Wires.{StateBuild, nothing}
+use Rattle.state.specs.Making.{Placeable, state_build_in}
+use Rattle.state.specs.BlocksMaking.{with_arrivals}
+use Rattle.state.proofs.BlocksLaws.{Going, going_first, going_last, going_room, put_room, put_next}
+use Rattle.state.proofs.ArrivalLaws.{none_built, listed_next, arrivals_last}
+use borrow.Author.Rules.{rules}
+use Rattle.state.proofs.place_all.Goals as goal
+
+pub loop-i-init : goal.loop-i-init
+loop-i-init c =
+    let a = c.args in (
+      omega arith,
+      going_first (length a.values.now) a.graph.now a.starters.now a.order.now a.wires.now a.targets.now a.rows.now,
+      refl,
+      refl,
+      refl,
+      refl,
+      omega arith,
+      refl,
+      ap (λ (b : StateBuild). with_arrivals (length a.values.now) a.graph.now a.starters.now a.order.now b a.arrivals.now)
+          (none_built (length a.values.now) a.targets.now a.rows.now a.wires.now),
+    )
+
+pub put-next-requires-clause-values_len_bound : goal.put-next-requires-clause-values_len_bound
+put-next-requires-clause-values_len_bound c = ?
+
+pub put-next-requires-clause-room : goal.put-next-requires-clause-room
+put-next-requires-clause-room c = ?
+
+pub loop-i-preserved : goal.loop-i-preserved
+loop-i-preserved c =
+    let a = c.args in
+    let l = c.loop-i in
+    let v = l.invariant in
+    let lt : l.i < length a.order.now = c.loop-i-test.true in
+    let ex = c.byte_word-x.ensures.0 in
+    let ec = c.is_starter-starter.ensures in
+    let u = c.put-next in (
+      omega arith,
+      put_next (length a.values.now) a.graph.now a.starters.now a.order.now a.wires.now l.i l.targets l.rows l.made.edges l.made.wires l.wires v.1
+          (length l.values) c.byte_word-x.result c.is_starter-starter.result v.3 ex ec lt _ _ _ _ _ u.ensures.0,
+      u.auto.1.1.1.1.0 ∙ v.2,
+      u.auto.1.1.1.1.1.0 ∙ v.3,
+      u.auto.1.1.1.1.1.1.0 ∙ v.4,
+      u.auto.1.1.1.1.1.1.1.0 ∙ v.5,
+      omega (arith, u.ensures.1.0),
+      u.auto.1.1.1.1.1.1.1.1.0 ∙ v.7,
+      listed_next (length a.values.now) a.graph.now a.starters.now a.order.now l.i l.targets l.rows l.made.edges l.made.wires l.wires l.arrivals
+          (length l.values) c.byte_word-x.result c.is_starter-starter.result v.3 ex ec lt _ _ _ _ _ _ u.ensures.0.build u.ensures.1.1
+          ∙ v.8,
+    )
+
+pub returns-clause-built : goal.returns-clause-built
+returns-clause-built c = ?
+
+pub returns-clause-arrivals_after : goal.returns-clause-arrivals_after
+returns-clause-arrivals_after c = ?

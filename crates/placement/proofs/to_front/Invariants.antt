@@ -1,0 +1,12 @@
+-- `placement::to_front` meets its contract: the places passed hold the block and then those before them. Assumes nothing.
+use Prim.Native.Nat.{◌+◌, ◌-◌}
+use native.Mathlib.Omega.{arith}
+use borrow.Author.Rules.{rules}
+use Rattle.placement.proofs.PlacementSteps.{Moving, moving_begins, moving_on, moving_done}
+use Rattle.placement.proofs.to_front.Given as goal
+
+abbrev pub invariant-loop-j : goal.invariant-loop-j
+invariant-loop-j l = Moving l.initial.left l.i l.left l.carried l.j
+
+abbrev pub decreases-loop-j : goal.decreases-loop-j
+decreases-loop-j l = l.i + 1 - l.j

@@ -1,14 +1,10 @@
 -- `placement::choose` meets its contract: every block passed waits for an edge. Assumes nothing.
-use mathlib.Core.Bool.{true, false}
-use mathlib.Core.Path.{◌≡◌, refl, ◌∙◌}
+use mathlib.Core.Path.{◌≡◌}
 use Prim.Native.Nat.{◌-◌, ◌≤◌}
-use native.Mathlib.Omega.{arith}
 use lib.Dec.{eqb}
-use lib.ListN.{length, drop, get_or}
-use borrow.Author.Rules.{rules}
+use lib.ListN.{length, drop}
 use Rattle.runs.specs.Lists.{first}
 use Rattle.placement.specs.PlacementBytes.{counts_in}
-use Rattle.placement.proofs.PlacementSteps.{count_zero, first_here, first_on, first_done}
 use Rattle.placement.proofs.choose.Given as goal
 
 abbrev pub invariant-loop-i : goal.invariant-loop-i

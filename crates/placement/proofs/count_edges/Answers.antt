@@ -1,10 +1,6 @@
 -- `placement::count_edges` meets its contract. Assumes nothing.
-use mathlib.Core.Path.{sym, ◌∙◌}
-use Prim.Native.Nat.{◌-◌}
 use native.Mathlib.Omega.{arith}
-use lib.ListN.{length}
-use borrow.Author.Rules.{rules}
-use Rattle.placement.proofs.CountSteps.{Counting, counting_begins, counting_on, counting_all, one_at_most}
+use Rattle.placement.proofs.CountSteps.{counting_begins, counting_on}
 use Rattle.placement.proofs.count_edges.Goals as goal
 
 pub loop-i-init : goal.loop-i-init
@@ -16,4 +12,4 @@ loop-i-preserved c =
     let u = c.byte_index-u.ensures.0 in
     let first = c.raise in
     let second = c.raise-in-loop-i in
-    counting_on l.invariant c.loop-i-test.true second.new.1.0 second.ensures.0 (λ x. rw (← u, ← c.at.ensures, ← c.at-in-loop-i.ensures) (omega (arith, second.ensures.1 x, first.ensures.1 x)))
+    counting_on l.invariant c.loop-i-test.true second.new.waits second.ensures.0 (λ x. rw (← u, ← c.at.ensures, ← c.at-in-loop-i.ensures) (omega (arith, second.ensures.1 x, first.ensures.1 x)))

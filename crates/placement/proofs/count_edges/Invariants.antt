@@ -1,10 +1,7 @@
 -- `placement::count_edges` meets its contract. Assumes nothing.
-use mathlib.Core.Path.{sym, ◌∙◌}
 use Prim.Native.Nat.{◌-◌}
-use native.Mathlib.Omega.{arith}
 use lib.ListN.{length}
-use borrow.Author.Rules.{rules}
-use Rattle.placement.proofs.CountSteps.{Counting, counting_begins, counting_on, counting_all, one_at_most}
+use Rattle.placement.proofs.CountSteps.{Counting}
 use Rattle.placement.proofs.count_edges.Given as goal
 
 abbrev pub invariant-loop-i : goal.invariant-loop-i

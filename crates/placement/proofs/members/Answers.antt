@@ -1,11 +1,7 @@
 -- `placement::members` meets its contract. Assumes nothing.
-use mathlib.Core.Logic.{⊎_elim}
-use mathlib.Core.Path.{sym, ◌∙◌}
-use Prim.Native.Nat.{◌-◌}
 use native.Mathlib.Omega.{arith}
-use lib.ListN.{length}
-use borrow.Author.Rules.{rules}
-use Rattle.placement.proofs.PlacementSteps.{Members, members_none, members_one, members_other, members_all}
+use Rattle.placement.proofs.PlacementSteps.{members_one, members_other, members_all}
+use Rattle.placement.proofs.members.Goals.{then-states-x, else-states-x}
 use Rattle.placement.proofs.members.Goals as goal
 
 pub loop-x-preserved : goal.loop-x-preserved
@@ -13,10 +9,10 @@ loop-x-preserved c =
     let l = c.loop-x in
     let below = c.loop-x-test.true in
     let low = c.requires.0 in
-    ⊎_elim
-    (λ w. rw (w.1, w.2) (members_one l.invariant below (omega arith) (omega (arith, w.0.true))))
-    (λ w. rw (w.1, w.2) (members_other l.invariant below (omega arith) w.0.left))
-    c.if-states-x.branch
+    elim c.if-states-x.branch [
+      | then-states-x w ↦ rw (w.blocks-is, w.count-is) (members_one l.invariant below (omega arith) (omega (arith, w.if-states-x.true)))
+      | else-states-x w ↦ rw (w.blocks-is, w.count-is) (members_other l.invariant below (omega arith) w.if-states-x.false)
+    ]
 
 pub returns : goal.returns
 returns c =

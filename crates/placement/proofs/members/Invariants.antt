@@ -1,11 +1,7 @@
 -- `placement::members` meets its contract. Assumes nothing.
-use mathlib.Core.Logic.{⊎_elim}
-use mathlib.Core.Path.{sym, ◌∙◌}
 use Prim.Native.Nat.{◌-◌}
-use native.Mathlib.Omega.{arith}
 use lib.ListN.{length}
-use borrow.Author.Rules.{rules}
-use Rattle.placement.proofs.PlacementSteps.{Members, members_none, members_one, members_other, members_all}
+use Rattle.placement.proofs.PlacementSteps.{Members}
 use Rattle.placement.proofs.members.Given as goal
 
 abbrev pub invariant-loop-x : goal.invariant-loop-x

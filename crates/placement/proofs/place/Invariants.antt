@@ -1,14 +1,6 @@
 -- `placement::place` meets its contract: what is placed so far, and what the counts choose of those left, are the whole. Assumes nothing.
-use mathlib.Core.List.{List}
-use mathlib.Core.Path.{◌≡◌, refl, sym, ◌∙◌}
-use Prim.Native.Nat.{ℕ, ◌-◌}
-use native.Mathlib.Omega.{arith}
-use lib.ListN.{length, take}
-use lib.Seq.{length-take-le}
-use borrow.Author.Rules.{rules}
-use Rattle.fsmd.specs.Layout.{max_blocks}
-use Rattle.placement.proofs.CountSteps.{zeros}
-use Rattle.placement.proofs.PlacementSteps.{PlacingIn, placing_begins, left_length, stops_in, full_in, enough_in, on_in}
+use Prim.Native.Nat.{◌-◌}
+use Rattle.placement.proofs.PlacementSteps.{PlacingIn}
 use Rattle.placement.proofs.place.Given as goal
 
 abbrev pub invariant-loop-count : goal.invariant-loop-count

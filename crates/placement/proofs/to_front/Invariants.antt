@@ -1,8 +1,6 @@
 -- `placement::to_front` meets its contract: the places passed hold the block and then those before them. Assumes nothing.
 use Prim.Native.Nat.{◌+◌, ◌-◌}
-use native.Mathlib.Omega.{arith}
-use borrow.Author.Rules.{rules}
-use Rattle.placement.proofs.PlacementSteps.{Moving, moving_begins, moving_on, moving_done}
+use Rattle.placement.proofs.PlacementSteps.{Moving}
 use Rattle.placement.proofs.to_front.Given as goal
 
 abbrev pub invariant-loop-j : goal.invariant-loop-j

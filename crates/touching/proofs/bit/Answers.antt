@@ -4,7 +4,6 @@ use native.Mathlib.Nat.{pow-le-pow_right, div-eq_of_lt}
 use native.Mathlib.Omega.{arith}
 use mathlib.Core.Path.{◌≡◌, sym, ap}
 use lib.Dec.{eqb}
-use borrow.Author.Rules.{rules}
 use Rattle.touching.proofs.bit.Goals as goal
 
 none_above : (w i : ℕ) → w < 2 ^ 32 → 32 ≤ i → w / 2 ^ i ≡ 0

@@ -1,11 +1,6 @@
 -- `touching::touches` meets its contract: refusals in their order, then the answer. Assumes nothing.
-use Prim.Native.Nat.{ℕ, ◌<◌}
-use native.Mathlib.Omega.{arith}
 use mathlib.Core.Bool.{Bool}
-use mathlib.Core.Path.{◌≡◌, sym, ap, ◌∙◌, subst}
-use borrow.Author.Rules.{rules}
-use borrow.Author.Tests.{not-true, not-false}
-use Rattle.fsmd.specs.Table.{state_count}
+use mathlib.Core.Path.{sym, ap, ◌∙◌}
 use Rattle.touching.specs.declared.TouchesAnswer.TheVariants.{Answered}
 use Rattle.touching.specs.Touching.{touches_at}
 use Rattle.touching.proofs.Answers.{touches-short, touches-other, touches-no-state, touches-answered}
@@ -17,16 +12,16 @@ returns-then-table-lt-WORDS c = let a = c.args in sym (touches-short a.table.now
 pub returns-then-not-admitted : goal.returns-then-not-admitted
 returns-then-not-admitted c =
     let a = c.args in
-    sym (touches-other a.table.now a.state a.register c.if-table-lt-WORDS.false (sym c.admitted.ensures ∙ not-true _ c.if-not-admitted.true))
+    sym (touches-other a.table.now a.state a.register c.if-table-lt-WORDS.false (sym c.admitted.ensures ∙ c.if-not-admitted.true))
 
 pub returns-then-table-state : goal.returns-then-table-state
 returns-then-table-state c =
     let a = c.args in
-    sym (touches-no-state a.table.now a.state a.register c.if-table-lt-WORDS.false (sym c.admitted.ensures ∙ not-false _ c.if-not-admitted.false) c.if-table-state.true)
+    sym (touches-no-state a.table.now a.state a.register c.if-table-lt-WORDS.false (sym c.admitted.ensures ∙ c.if-not-admitted.false) c.if-table-state.true)
 
 pub returns : goal.returns
 returns c =
     let a = c.args in
     let t = a.table.now in
     ap (λ (b : Bool). Answered b) (c.touches_at.ensures ∙ ap (touches_at t a.register) c.word_index.ensures.0)
-    ∙ sym (touches-answered t a.state a.register c.if-table-lt-WORDS.false (sym c.admitted.ensures ∙ not-false _ c.if-not-admitted.false) c.if-table-state.false)
+    ∙ sym (touches-answered t a.state a.register c.if-table-lt-WORDS.false (sym c.admitted.ensures ∙ c.if-not-admitted.false) c.if-table-state.false)

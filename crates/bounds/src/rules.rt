@@ -151,6 +151,7 @@ fn select(a: Range, b: Range, c: Range) -> Range
 }
 
 // The rule of a code; any word for a code that is none.
+#[tactic(auto, using(crate::proofs::RuleLaws::rule_none), unfolding(crate::specs::Range::rule_of))]
 fn rule(code: u32, a: Range, b: Range, c: Range) -> Range
     ensures { result ≡ rule_of code a b c }
 {

@@ -1,13 +1,8 @@
 -- `touching::search` meets its contract: the states from k on decide. Assumes nothing.
-use Prim.Native.Nat.{ℕ, ◌-◌, ◌<◌, ◌≤◌}
-use native.Mathlib.Omega.{arith}
-use mathlib.Core.Path.{◌≡◌, sym, ap, ◌∙◌, subst}
-use borrow.Author.Rules.{rules}
+use Prim.Native.Nat.{◌-◌, ◌≤◌}
+use mathlib.Core.Path.{◌≡◌}
 use Rattle.runs.specs.Lists.{up_from, first}
-use Rattle.fsmd.specs.Table.{state_count}
-use Rattle.fsmd.proofs.Machines.{admitted_facts}
-use Rattle.touching.specs.Touching.{touches_at, found}
-use Rattle.touching.proofs.Searches.{search_hit, search_miss, search_done}
+use Rattle.touching.specs.Touching.{touches_at}
 use Rattle.touching.proofs.search.Given as goal
 
 abbrev pub invariant-loop-k : goal.invariant-loop-k

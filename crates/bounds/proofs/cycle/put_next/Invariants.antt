@@ -1,6 +1,5 @@
 -- `bounds::cycle::put_next` meets its contract: the first i words are put, the others as they were. Assumes nothing.
-use Rattle.std.proofs.Common.{◌≡◌, ℕ, ◌-◌, ◌<◌, ◌≤◌, List, ◌++◌, map, length, get_or, take, drop, set, refl, ap, ◌∙◌, arith, length-set, rules}
-use Rattle.fsmd.proofs.Windows.{put_more, put_all}
+use Rattle.std.proofs.Common.{◌≡◌, ◌-◌, ◌≤◌, ◌++◌, map, length, get_or, take, drop}
 use Rattle.bounds.proofs.cycle.put_next.Given as goal
 
 abbrev pub invariant-loop-i : goal.invariant-loop-i

@@ -1,9 +1,8 @@
 -- `bounds::cycle::work` meets its contract: the bounds so far, then the wires from n on, give what all wires give. Assumes nothing.
-use Rattle.std.proofs.Common.{◌≡◌, ℕ, ◌+◌, ◌-◌, ◌≤◌, length, drop, sym, refl, ap, ◌∙◌, arith, length-set, rules}
+use Rattle.std.proofs.Common.{◌≡◌, ◌+◌, ◌-◌, ◌≤◌, length, drop}
 use Rattle.fsmd.specs.Layout.{max_registers}
 use Rattle.fsmd.proofs.Windows.{wires_from}
-use Rattle.bounds.specs.Bounds.{range_at, first_bounds, wire_range, bounded}
-use Rattle.bounds.proofs.CycleBounds.{bound_next, bound_done}
+use Rattle.bounds.specs.Bounds.{first_bounds, bounded}
 use Rattle.bounds.proofs.cycle.work.Given as goal
 
 abbrev pub invariant-loop-n : goal.invariant-loop-n

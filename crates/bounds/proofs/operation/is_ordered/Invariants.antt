@@ -1,6 +1,5 @@
 -- `bounds::operation::is_ordered` meets its contract: the registers from i on decide for all. Assumes nothing.
-use Rattle.std.proofs.Common.{◌≡◌, ℕ, ◌-◌, ◌≤◌, Bool, List, get_or, drop, sym, refl, ◌∙◌, arith, rules}
-use Rattle.runs.proofs.Every.{below_fails, below_passes, below_done}
+use Rattle.std.proofs.Common.{◌≡◌, ℕ, ◌-◌, ◌≤◌, Bool, List, get_or, drop}
 use Rattle.runs.specs.Lists.{up_from, every}
 use Rattle.word.specs.Word.{compare_of}
 use Rattle.word.specs.declared.Comparison.TheVariants.{Ge}

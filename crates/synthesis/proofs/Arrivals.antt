@@ -2,7 +2,7 @@
 use Prim.Native.Nat.{ℕ, suc, ◌≤◌}
 use native.Mathlib.Omega.{arith}
 use mathlib.Core.Logic.{◌⊎◌, inl, inr, ◌≢◌}
-use mathlib.Core.Path.{◌≡◌, refl, sym, ap, ap₂, ◌∙◌}
+use mathlib.Core.Path.{◌≡◌, refl, sym, ap, ap₂, ◌∙◌, subst}
 use mathlib.Core.List.{List, [], ◌∷◌, map}
 use lib.ListN.{length, get_or, length-append}
 use borrow.Author.Tests.{eq-eqb, ne_eqb}
@@ -69,7 +69,8 @@ module _ (g : CFG) (s : Groups) where
 
   arrival_in_lem : (x : ℕ) (xs : List ℕ) (b : StateBuild) → In x xs → In (arrival_in g s x xs b) (arrivals_in g s xs b)
   arrival_in_lem x [] b i = absurd i
-  arrival_in_lem x (y ∷ ys) b i = rw (arrivals_cons y ys b) (go (compared x y) i (arrival_in_lem x ys (put g s y b)))
+  arrival_in_lem x (y ∷ ys) b i =
+      subst (λ (l : List ℕ). In (arrival_in g s x (y ∷ ys) b) l) (sym (arrivals_cons y ys b)) (go (compared x y) i (arrival_in_lem x ys (put g s y b)))
     where
       go : Compared x y → (x ≡ y) ⊎ In x ys → (In x ys → In (arrival_in g s x ys (put g s y b)) (arrivals_in g s ys (put g s y b)))
           → In (arrival_in g s x (y ∷ ys) b) (arrival_of y b ∷ arrivals_in g s ys (put g s y b))

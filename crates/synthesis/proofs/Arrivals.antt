@@ -76,7 +76,7 @@ module _ (g : CFG) (s : Groups) where
           → In (arrival_in g s x (y ∷ ys) b) (arrival_of y b ∷ arrivals_in g s ys (put g s y b))
       go (same h e) i later = inl (arrival_first x y ys b e)
       go (other h d) (inl e) later = absurd (d e)
-      go (other h d) (inr i) later = inr (rw (arrival_later x y ys b d) (later i))
+      go (other h d) (inr i) later = inr (subst (λ (n : ℕ). In n (arrivals_in g s ys (put g s y b))) (sym (arrival_later x y ys b d)) (later i))
 
   -- in the state that the block is in
   pub made_arrival : (k x : ℕ) → get_or s.states x absent ≡ k → k ≢ absent → arrival_made g s x ≡ arrival_in g s x (order g s k) nothing

@@ -1,5 +1,5 @@
 -- The order in which the blocks of a state are placed ("Wires" of paper 01). Assumes nothing.
-use Rattle.std.specs.Prelude.{ℕ, zero, suc, Bool, true, false, not, ◌&&◌, ◌||◌, List, [], ◌∷◌, length, get_or, eqb}
+use Rattle.std.specs.Prelude.{ℕ, zero, suc, Bool, not, ◌&&◌, ◌||◌, List, [], ◌∷◌, length, get_or, eqb}
 use Rattle.std.proofs.Math.Option.{Option, none, some}
 use Rattle.runs.specs.Lists.{up_from, mem, only, every, first}
 use Rattle.cfg.specs.Graph.{CFG, successors}

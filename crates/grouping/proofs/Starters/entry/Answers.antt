@@ -1,6 +1,5 @@
 -- `grouping::Starters::entry` meets its contract. Assumes nothing.
 use mathlib.Core.Path.{refl}
-use borrow.Author.Rules.{rules}
 use Rattle.grouping.proofs.StarterLaws.{entry_listed}
 use Rattle.grouping.proofs.Starters.entry.Goals as goal
 

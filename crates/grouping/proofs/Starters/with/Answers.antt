@@ -1,11 +1,8 @@
 -- `grouping::Starters::with` meets its contract. Assumes nothing.
-use Prim.Native.Nat.{◌<◌}
 use mathlib.Core.Path.{◌≡◌}
 use native.Mathlib.Omega.{arith}
 use lib.ListN.{get_or}
-use borrow.Author.Rules.{rules}
-use Rattle.cfg.specs.Layout.{max_blocks}
-use Rattle.grouping.proofs.StarterLaws.{with_known, with_room, with_listed, with_more}
+use Rattle.grouping.proofs.StarterLaws.{with_room, with_listed, with_more}
 use Rattle.grouping.proofs.Starters.with.Goals as goal
 
 pub bounds-self-n : goal.bounds-self-n

@@ -1,14 +1,8 @@
 -- `grouping::detection::detect` meets its contract: the two loops follow `DetectionSearch`. Assumes nothing.
-use mathlib.Core.Path.{◌≡◌, refl, sym, ◌∙◌}
-use Prim.Native.Nat.{◌+◌, ◌-◌, ◌*◌, ◌<◌}
+use mathlib.Core.Path.{refl, sym, ◌∙◌}
 use native.Mathlib.Omega.{arith}
-use lib.Dec.{lit<}
-use Rattle.grouping.specs.declared.Detected.TheVariants.{Legal}
-use Rattle.grouping.specs.Bytes.{used}
 use Rattle.grouping.proofs.ByteStack.{shallow}
-use Rattle.grouping.proofs.DetectionSearch.{DetectVisit, DetectEdges, detect_begins, detect_ends, detect_enters, detect_pops, detect_none, detect_stops, detect_room, detect_falls, detect_pushes, detect_known}
-use borrow.Author.Rules.{rules}
-use Rattle.cfg.specs.Layout.{max_blocks}
+use Rattle.grouping.proofs.DetectionSearch.{detect_begins, detect_ends, detect_enters, detect_pops, detect_none, detect_stops, detect_room, detect_falls, detect_pushes, detect_known}
 use Rattle.grouping.proofs.detection.detect.Goals as goal
 
 pub visit-init : goal.visit-init
@@ -67,4 +61,4 @@ returns-after-visit c =
 
 pub returns-then-illegal : goal.returns-then-illegal
 returns-then-illegal c =
-        detect_stops c.edges.invariant.0 c.at-to.result c.byte_index-t.result c.byte_index-t.ensures.0 c.at-to.ensures c.edges-test.true c.if-t-lt-BLOCKS.true (sym c.illegal.ensures ∙ c.if-illegal.true)
+    detect_stops c.edges.invariant.0 c.at-to.result c.byte_index-t.result c.byte_index-t.ensures.0 c.at-to.ensures c.edges-test.true c.if-t-lt-BLOCKS.true (sym c.illegal.ensures ∙ c.if-illegal.true)

@@ -1,13 +1,9 @@
 -- `grouping::detection::detect` meets its contract: the two loops follow `DetectionSearch`. Assumes nothing.
-use mathlib.Core.Path.{◌≡◌, refl, sym, ◌∙◌}
-use Prim.Native.Nat.{◌+◌, ◌-◌, ◌*◌, ◌<◌}
-use native.Mathlib.Omega.{arith}
-use lib.Dec.{lit<}
+use mathlib.Core.Path.{◌≡◌}
+use Prim.Native.Nat.{◌+◌, ◌-◌, ◌*◌}
 use Rattle.grouping.specs.declared.Detected.TheVariants.{Legal}
 use Rattle.grouping.specs.Bytes.{used}
-use Rattle.grouping.proofs.ByteStack.{shallow}
-use Rattle.grouping.proofs.DetectionSearch.{DetectVisit, DetectEdges, detect_begins, detect_ends, detect_enters, detect_pops, detect_none, detect_stops, detect_room, detect_falls, detect_pushes, detect_known}
-use borrow.Author.Rules.{rules}
+use Rattle.grouping.proofs.DetectionSearch.{DetectVisit, DetectEdges}
 use Rattle.cfg.specs.Layout.{max_blocks}
 use Rattle.grouping.proofs.detection.detect.Given as goal
 

@@ -1,11 +1,8 @@
 -- `grouping::edges::edges_of` meets its contract. Assumes nothing.
 use mathlib.Core.Path.{sym, ◌∙◌}
-use Prim.Native.Nat.{◌-◌, ◌<◌}
 use native.Mathlib.Omega.{arith}
-use Rattle.cfg.specs.Layout.{max_blocks}
-use Rattle.cfg.proofs.Admitted.{Admitted, admitted_facts}
-use Rattle.grouping.proofs.EdgeBytes.{Copied, copied_none, copied_all, goto_low, ite_low, copied_halt, copied_goto, copied_ite}
-use borrow.Author.Rules.{rules}
+use Rattle.cfg.proofs.Admitted.{admitted_facts}
+use Rattle.grouping.proofs.EdgeBytes.{copied_none, copied_all, goto_low, ite_low, copied_halt, copied_goto, copied_ite}
 use Rattle.grouping.proofs.edges.edges_of.Goals.{in-Goto, in-Ite, in-Halt}
 use Rattle.grouping.proofs.edges.edges_of.Goals as goal
 

@@ -1,14 +1,9 @@
 -- `grouping::loops::loop_starters` meets its contract: the two loops follow `LoopSearch`. Assumes nothing.
-use mathlib.Core.Path.{◌≡◌, refl}
-use Prim.Native.Nat.{◌+◌, ◌-◌, ◌*◌, ◌<◌}
+use mathlib.Core.Path.{refl}
 use native.Mathlib.Omega.{arith}
-use lib.Dec.{lit<}
-use Rattle.grouping.specs.Bytes.{used}
 use Rattle.grouping.proofs.Marks.{used_more}
 use Rattle.grouping.proofs.ByteStack.{shallow}
-use Rattle.grouping.proofs.LoopSearch.{LoopVisit, LoopEdges, loop_begins, loop_ends, loop_enters, loop_pops, loop_none, loop_room, loop_falls, loop_pushes, loop_again, loop_known}
-use borrow.Author.Rules.{rules}
-use Rattle.cfg.specs.Layout.{max_blocks}
+use Rattle.grouping.proofs.LoopSearch.{loop_begins, loop_ends, loop_enters, loop_pops, loop_none, loop_room, loop_falls, loop_pushes, loop_again, loop_known}
 use Rattle.grouping.proofs.loops.loop_starters.Goals as goal
 
 pub visit-init : goal.visit-init
@@ -44,7 +39,7 @@ visit-smaller-then-marks-t-eq0 c =
 
 pub visit-preserved-then-marks-t-eq0 : goal.visit-preserved-then-marks-t-eq0
 visit-preserved-then-marks-t-eq0 c =
-        loop_pushes c.edges.invariant.0 c.at-to.result c.byte_index-t.result c.byte_index-t.ensures.0 c.at-to.ensures c.edges-test.true c.if-t-lt-BLOCKS.true c.if-marks-t-eq0.true
+    loop_pushes c.edges.invariant.0 c.at-to.result c.byte_index-t.result c.byte_index-t.ensures.0 c.at-to.ensures c.edges-test.true c.if-t-lt-BLOCKS.true c.if-marks-t-eq0.true
 
 pub edges-preserved-then-marks-t-eq1 : goal.edges-preserved-then-marks-t-eq1
 edges-preserved-then-marks-t-eq1 c =

@@ -1,13 +1,8 @@
 -- `grouping::loops::loop_starters` meets its contract: the two loops follow `LoopSearch`. Assumes nothing.
-use mathlib.Core.Path.{◌≡◌, refl}
-use Prim.Native.Nat.{◌+◌, ◌-◌, ◌*◌, ◌<◌}
-use native.Mathlib.Omega.{arith}
-use lib.Dec.{lit<}
+use mathlib.Core.Path.{◌≡◌}
+use Prim.Native.Nat.{◌+◌, ◌-◌, ◌*◌}
 use Rattle.grouping.specs.Bytes.{used}
-use Rattle.grouping.proofs.Marks.{used_more}
-use Rattle.grouping.proofs.ByteStack.{shallow}
-use Rattle.grouping.proofs.LoopSearch.{LoopVisit, LoopEdges, loop_begins, loop_ends, loop_enters, loop_pops, loop_none, loop_room, loop_falls, loop_pushes, loop_again, loop_known}
-use borrow.Author.Rules.{rules}
+use Rattle.grouping.proofs.LoopSearch.{LoopVisit, LoopEdges}
 use Rattle.cfg.specs.Layout.{max_blocks}
 use Rattle.grouping.proofs.loops.loop_starters.Given as goal
 

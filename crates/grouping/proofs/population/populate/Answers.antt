@@ -1,13 +1,8 @@
 -- `grouping::population::populate` meets its contract. Assumes nothing.
-use mathlib.Core.Path.{◌≡◌, sym, ◌∙◌}
-use Prim.Native.Nat.{◌-◌, ◌≤◌, ◌<◌}
+use mathlib.Core.Path.{sym}
 use native.Mathlib.Omega.{arith}
-use lib.ListN.{length}
-use Rattle.grouping.specs.Bytes.{starters_of}
 use Rattle.grouping.proofs.StarterLaws.{starters_few, starters_length, marking}
-use Rattle.grouping.proofs.PopulationSearch.{Populating, populating_begins, populating_on, populating_ends}
-use borrow.Author.Rules.{rules}
-use Rattle.cfg.specs.Layout.{max_blocks}
+use Rattle.grouping.proofs.PopulationSearch.{populating_begins, populating_on, populating_ends}
 use Rattle.grouping.proofs.population.populate.Goals as goal
 
 pub loop-list-init : goal.loop-list-init

@@ -1,37 +1,27 @@
 -- `grouping::population::take_state` meets its contract: the two loops follow `PopulationSearch`. Assumes nothing.
-use mathlib.Core.Path.{◌≡◌, refl, sym, ap, ◌∙◌}
-use Prim.Native.Nat.{ℕ, ◌+◌, ◌-◌, ◌*◌, ◌<◌}
+use mathlib.Core.Path.{◌≡◌, refl, ap, ◌∙◌}
+use Prim.Native.Nat.{ℕ, ◌<◌}
 use native.Mathlib.Omega.{arith}
-use lib.Dec.{lit<}
-use lib.ListN.{length, get_or}
+use lib.ListN.{get_or}
 use Rattle.fsmd.specs.Layout.{absent}
-use Rattle.grouping.specs.Bytes.{Marking, used, taken}
+use Rattle.grouping.specs.Bytes.{taken}
 use Rattle.grouping.proofs.ByteStack.{shallow}
-use Rattle.grouping.proofs.PopulationSearch.{take_rest, TakeVisit, TakeEdges, take_nothing, take_begins, take_whole, take_ends, take_onward, take_enters, take_pops, take_none, take_known, take_starter, take_room, take_falls, take_pushes}
-use mathlib.Core.List.{List}
-use borrow.Author.Rules.{rules}
+use Rattle.grouping.proofs.PopulationSearch.{root_low, take_nothing, take_begins, take_whole, take_ends, take_onward, take_enters, take_pops, take_none, take_known, take_starter, take_room, take_falls, take_pushes}
 use Rattle.cfg.specs.Layout.{max_blocks}
 use Rattle.grouping.proofs.population.take_state.Goals as goal
 
--- what the starter's byte is, by the state's number
-first_is : (starters : List ℕ) (root number k : ℕ) → root ≡ get_or starters number 0 → number ≡ k → root ≡ get_or starters k 0
-first_is starters root number k e f = e ∙ ap (λ (n : ℕ). get_or starters n 0) f
-
--- and that it is a block
-root_low : (starters marks : List ℕ) (root k : ℕ) → Marking starters marks → k < length starters → root ≡ get_or starters k 0 → root < max_blocks
-root_low starters marks root k m l e = rw e (m.blocks k l)
-
-number_low : (starters marks : List ℕ) (k : ℕ) → Marking starters marks → k < length starters → k < absent
-number_low starters marks k m l = omega (arith, m.few)
-
 pub returns-then-states-root : goal.returns-then-states-root
 returns-then-states-root c =
-        take_nothing c.args.edges.now c.args.starters.now c.args.marks.now (get_or c.args.starters.now c.args.k 0) c.byte_index-root.result c.args.k (first_is c.args.starters.now c.byte_index-root.result c.byte_index-number.result c.args.k c.byte_index-root.ensures.0 c.byte_index-number.ensures.0) c.args.states.now c.requires.2 (root_low c.args.starters.now c.args.marks.now c.byte_index-root.result c.args.k c.requires.0 c.requires.1 (first_is c.args.starters.now c.byte_index-root.result c.byte_index-number.result c.args.k c.byte_index-root.ensures.0 c.byte_index-number.ensures.0)) c.if-states-root.true
+    let is : c.byte_index-root.result ≡ get_or c.args.starters.now c.args.k 0 = cc (c.byte_index-root.ensures.0, c.byte_index-number.ensures.0) in
+    let low : c.byte_index-root.result < max_blocks = root_low c.requires.0 c.requires.1 is in
+    take_nothing c.args.edges.now c.args.starters.now c.args.marks.now (get_or c.args.starters.now c.args.k 0) c.byte_index-root.result c.args.k is c.args.states.now c.requires.2 low c.if-states-root.true
 
 pub visit-init : goal.visit-init
 visit-init c =
-    let k_low : c.args.k < absent = number_low c.args.starters.now c.args.marks.now c.args.k c.requires.0 c.requires.1 in
-    take_begins c.args.edges.now c.args.starters.now c.args.marks.now (get_or c.args.starters.now c.byte_index-number.result 0) c.byte_index-root.result c.args.k c.byte_index-root.ensures.0 c.args.states.now c.requires.2 (root_low c.args.starters.now c.args.marks.now c.byte_index-root.result c.args.k c.requires.0 c.requires.1 (first_is c.args.starters.now c.byte_index-root.result c.byte_index-number.result c.args.k c.byte_index-root.ensures.0 c.byte_index-number.ensures.0)) k_low c.if-states-root.false c.requires.0
+    let is : c.byte_index-root.result ≡ get_or c.args.starters.now c.args.k 0 = cc (c.byte_index-root.ensures.0, c.byte_index-number.ensures.0) in
+    let low : c.byte_index-root.result < max_blocks = root_low c.requires.0 c.requires.1 is in
+    let k_low : c.args.k < absent = omega (arith, c.requires.0.few) in
+    take_begins c.args.edges.now c.args.starters.now c.args.marks.now (get_or c.args.starters.now c.byte_index-number.result 0) c.byte_index-root.result c.args.k c.byte_index-root.ensures.0 c.args.states.now c.requires.2 low k_low c.if-states-root.false c.requires.0
 
 pub bounds-stack-depth : goal.bounds-stack-depth
 bounds-stack-depth c = omega (arith, c.visit-test.true, shallow c.visit.invariant.on.sized)
@@ -86,7 +76,9 @@ visit-preserved c = take_onward (take_pops c.edges.invariant.0 c.edges-test.fals
 
 pub returns : goal.returns
 returns c =
-    let k_low : c.args.k < absent = number_low c.args.starters.now c.args.marks.now c.args.k c.requires.0 c.requires.1 in
+    let is : c.byte_index-root.result ≡ get_or c.args.starters.now c.args.k 0 = cc (c.byte_index-root.ensures.0, c.byte_index-number.ensures.0) in
+    let low : c.byte_index-root.result < max_blocks = root_low c.requires.0 c.requires.1 is in
+    let k_low : c.args.k < absent = omega (arith, c.requires.0.few) in
     take_ends c.visit.invariant (omega (arith, c.visit-test.false))
-    ∙ take_whole c.args.edges.now c.args.starters.now c.args.marks.now (get_or c.args.starters.now c.byte_index-number.result 0) c.byte_index-root.result c.args.k c.byte_index-root.ensures.0 c.args.states.now c.requires.2 (root_low c.args.starters.now c.args.marks.now c.byte_index-root.result c.args.k c.requires.0 c.requires.1 (first_is c.args.starters.now c.byte_index-root.result c.byte_index-number.result c.args.k c.byte_index-root.ensures.0 c.byte_index-number.ensures.0)) k_low c.if-states-root.false
+    ∙ take_whole c.args.edges.now c.args.starters.now c.args.marks.now (get_or c.args.starters.now c.byte_index-number.result 0) c.byte_index-root.result c.args.k c.byte_index-root.ensures.0 c.args.states.now c.requires.2 low k_low c.if-states-root.false
     ∙ ap (λ (n : ℕ). taken c.args.edges.now c.args.starters.now (get_or c.args.starters.now n 0) c.args.k c.args.states.now) c.byte_index-number.ensures.0

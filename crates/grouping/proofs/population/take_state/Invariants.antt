@@ -1,14 +1,9 @@
 -- `grouping::population::take_state` meets its contract: the two loops follow `PopulationSearch`. Assumes nothing.
-use mathlib.Core.Path.{◌≡◌, refl, sym, ap, ◌∙◌}
-use Prim.Native.Nat.{ℕ, ◌+◌, ◌-◌, ◌*◌, ◌<◌}
-use native.Mathlib.Omega.{arith}
-use lib.Dec.{lit<}
-use lib.ListN.{get_or}
+use mathlib.Core.Path.{◌≡◌}
+use Prim.Native.Nat.{◌+◌, ◌-◌, ◌*◌}
 use Rattle.fsmd.specs.Layout.{absent}
-use Rattle.grouping.specs.Bytes.{used, taken}
-use Rattle.grouping.proofs.ByteStack.{shallow}
-use Rattle.grouping.proofs.PopulationSearch.{take_rest, TakeVisit, TakeEdges, take_nothing, take_begins, take_whole, take_ends, take_onward, take_enters, take_pops, take_none, take_known, take_starter, take_room, take_falls, take_pushes}
-use borrow.Author.Rules.{rules}
+use Rattle.grouping.specs.Bytes.{used}
+use Rattle.grouping.proofs.PopulationSearch.{take_rest, TakeVisit, TakeEdges}
 use Rattle.cfg.specs.Layout.{max_blocks}
 use Rattle.grouping.proofs.population.take_state.Given as goal
 

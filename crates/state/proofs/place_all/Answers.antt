@@ -1,14 +1,13 @@
 -- `place_all` places the blocks from nothing: what is placed and the rest come to the whole. Assumes nothing.
-use Prim.Native.Nat.{◌-◌, ◌*◌, ◌≤◌, ◌<◌}
-use mathlib.Core.Path.{◌≡◌, refl, sym, ap, ◌∙◌, subst}
+use Prim.Native.Nat.{◌<◌}
+use mathlib.Core.Path.{refl, sym, ap, ◌∙◌}
 use native.Mathlib.Omega.{arith}
-use lib.ListN.{length, drop}
-use Rattle.state.specs.Wires.{StateBuild, nothing}
-use Rattle.state.specs.Making.{Placeable, state_build_in}
+use lib.ListN.{length}
+use Rattle.state.specs.Wires.{StateBuild}
+use Rattle.state.specs.Making.{state_build_in}
 use Rattle.state.specs.BlocksMaking.{with_arrivals}
-use Rattle.state.proofs.BlocksLaws.{Going, going_first, going_last, going_room, put_room, put_next}
+use Rattle.state.proofs.BlocksLaws.{going_first, going_last, going_room, put_room, put_next}
 use Rattle.state.proofs.ArrivalLaws.{none_built, listed_next, arrivals_last}
-use borrow.Author.Rules.{rules}
 use Rattle.state.proofs.place_all.Goals as goal
 
 pub loop-i-init : goal.loop-i-init

@@ -1,6 +1,5 @@
 -- `state::blocks::assign` meets its contract. Assumes nothing.
 use Rattle.state.proofs.AssignLaws.{assign_made}
-use borrow.Author.Rules.{rules}
 use Rattle.state.proofs.blocks.assign.Goals as goal
 
 pub returns : goal.returns

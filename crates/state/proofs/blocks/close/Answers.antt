@@ -11,7 +11,6 @@ use Rattle.cfg.specs.Table.{block_at}
 use Rattle.state.specs.Wires.{close}
 use Rattle.state.specs.Making.{Aims, Room, block_build_in}
 use Rattle.state.proofs.CloseLaws.{ending_of, close_goto, close_halt, close_ite, length_ite}
-use borrow.Author.Rules.{rules}
 use Rattle.state.proofs.blocks.close.Goals as goal
 
 forked : (e : Ending) (c : Condition) (y f a n : ℕ) (vs t : List ℕ) → e ≡ Ite c y f → Room n t

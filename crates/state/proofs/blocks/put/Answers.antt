@@ -1,13 +1,9 @@
 -- `state::blocks::put` meets its contract. Assumes nothing.
-use Prim.Native.Nat.{◌≤◌}
 use native.Mathlib.Omega.{arith}
-use mathlib.Core.Path.{◌∙◌, ap}
-use lib.ListN.{length, set}
+use mathlib.Core.Path.{◌∙◌}
+use lib.ListN.{length}
 use Rattle.cfg.specs.Table.{block_at}
-use Rattle.state.specs.Wires.{BlockBuild}
 use Rattle.state.proofs.PutLaws.{enter_fits, entered_fits, assigns_fit, assigned_fits, close_fits, put_made}
-use borrow.Author.Rules.{rules}
-use Rattle.fsmd.specs.Layout.{max_registers}
 use Rattle.state.proofs.blocks.put.Goals as goal
 
 pub enter-entered-requires-clause-room_2 : goal.enter-entered-requires-clause-room_2

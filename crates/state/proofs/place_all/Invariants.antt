@@ -1,14 +1,11 @@
 -- `place_all` places the blocks from nothing: what is placed and the rest come to the whole. Assumes nothing.
-use Prim.Native.Nat.{◌-◌, ◌*◌, ◌≤◌, ◌<◌}
-use mathlib.Core.Path.{◌≡◌, refl, sym, ap, ◌∙◌, subst}
-use native.Mathlib.Omega.{arith}
+use Prim.Native.Nat.{◌-◌, ◌*◌, ◌≤◌}
+use mathlib.Core.Path.{◌≡◌}
 use lib.ListN.{length, drop}
-use Rattle.state.specs.Wires.{StateBuild, nothing}
-use Rattle.state.specs.Making.{Placeable, state_build_in}
+use Rattle.state.specs.Wires.{nothing}
+use Rattle.state.specs.Making.{state_build_in}
 use Rattle.state.specs.BlocksMaking.{with_arrivals}
-use Rattle.state.proofs.BlocksLaws.{Going, going_first, going_last, going_room, put_room, put_next}
-use Rattle.state.proofs.ArrivalLaws.{none_built, listed_next, arrivals_last}
-use borrow.Author.Rules.{rules}
+use Rattle.state.proofs.BlocksLaws.{Going}
 use Rattle.state.proofs.place_all.Given as goal
 
 abbrev pub invariant-loop-i : goal.invariant-loop-i

@@ -1,44 +1,31 @@
 -- `state::blocks::assign_all` meets its contract. Assumes nothing.
-use Prim.Native.Nat.{◌-◌}
-use native.Mathlib.Omega.{arith}
-use mathlib.Core.Path.{◌≡◌, refl, ◌∙◌}
-use lib.ListN.{length, drop}
-use Rattle.cfg.specs.Graph.{instructions_of}
-use Rattle.cfg.specs.Table.{block_at}
-use Rattle.state.specs.Wires.{assign, assigns}
-use Rattle.state.specs.Making.{block_build_in}
-use Rattle.state.proofs.Folds.{Folding}
+use mathlib.Core.Path.{refl, ◌∙◌}
 use Rattle.state.proofs.AssignLaws.{assigning_start, assigning_room, assigning_next, assigning_done}
-use borrow.Author.Rules.{rules}
 use Rattle.state.proofs.blocks.assign_all.Goals as goal
 
 pub loop-i-init : goal.loop-i-init
 loop-i-init c =
     let a = c.args in
-    let p = c.requires in
-    (assigning_start a.graph.now a.x p.0.2 a.front.arrival a.values.now a.front.wires a.wires.now p.1.0.fits, refl)
+    (assigning_start a.graph.now a.x c.requires.x_lt_max_blocks.2 a.front.arrival a.values.now a.front.wires a.wires.now c.requires.room.fits, refl)
 
 pub assign-next-requires : goal.assign-next-requires
-assign-next-requires c κs =
+assign-next-requires c =
     let a = c.args in
-    let p = c.requires in
     let l = c.loop-i in
-    assigning_room a.graph.now a.x p.0.2 l.i l.invariant.0 c.loop-i-test.true p.1.1
+    assigning_room a.graph.now a.x c.requires.x_lt_max_blocks.2 l.i l.invariant.0 c.loop-i-test.true c.requires.room_2
 
 pub loop-i-preserved : goal.loop-i-preserved
 loop-i-preserved c =
     let a = c.args in
-    let p = c.requires in
     let l = c.loop-i in
     let s = c.assign-next in (
-      assigning_next a.graph.now a.x p.0.2 l.i l.invariant.0 c.instruction_at.result s.result.arrival s.new.1.0 s.result.wires s.new.0
-          c.loop-i-test.true c.instruction_at.ensures s.ensures s.auto.0,
-      s.auto.1.0 ∙ l.invariant.1,
+      assigning_next a.graph.now a.x c.requires.x_lt_max_blocks.2 l.i l.invariant.0 c.instruction_at.result s.result.arrival s.new.values s.result.wires s.new.wires
+          c.loop-i-test.true c.instruction_at.ensures s.ensures s.auto.wires,
+      s.auto.values ∙ l.invariant.1,
     )
 
 pub returns : goal.returns
 returns c =
     let a = c.args in
-    let p = c.requires in
     let l = c.loop-i in
-    assigning_done a.graph.now a.x p.0.2 l.i l.invariant.0 c.loop-i-test.false
+    assigning_done a.graph.now a.x c.requires.x_lt_max_blocks.2 l.i l.invariant.0 c.loop-i-test.false

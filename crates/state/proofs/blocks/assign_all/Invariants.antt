@@ -1,15 +1,12 @@
 -- `state::blocks::assign_all` meets its contract. Assumes nothing.
 use Prim.Native.Nat.{◌-◌}
-use native.Mathlib.Omega.{arith}
-use mathlib.Core.Path.{◌≡◌, refl, ◌∙◌}
+use mathlib.Core.Path.{◌≡◌}
 use lib.ListN.{length, drop}
 use Rattle.cfg.specs.Graph.{instructions_of}
 use Rattle.cfg.specs.Table.{block_at}
 use Rattle.state.specs.Wires.{assign, assigns}
 use Rattle.state.specs.Making.{block_build_in}
 use Rattle.state.proofs.Folds.{Folding}
-use Rattle.state.proofs.AssignLaws.{assigning_start, assigning_room, assigning_next, assigning_done}
-use borrow.Author.Rules.{rules}
 use Rattle.state.proofs.blocks.assign_all.Given as goal
 
 abbrev pub invariant-loop-i : goal.invariant-loop-i

@@ -6,7 +6,6 @@ use Rattle.fsmd.specs.declared.Wire.{Wire}
 use Rattle.state.specs.Wires.{wire}
 use Rattle.state.specs.Making.{appended}
 use Rattle.state.proofs.StoredWires.{appended_more}
-use borrow.Author.Rules.{rules}
 use Rattle.state.proofs.blocks.branch.Goals as goal
 
 pub returns : goal.returns

@@ -1,6 +1,5 @@
 -- `state::blocks::instruction_wire` meets its contract. Assumes nothing.
 use Rattle.state.specs.Wires.{instruction_wire}
-use borrow.Author.Rules.{rules}
 use Rattle.state.proofs.blocks.instruction_wire.Goals as goal
 
 pub returns : goal.returns

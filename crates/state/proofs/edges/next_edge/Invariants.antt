@@ -2,13 +2,9 @@
 use mathlib.Core.Bool.{false}
 use Rattle.state.specs.Wires.{leads_to}
 use Rattle.state.specs.Making.{place_of}
-use Rattle.state.proofs.EdgeLaws.{leads_same, leads_other}
 use Prim.Native.Nat.{ℕ, ◌≤◌, ◌<◌, ◌-◌}
 use mathlib.Core.Path.{◌≡◌}
-use native.Mathlib.Omega.{arith}
-use borrow.Author.Count.{below_more}
 use lib.ListN.{get_or}
-use borrow.Author.Rules.{rules}
 use Rattle.state.proofs.edges.next_edge.Given as goal
 
 abbrev pub invariant-loop-i : goal.invariant-loop-i

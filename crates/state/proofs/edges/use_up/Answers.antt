@@ -1,13 +1,11 @@
 -- `state::edges::use_up` meets its contract. Assumes nothing.
-use Prim.Native.Nat.{ℕ, ◌≤◌, ◌-◌}
-use mathlib.Core.Path.{◌≡◌, refl, ap, ◌∙◌}
+use Prim.Native.Nat.{ℕ}
+use mathlib.Core.Path.{◌≡◌, ap, ◌∙◌}
 use mathlib.Core.List.{List}
 use native.Mathlib.Numerals.{add-one}
 use native.Mathlib.Omega.{arith}
-use lib.ListN.{length, get_or, length-set}
-use Rattle.state.specs.Making.{used_up}
+use lib.ListN.{get_or, length-set}
 use Rattle.state.proofs.UsedUp.{used_up_later, used_up_more}
-use borrow.Author.Rules.{rules}
 use Rattle.state.proofs.edges.use_up.Goals as goal
 
 pub loop-i-preserved : goal.loop-i-preserved

@@ -1,14 +1,9 @@
 -- `state::exits::exit_all` meets its contract. Assumes nothing.
-use Prim.Native.Nat.{ℕ, ◌+◌, ◌-◌, ◌*◌}
-use native.Mathlib.Omega.{arith}
-use mathlib.Core.Path.{◌≡◌, refl, ap, ◌∙◌}
-use lib.ListN.{length, get_or, take, drop, length-drop}
-use lib.Seq.{length-take-le}
+use Prim.Native.Nat.{◌-◌}
+use lib.ListN.{length}
 use Rattle.state.specs.Wires.{exit, exits, leaves, towards}
-use Rattle.state.specs.Making.{block_build_in, Held, edge_to, edges_in, row_words, groups_in}
-use Rattle.state.proofs.ExitLaws.{length_exit, grow_exit, exits_fold, exit_along}
-use Rattle.state.proofs.WalkLaws.{Walking, walking_start, walking_room, walking_next, walking_done, onward}
-use borrow.Author.Rules.{rules}
+use Rattle.state.specs.Making.{block_build_in, edges_in, groups_in}
+use Rattle.state.proofs.WalkLaws.{Walking}
 use Rattle.state.proofs.exits.exit_all.Given as goal
 
 abbrev pub invariant-loop-i : goal.invariant-loop-i

@@ -1,13 +1,10 @@
 -- `state::exits::next_exit` meets its contract. Assumes nothing.
 use Prim.Native.Nat.{ℕ, ◌≤◌, ◌<◌, ◌-◌}
 use mathlib.Core.Bool.{false}
-use mathlib.Core.Path.{◌≡◌, sym, ◌∙◌}
-use native.Mathlib.Omega.{arith}
-use borrow.Author.Count.{below_more}
+use mathlib.Core.Path.{◌≡◌}
 use lib.ListN.{get_or}
 use Rattle.state.specs.Wires.{leaves}
 use Rattle.state.specs.Making.{place_of, groups_in}
-use borrow.Author.Rules.{rules}
 use Rattle.state.proofs.exits.next_exit.Given as goal
 
 abbrev pub invariant-loop-i : goal.invariant-loop-i

@@ -1,16 +1,9 @@
 -- `state::joins::join_all` meets its contract. Assumes nothing.
-use Rattle.state.specs.Making.{Held, edge_to}
-use lib.ListN.{length-drop}
-use lib.Seq.{length-take-le}
-use Prim.Native.Nat.{ℕ, ◌+◌, ◌-◌, ◌*◌}
-use native.Mathlib.Omega.{arith}
-use mathlib.Core.Path.{◌≡◌, refl, ap, ◌∙◌}
-use lib.ListN.{length, get_or, take, drop}
+use Prim.Native.Nat.{◌-◌}
+use lib.ListN.{length}
 use Rattle.state.specs.Wires.{join, joins, leads_to, towards}
-use Rattle.state.specs.Making.{block_build_in, edges_in, row_words}
-use Rattle.state.proofs.JoinLaws.{length_join, grow_join, joins_walk}
-use Rattle.state.proofs.WalkLaws.{Walking, walking_start, walking_room, walking_next, walking_done}
-use borrow.Author.Rules.{rules}
+use Rattle.state.specs.Making.{block_build_in, edges_in}
+use Rattle.state.proofs.WalkLaws.{Walking}
 use Rattle.state.proofs.joins.join_all.Given as goal
 
 abbrev pub invariant-loop-i : goal.invariant-loop-i

@@ -1,14 +1,12 @@
 -- `state::joins::number` meets its contract. Assumes nothing.
-use Prim.Native.Nat.{◌≤◌, ◌-◌}
 use native.Mathlib.Nat.{zero-add}
 use native.Mathlib.Numerals.{add-one}
 use native.Mathlib.Omega.{arith}
-use mathlib.Core.Path.{◌≡◌, refl, sym, ap, ◌∙◌}
+use mathlib.Core.Path.{sym, ap, ◌∙◌}
 use mathlib.Core.List.{◌++◌}
-use lib.ListN.{length, set, drop, length-set}
+use lib.ListN.{set, drop, length-set}
 use Rattle.runs.specs.Lists.{up_from}
-use Rattle.state.proofs.Counting.{counted_more, counted_all}
-use borrow.Author.Rules.{rules}
+use Rattle.state.proofs.Counting.{counted_more}
 use Rattle.state.proofs.joins.number.Goals as goal
 
 pub loop-r-preserved : goal.loop-r-preserved

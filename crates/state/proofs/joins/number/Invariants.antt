@@ -1,14 +1,9 @@
 -- `state::joins::number` meets its contract. Assumes nothing.
 use Prim.Native.Nat.{◌≤◌, ◌-◌}
-use native.Mathlib.Nat.{zero-add}
-use native.Mathlib.Numerals.{add-one}
-use native.Mathlib.Omega.{arith}
-use mathlib.Core.Path.{◌≡◌, refl, sym, ap, ◌∙◌}
+use mathlib.Core.Path.{◌≡◌}
 use mathlib.Core.List.{◌++◌}
-use lib.ListN.{length, set, drop, length-set}
+use lib.ListN.{length, drop}
 use Rattle.runs.specs.Lists.{up_from}
-use Rattle.state.proofs.Counting.{counted_more, counted_all}
-use borrow.Author.Rules.{rules}
 use Rattle.state.proofs.joins.number.Given as goal
 
 abbrev pub invariant-loop-r : goal.invariant-loop-r

@@ -1,8 +1,5 @@
 -- `state::wires::emit` meets its contract. Assumes nothing.
 use native.Mathlib.Numerals.{add-one, add-two, add-three}
-use native.Mathlib.Omega.{arith}
-use borrow.Author.Rules.{rules}
-use lib.ListN.{length-set}
 use Rattle.state.proofs.StoredWires.{emitted}
 use Rattle.state.proofs.wires.emit.Goals as goal
 

@@ -1,9 +1,7 @@
 -- `state::wires::select` meets its contract. Assumes nothing.
 use Prim.Native.Nat.{◌-◌}
-use native.Mathlib.Omega.{arith}
 use lib.ListN.{length}
-use Rattle.state.proofs.Selections.{Selected, selected_none, selected_more, selected_table, selected_values}
-use borrow.Author.Rules.{rules}
+use Rattle.state.proofs.Selections.{Selected}
 use Rattle.state.proofs.wires.select.Given as goal
 
 abbrev pub invariant-loop-r : goal.invariant-loop-r

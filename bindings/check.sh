@@ -1,13 +1,13 @@
 #!/usr/bin/env bash
 # Compiles the header as C and as C++, tests the Rust crate, runs both examples and compares what they print.
-# It needs target/staticlib/libhost.a, which `rt staticlib host` makes.
+# It needs crates/host/out/libhost.a, which `rt lib` makes in crates/host.
 set -euo pipefail
 cd "$(dirname "${BASH_SOURCE[0]}")/.."
 
 work=$(mktemp -d)
 trap 'rm -rf "$work"' EXIT
 
-library=target/staticlib/libhost.a
+library=crates/host/out/libhost.a
 crate=bindings/rust/Cargo.toml
 files=(examples/swing.txt examples/turn.txt examples/turn-array.capture examples/wrap.txt)
 

@@ -1,13 +1,13 @@
-//! Links the proved library that `rt staticlib host` makes.
+//! Links the proved library that `rt lib` makes in crates/host.
 
 use std::path::PathBuf;
 
 fn main() {
-    let folder = PathBuf::from(env!("CARGO_MANIFEST_DIR")).join("../../target/staticlib");
+    let folder = PathBuf::from(env!("CARGO_MANIFEST_DIR")).join("../../crates/host/out");
     let library = folder.join("libhost.a");
     println!("cargo:rerun-if-changed={}", library.display());
     if !library.exists() {
-        eprintln!("target/staticlib/libhost.a is missing: run `rt staticlib host` first");
+        eprintln!("crates/host/out/libhost.a is missing: run `rt lib` in crates/host first");
         std::process::exit(1);
     }
     println!("cargo:rustc-link-search=native={}", folder.display());

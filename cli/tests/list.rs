@@ -10,8 +10,8 @@ use std::process::{Command, Stdio};
 
 /// What the proved program prints of a file.
 fn proved(file: &str) -> Vec<u8> {
-    let program = project().join("target/bin/list");
-    assert!(program.exists(), "target/bin/list is missing: run `rt check list` first");
+    let program = project().join("crates/list/out/list");
+    assert!(program.exists(), "crates/list/out/list is missing: run `rt run` in crates/list first");
     let mut list = Command::new(program);
     list.stdin(File::open(file).expect("a file")).stderr(Stdio::inherit());
     list.output().expect("list starts").stdout

@@ -1,7 +1,9 @@
-//! The commands: cases, answers, list, stats, text, pieces, compare, fit, simulate, bench, texts.
+//! The commands: cases, answers, list, stats, text, pieces, compare, fit, simulate, bench, texts,
+//! draw.
 
 mod bench;
 mod compare;
+mod draw;
 mod fit_check;
 mod simulate;
 mod tally;
@@ -27,6 +29,7 @@ const USAGE: &str = "usage: reference cases SEED COUNT > cases
        reference simulate SEED COUNT
        reference bench
        reference texts FOLDER
+       reference draw [--touching R] < text
 ";
 
 fn input() -> Result<Vec<u8>, String> {
@@ -83,6 +86,11 @@ fn pieces(length: &str) -> Result<Vec<u8>, String> {
     Ok(Vec::new())
 }
 
+fn draw_touching(register: &str) -> Result<Vec<u8>, String> {
+    let register = register.parse().map_err(|_| format!("R is no number\n{USAGE}"))?;
+    draw::draw(&input()?, Some(register))
+}
+
 fn command(arguments: &[&str]) -> Result<Vec<u8>, String> {
     match *arguments {
         ["cases", seed, count] => seeded(seed, count, cases),
@@ -96,6 +104,8 @@ fn command(arguments: &[&str]) -> Result<Vec<u8>, String> {
         ["simulate", seed, count] => seeded(seed, count, simulate::command),
         ["bench"] => bench::bench(),
         ["texts", folder] => bench::texts::texts(folder),
+        ["draw"] => draw::draw(&input()?, None),
+        ["draw", "--touching", register] => draw_touching(register),
         _ => Err(String::from(USAGE)),
     }
 }

@@ -112,6 +112,25 @@ fn texts() {
     std::fs::remove_dir_all(folder).expect("the folder goes");
 }
 
+/// A register of any 32 bits; anything else is a wrong use of the command.
+#[test]
+fn draw_touching() {
+    let filled = |register| {
+        let output = run(&["draw", "--touching", register], P7.as_bytes());
+        assert!(output.status.success());
+        String::from_utf8_lossy(&output.stdout).matches("touches r").count()
+    };
+    assert_eq!(["0", "1", "2", "32", "4294967295"].map(filled), [1, 1, 0, 0, 0]);
+    for wrong in ["", "x", "-1", "r0", "4294967296", "0.5"] {
+        let output = run(&["draw", "--touching", wrong], b"");
+        assert!(!output.status.success() && output.stdout.is_empty(), "{wrong}");
+        assert!(String::from_utf8_lossy(&output.stderr).contains("usage: "), "{wrong}");
+    }
+    assert!(!run(&["draw", "--touching"], b"").status.success());
+    assert!(!run(&["draw", "0"], b"").status.success());
+    assert!(!run(&["draw", "--touching", "0"], b"x\n").status.success());
+}
+
 /// The proved library's starters are the least fit set, and every count is above 0.
 #[test]
 fn fit() {

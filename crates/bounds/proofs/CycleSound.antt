@@ -1,11 +1,11 @@
 -- One cycle from registers within bounds ends within the bounds of the cycle. Assumes nothing.
-use Rattle.std.proofs.Common.{◌≡◌, ℕ, suc, ◌+◌, ◌^◌, ◌<◌, ◌≤◌, Bool, true, false, ◌&&◌, ◌||◌, eqb, ltb, leb, ◌⊎◌, List, [], ◌∷◌, ◌++◌, map, length, get_or, drop, sym, refl, ap, ◌∙◌, subst, inl, inr, zero-add, arith, length-append, ltb-false, ltb-true, leb-true}
+use Rattle.std.proofs.Common.{◌≡◌, ℕ, suc, ◌+◌, ◌^◌, ◌<◌, ◌≤◌, Bool, true, false, ◌&&◌, eqb, ltb, leb, ◌⊎◌, List, [], ◌∷◌, ◌++◌, map, length, get_or, drop, sym, refl, ap, ◌∙◌, subst, inl, inr, zero-add, arith, length-append, ltb-false, ltb-true, leb-true}
 use lib.ListN.{length-map, get_or-append}
 use lib.Seq.{get_or-append_seam}
 use Rattle.runs.specs.Lists.{every}
 use Rattle.runs.proofs.ListLaws.{and_left, and_right, every_at, get_or-map}
 use Rattle.runs.proofs.Tests.{or_true, or_right, Compared, compared, same, other}
-use Rattle.word.specs.Word.{choose, set_code, arity}
+use Rattle.word.specs.Word.{choose, set_code}
 use Rattle.fsmd.specs.declared.Wire.{Wire}
 use Rattle.fsmd.specs.Layout.{max_registers}
 use Rattle.fsmd.specs.Machine.{State, FSMD, wire_arity, wire_value, worked, clock}

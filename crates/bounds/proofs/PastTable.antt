@@ -6,7 +6,7 @@ use Rattle.word.specs.Word.{compare_of}
 use Rattle.word.specs.declared.Comparison.TheVariants.{Ge}
 use Rattle.runs.proofs.Every.{below_at, below_of}
 use Rattle.runs.proofs.ListLaws.{same_test}
-use Rattle.fsmd.specs.Layout.{max_registers, machine_words}
+use Rattle.fsmd.specs.Layout.{max_registers}
 use Rattle.fsmd.specs.Machine.{State}
 use Rattle.fsmd.specs.Table.{state_count, machine_register_count, admitted_machine}
 use Rattle.fsmd.proofs.Machines.{admitted_facts}

@@ -4,10 +4,10 @@ use mathlib.Core.Bool.{false≢true}
 use borrow.Author.Tests.{lt-leb}
 use Rattle.runs.proofs.ListLaws.{and_left, and_right}
 use Rattle.runs.proofs.Tests.{or_true, or_false, and_false}
-use Rattle.word.specs.Word.{choose, add_of, sub_of, sx_of, compare_of, truth, add_code, sub_code, results, eval_of, over_of, arities, arity}
+use Rattle.word.specs.Word.{choose, add_of, sub_of, sx_of, compare_of, truth, results, eval_of, arities, arity}
 use Rattle.word.specs.declared.Comparison.TheVariants.{Eq, Ne, Lt, Ge, Ltu, Geu}
 use Rattle.word.proofs.Laws.{eval_lt}
-use Rattle.word.proofs.Levels.{level, lt_level, ge_level, add_level, sub_level, SixteenBits, sx_level}
+use Rattle.word.proofs.Levels.{level, lt_level, ge_level, add_level, sub_level, sx_level}
 use Rattle.word.proofs.OverLaws.{add_stays, sub_stays}
 use Rattle.word.proofs.WireLaws.{eval_uses, eval_unsampled}
 use Rattle.bounds.specs.declared.Range.{Range}

@@ -1,5 +1,5 @@
 -- Every cycle from values inside ends inside what the operation leaves, in signed values; so no lowest that it leaves is above its highest. Assumes nothing.
-use Rattle.std.proofs.Common.{◌≡◌, ℕ, ◌+◌, ◌^◌, ◌<◌, ◌≤◌, Bool, true, false, ltb, List, [], ◌∷◌, ◌++◌, map, length, get_or, take, drop, sym, refl, ap, ◌∙◌, le_trans, arith, lit<, length-take-le, get_or-take, ltb-false, ltb-true, le-leb, leb-true}
+use Rattle.std.proofs.Common.{◌≡◌, ℕ, ◌^◌, ◌<◌, Bool, true, false, ltb, List, [], ◌∷◌, ◌++◌, map, length, get_or, take, drop, sym, refl, ap, ◌∙◌, le_trans, arith, lit<, length-take-le, get_or-take, ltb-false, ltb-true, le-leb, leb-true}
 use lib.ListN.{get_or-append}
 use Rattle.runs.specs.Lists.{up_from}
 use Rattle.runs.proofs.Every.{below_at}

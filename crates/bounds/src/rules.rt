@@ -151,6 +151,7 @@ fn select(a: Range, b: Range, c: Range) -> Range
 }
 
 // The rule of a code; any word for a code that is none.
+#[tactic(auto, using(crate::proofs::RuleLaws::rule_none), unfolding(crate::specs::Range::rule_of))]
 fn rule(code: u32, a: Range, b: Range, c: Range) -> Range
     ensures { result ≡ rule_of code a b c }
 {
@@ -188,6 +189,7 @@ fn all_single(n: u32, a: Range, b: Range, c: Range) -> bool
 
 // What a code can give: the exact word where all its inputs are single, else what its rule says. That of code 19 gives the exact word too,
 // and most wires are of that code.
+#[tactic(auto, using(crate::proofs::RuleLaws::range_select), unfolding(crate::specs::Range::range_of))]
 pub fn range_of(code: u32, a: Range, b: Range, c: Range) -> Range
     ensures { result ≡ range_of code a b c }
 {

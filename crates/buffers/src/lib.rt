@@ -1,4 +1,4 @@
-// Words and bytes copied, cleared and widened. Bytes over the first ones of bytes are copied by the kit's `bytes::copy`.
+// Words and bytes copied, cleared and widened. Bytes over the first ones of bytes are copied by the standard library's `copy_from_slice`.
 #![tactic(auto)]
 
 ghost use Rattle.std.specs.Prelude.{◌≡◌, ◌+◌, ◌<◌, ◌≤◌, ◌^◌, length, replicate};

@@ -16,7 +16,7 @@ use Rattle.capture.specs.declared.recording.Fault.TheVariants as fault
 use Rattle.capture.specs.declared.recording.Scan.TheVariants.{Cycle, NoForm}
 use Rattle.capture.specs.declared.recording.Position.{Position}
 use Rattle.capture.specs.declared.recording.Step.TheVariants as step
-use Rattle.capture.specs.Capture.{Entry, line_entry, line_entries, recording, fault_from}
+use Rattle.capture.specs.Capture.{Entry, line_entry, line_entries, recording, fault_from, words_of, as_entry}
 use Rattle.capture.specs.Steps.{scanned, scan_at, lines_behind, position_behind, fault_at, Within, Passed, Advanced}
 use Rattle.delimited.proofs.Lines.{line_open, line_feed}
 
@@ -48,11 +48,11 @@ recording_open r s w h = rw (split_last 10 s w, ne_eqb (length s) 0 (λ e. omega
 
 line_at_feed : (r at : ℕ) (l t : List ℕ) → apart 10 l ≡ true → scan_at r at (l ++ (10 ∷ t)) ≡ scanned (line_entry r l) (at + length l + 1)
 unfolding scan_at line_entry
-line_at_feed r at l t w = line_feed NoForm _ at l t w
+line_at_feed r at l t w = line_feed NoForm (λ fs. scanned (as_entry (words_of (suc (suc r)) fs))) at l t w
 
 line_at_unended : (r at : ℕ) (s : List ℕ) → apart 10 s ≡ true → scan_at r at s ≡ NoForm
 unfolding scan_at
-line_at_unended r at s w = line_open NoForm _ at s w
+line_at_unended r at s w = line_open NoForm (λ fs. scanned (as_entry (words_of (suc (suc r)) fs))) at s w
 
 no_form_lem : {X : Type 0} {c n : ℕ} → NoForm ≡ Cycle c n → X
 no_form_lem e = absurd (let z : ◌≡◌ {A = ℕ} 0 1 = cc in omega arith)

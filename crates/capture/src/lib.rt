@@ -1,5 +1,7 @@
 // Two recordings of one run, compared: the array's capture and the model's run, say. Both texts are read from front to back and
 // merged by their cycles; nothing is stored.
+#![tactic(auto)]
+
 pub mod recording; // recording.rt: one recording
 
 ghost use Rattle.std.specs.Prelude.{◌≡◌};

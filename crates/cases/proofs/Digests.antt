@@ -1,5 +1,5 @@
 -- A digest is worked out from the front: what is left of the sequence goes on from what is done. Assumes nothing.
-use Rattle.std.proofs.Common.{◌≡◌, ℕ, ◌+◌, ◌%◌, ◌<◌, ◌≤◌, List, length, get_or, drop, sym, refl, ap, ◌∙◌, add-one, arith, drop-cons}
+use Rattle.std.proofs.Common.{◌≡◌, ℕ, ◌+◌, ◌%◌, ◌<◌, ◌≤◌, List, length, get_or, drop, refl, add-one, arith, drop-cons}
 use lib.Seq.{drop-length}
 use Rattle.cases.specs.Digest.{modulus, digest_step, digest_from, digest_of}
 

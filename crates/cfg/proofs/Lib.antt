@@ -9,3 +9,4 @@ pub mod Marking
 pub mod Unrefused
 pub mod KeptRegisters
 pub mod PastTable
+pub mod Turns

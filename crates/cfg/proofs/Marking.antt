@@ -1,14 +1,12 @@
 -- Marks at the starters of a run with words, and refusal 11. Assumes nothing.
-use Prim.Native.Nat.{ℕ, suc, ◌+◌, ◌≤◌, ◌<◌}
-use native.Mathlib.Numerals.{add-one}
+use Prim.Native.Nat.{ℕ, ◌≤◌}
 use native.Mathlib.Omega.{arith}
-use mathlib.Core.Bool.{Bool, true, false, ◌&&◌, ◌||◌}
+use mathlib.Core.Bool.{Bool, true, false, ◌&&◌}
 use mathlib.Core.List.{List, []}
-use mathlib.Core.Path.{◌≡◌, refl, sym, ap, ◌∙◌, fun_ext}
+use mathlib.Core.Path.{◌≡◌, refl, ap, ◌∙◌, fun_ext}
 use lib.Dec.{eqb, ltb}
-use lib.ListN.{length, get_or, drop, set, replicate, length-replicate, get_or-replicate, drop_of_length-le, get_or-eq_default}
-use lib.Seq.{drop-cons, get_or-set_same, get_or-set_other}
-use borrow.Author.Tests.{eqb-true, eqb-false, lt-ltb, ltb-true, ltb-false}
+use lib.ListN.{get_or, replicate, length-replicate, get_or-replicate, get_or-eq_default}
+use borrow.Author.Tests.{lt-ltb, ltb-true, ltb-false}
 use Rattle.word.specs.Word.{choose}
 use Rattle.runs.specs.Lists.{mem, every}
 use Rattle.runs.specs.Runs.{start_at, Supply, Runner, answer, registers_after}
@@ -20,25 +18,6 @@ use Rattle.cfg.specs.Run.{starters_fit}
 use Rattle.cfg.specs.Steps.{marked_runner, Marks}
 
 -- ---- marks
-
-either : (m : Bool) → ◌≡◌ {A = ℕ} (choose m 1 1) 1
-either true = refl
-either false = refl
-
-module _ (l : List ℕ) (b : ℕ) where
-  -- a turn of the loop: block b is one of the starters that are left, or has its mark
-  pub mark_turn : (marks : List ℕ) (i : ℕ) → i < length l → get_or l i 0 < length marks
-      → choose (mem b (drop i l)) 1 (get_or marks b 0) ≡ choose (mem b (drop (i + 1) l)) 1 (get_or (set marks (get_or l i 0) 1) b 0)
-  mark_turn marks i h k = rw (add-one i, drop-cons l i 0 h) (go (eqb b (get_or l i 0)) refl)
-    where
-      go : (e : Bool) → eqb b (get_or l i 0) ≡ e
-          → choose (eqb b (get_or l i 0) || mem b (drop (suc i) l)) 1 (get_or marks b 0) ≡ choose (mem b (drop (suc i) l)) 1 (get_or (set marks (get_or l i 0) 1) b 0)
-      go true e =
-          rw (e, eqb-true b (get_or l i 0) e, get_or-set_same marks (get_or l i 0) 1 0 k) (sym (either (mem (get_or l i 0) (drop (suc i) l))))
-      go false e = rw (e, get_or-set_other marks (get_or l i 0) b 1 0 (eqb-false b (get_or l i 0) e))
-
-  pub mark_done : (marks : List ℕ) (i : ℕ) → length l ≤ i → choose (mem b (drop i l)) 1 (get_or marks b 0) ≡ get_or marks b 0
-  mark_done marks i h = rw (drop_of_length-le l {i = i} h)
 
 -- no mark
 unmarked : (n b : ℕ) → ◌≡◌ {A = ℕ} (get_or (replicate n 0) b 0) 0
@@ -83,14 +62,6 @@ below_more n m l h e =
 -- ---- the starters of refusal 11
 
 module _ (blocks start : ℕ) (starters : List ℕ) where
-  pub fit_above : every (λ s. ltb s blocks) starters ≡ false → starters_fit blocks start starters ≡ false
-  fit_above h = rw h (go (mem 0 starters) (mem start starters))
-    where
-      go : (a b : Bool) → (a && b && false) ≡ false
-      go true true = refl
-      go true false = refl
-      go false b = refl
-
   pub fit_below : every (λ s. ltb s blocks) starters ≡ true → starters_fit blocks start starters ≡ mem 0 starters && mem start starters
   fit_below h = rw h (go (mem 0 starters) (mem start starters))
     where

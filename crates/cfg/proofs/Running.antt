@@ -8,7 +8,7 @@ use mathlib.Core.List.{List, [], ◌∷◌}
 use lib.Dec.{eqb}
 use lib.ListN.{length, get_or, drop, set, drop_of_length-le}
 use lib.Seq.{drop-cons, get_or-take, length-take-le}
-use borrow.Author.Tests.{eqb-true, eqb-false, eq-eqb, ne_eqb, lt-ltb, le-ltb}
+use borrow.Author.Tests.{eqb-true, eqb-false, eq-eqb, lt-ltb, le-ltb}
 use Rattle.word.specs.Word.{choose, eval_of, over_of, arity}
 use Rattle.word.proofs.OverLaws.{over_other}
 use Rattle.runs.specs.Runs.{Place, standing, Contents, Configuration, stands_at, Supply, Runner, arrivals_at, moved, step}
@@ -34,9 +34,6 @@ module _ (s k a x y : ℕ) where
   value_set h =
       let first : choose (eqb k 1) a x ≡ a = rw (eq-eqb k 1 h) in
       ap (λ (z : ℕ). eval_of s k z y 0) first ∙ rw h
-
-  pub value_other : (k ≡ 1 → ⊥) → eval_of s k (choose (eqb k 1) a x) y 0 ≡ eval_of s k x y 0
-  value_other h = rw (ne_eqb k 1 h)
 
 execute_opens : (s : ℕ) (i : Instruction) (rs : List ℕ)
     → execute s i rs ≡ set rs i.d (eval_of s i.code (choose (eqb i.code 1) i.a (get_or rs i.a 0)) (get_or rs i.b 0) 0)

@@ -6,7 +6,7 @@ use mathlib.Core.Path.{◌≡◌, refl, sym, ap, ◌∙◌}
 use mathlib.Core.Bool.{Bool, true, false, ◌&&◌, and_assoc, and_comm, and-true}
 use mathlib.Core.List.{List, [], ◌∷◌, ◌++◌, map, append_assoc}
 use lib.Dec.{eqb, leb, ltb}
-use lib.ListN.{length, get_or, take, drop, replicate, length-drop, length-append, get_or-eq_default}
+use lib.ListN.{length, get_or, take, drop, replicate, length-drop, length-append}
 use lib.Seq.{drop-cons, take-add, drop-drop, length-take-le}
 use borrow.Author.Tests.{eq-eqb, ne_eqb, lt-leb, le-leb}
 use Rattle.word.specs.declared.Comparison.TheVariants.{Eq, Ne, Lt, Ge, Ltu, Geu}
@@ -42,9 +42,6 @@ module _ (t : List ℕ) (i e : ℕ) where
   zero_stop h l z =
       let n : e - i ≡ suc (e - (i + 1)) = omega arith in
       rw (n, take_word t i (e - (i + 1)) (omega arith), ne_eqb (get_or t i 0) 0 z)
-
-  pub zero_done : e ≤ i → zeros t i (e - i) ≡ true
-  zero_done h = let n : e - i ≡ 0 = omega arith in rw n
 
 -- ---- the instructions' words
 
@@ -321,9 +318,6 @@ module _ (t : List ℕ) where
 -- ---- the comparisons' codes are 12 to 17
 
 module _ (c : ℕ) where
-  pub no_code_low : c < 12 → eqb (comparison_code (comparison_at c)) c ≡ false
-  no_code_low h = let e : c - 12 ≡ 0 = omega arith in rw e (ne_eqb 12 c (λ e. omega arith))
-
   code_at : (m : ℕ) → c ≡ 12 + m → m ≤ 5 → comparison_code (get_or (Eq ∷ Ne ∷ Lt ∷ Ge ∷ Ltu ∷ Geu ∷ []) m Eq) ≡ c
   code_at zero e h = sym e
   code_at (suc zero) e h = sym e
@@ -335,7 +329,3 @@ module _ (c : ℕ) where
 
   pub code_mid : 12 ≤ c → c ≤ 17 → eqb (comparison_code (comparison_at c)) c ≡ true
   code_mid h k = eq-eqb (comparison_code (comparison_at c)) c (code_at (c - 12) (omega arith) (omega arith))
-
-  pub no_code_high : 17 < c → eqb (comparison_code (comparison_at c)) c ≡ false
-  no_code_high h =
-      rw (get_or-eq_default (Eq ∷ Ne ∷ Lt ∷ Ge ∷ Ltu ∷ Geu ∷ []) Eq {n = c - 12} (omega arith)) (ne_eqb 12 c (λ e. omega arith))

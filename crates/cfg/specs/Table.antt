@@ -1,9 +1,8 @@
 -- The graph table ("Graph table" of paper 01): the words of a graph, the graph of some words, and which words are admitted. Assumes nothing.
-use Rattle.std.specs.Prelude.{ℕ, ◌+◌, ◌*◌, Bool, true, false, ◌&&◌, List, [], ◌∷◌, ◌++◌, map, length, get_or, take, eqb}
+use Rattle.std.specs.Prelude.{ℕ, ◌+◌, ◌*◌, Bool, ◌&&◌, List, [], ◌∷◌, ◌++◌, map, length, get_or, take, eqb}
 use Rattle.word.specs.Word.{choose, comparison_at, comparison_code}
 use Rattle.runs.specs.Lists.{up_from, same, padded, concat_map}
 use Rattle.cfg.specs.declared.Instruction.{Instruction}
-use Rattle.cfg.specs.declared.Condition.{Condition}
 use Rattle.cfg.specs.declared.Ending.{Ending}
 use Rattle.cfg.specs.declared.Ending.TheVariants.{Goto, Ite, Halt}
 use Rattle.cfg.specs.declared.Block.{Block}

@@ -3,7 +3,6 @@ use Rattle.std.specs.Prelude.{ℕ, ◌&&◌, List, [], ◌∷◌, leb}
 use Rattle.std.proofs.Math.Option.{Option, none, some}
 use Rattle.word.specs.Word.{choose, comparison_at, set_code, in_code}
 use Rattle.cfg.specs.Layout.{max_blocks, max_registers}
-use Rattle.cfg.specs.declared.Instruction.{Instruction}
 use Rattle.delimited.specs.Parts.{Fields, split_at}
 use Rattle.cfg_line.specs.declared.Keyword.{Keyword}
 use Rattle.cfg_line.specs.declared.Keyword.TheVariants as keyword

@@ -1,5 +1,7 @@
 // One line of a graph's text: its form. A text is read from front to back, each byte once: a function takes the text and
 // where it stands, and hands back where the next field or line begins.
+#![tactic(auto)]
+
 ghost use Rattle.std.specs.Prelude.{◌≡◌, true, List, ℕ, ◌^◌, drop};
 ghost use Rattle.runs.specs.Lists.{every};
 ghost use Rattle.delimited.specs.Cursor.{stops, field_at};

@@ -80,7 +80,7 @@ fn write_by_way_of(text: &mut [u8], table: &[u32], out: &mut [u8]) -> WriteAnswe
     if out.len() < n {
         return WriteAnswer::Refused(8, n as u32);
     }
-    bytes::copy(&text[..n], out);
+    out[..n].copy_from_slice(&text[..n]);
     WriteAnswer::Written(n as u32)
 }
 

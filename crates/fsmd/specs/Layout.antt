@@ -43,7 +43,7 @@ next_registers_offset = next_state_offset + 1
 abbrev pub touch_offset : ℕ
 touch_offset = next_registers_offset + max_registers
 
--- "the records become 20 words": first wire, wire count, next-state reference, 16 next_register references, touch word
+-- "the records become 20 words": first wire, wire count, next-state reference, 16 next-register references, touch word
 abbrev pub record_words : ℕ
 record_words = touch_offset + 1
 

@@ -6,7 +6,7 @@ use mathlib.Core.List.{List, [], ◌∷◌, ◌++◌}
 use native.Mathlib.Omega.{arith}
 use lib.ListN.{length, replicate, length-append, take-append-drop}
 use Rattle.runs.specs.Lists.{padded}
-use Rattle.runs.proofs.ListLaws.{length_padded, padded_append}
+use Rattle.runs.proofs.ListLaws.{padded_append}
 use Rattle.runs.proofs.Sets.{In, Distinct, Out→mem, in_left, in_append, distinct_snoc, distinct_below}
 use Rattle.cfg.specs.Layout.{max_blocks}
 use Rattle.cfg.specs.Graph.{CFG, successors}
@@ -69,9 +69,6 @@ module _ (g : CFG) (a : Closed g) (bytes : List ℕ) (edges : (n : ℕ) → edge
   module _ (z : Groups) (s : Starters) (i : Round g z s) (states : List ℕ) (fresh : states ≡ population bytes (starters_of s)) where
     padded_states : states ≡ padded max_blocks absent (populate g (starters_of s))
     padded_states = fresh ∙ population_bytes g a bytes edges (starters_of s) i.distinct i.known
-
-    pub states_64 : length states ≡ max_blocks
-    states_64 = ap length padded_states ∙ length_padded max_blocks absent (populate g (starters_of s))
 
     size : length (populate g (starters_of s)) ≡ length g.blocks
     size = (populated g a (starters_of s) i.distinct i.known i.entry).taken.size

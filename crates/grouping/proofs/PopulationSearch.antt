@@ -22,6 +22,10 @@ use Rattle.grouping.proofs.StarterLaws.{starters_length}
 use Rattle.grouping.proofs.VisitStack.{resume}
 use Rattle.grouping.proofs.ByteStack.{path_of, frames, AtVisit, AtEdges, begins, ends, enters, pops, passes_none, skips, room, falls, pushes}
 
+-- the starter at a state's number is a block
+pub root_low : {starters marks : List ℕ} {root k : ℕ} → Marking starters marks → k < length starters → root ≡ get_or starters k 0 → root < max_blocks
+root_low {k = k} m l e = rw e (m.blocks k l)
+
 -- what is left of taking at a head of the outer loop
 abbrev pub take_rest : List ℕ → List ℕ → ℕ → ℕ → List ℕ → List ℕ → List ℕ → ℕ → List ℕ
 take_rest bytes starters r k states stack passed depth = resume (populating starters r k) (edges_in bytes) (max_blocks - depth) (frames bytes stack passed depth) states

@@ -8,7 +8,7 @@ use native.Mathlib.Numerals.{add-one}
 use lib.Dec.{eqb}
 use lib.ListN.{length, get_or, set, drop, replicate, length-set, get_or-replicate}
 use lib.Seq.{length-take-le, take-suc-set, drop-set-lt, drop-drop, get_or-set_same, get_or-set_other, get_or-take}
-use borrow.Author.Tests.{eq-eqb, ne_eqb}
+use borrow.Author.Tests.{eq-eqb}
 use Rattle.cfg.specs.Layout.{max_blocks}
 use Rattle.runs.specs.Lists.{mem}
 use Rattle.runs.proofs.Tests.{Compared, same, other, compared}
@@ -65,9 +65,6 @@ mem_snoc x y (z ∷ l) = ap (λ (b : Bool). eqb x z || b) (mem_snoc x y l) ∙ a
 module _ (s : Starters) (i : Listed s) (t : ℕ) (l : t < max_blocks) where
   marks_in : t < length s.marks
   marks_in = omega (arith, i.marks_64)
-
-  pub with_known : (get_or s.marks t 0 ≡ 0 → ⊥) → starters_of s ≡ with_starter t (starters_of s)
-  with_known f = let e : mem t (starters_of s) ≡ true = i.marked t l ∙ ap not (ne_eqb (get_or s.marks t 0) 0 f) in rw (e, with_starter)
 
   module _ (new : get_or s.marks t 0 ≡ 0) where
     pub with_room : s.count < max_blocks

@@ -1,4 +1,6 @@
 // Grouping: which blocks of a graph share a state.
+#![tactic(auto)]
+
 ghost use Rattle.std.specs.Prelude.{◌≡◌, true, [], ◌∷◌, ◌<◌};
 ghost use Rattle.cfg.specs.Layout.{max_blocks};
 ghost use Rattle.cfg.specs.Table.{admitted_graph};

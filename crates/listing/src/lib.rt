@@ -33,7 +33,7 @@ fn hand_over(new: &[u8], out: &mut [u8]) -> ListAnswer
     if out.len() < n {
         return ListAnswer::Short(n as u32);
     }
-    bytes::copy(new, out);
+    out[..n].copy_from_slice(new);
     ListAnswer::Listed(n as u32)
 }
 

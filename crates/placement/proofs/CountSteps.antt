@@ -18,7 +18,7 @@ use Rattle.fsmd.specs.Layout.{max_blocks, absent}
 use Rattle.grouping.specs.Bytes.{edges_from}
 use Rattle.placement.specs.Counts.{waiting, lowered}
 use Rattle.placement.specs.PlacementBytes.{marked, awaited, target_in, targets_in, counts_in}
-use Rattle.placement.proofs.CountLaws.{only_only, number_append, lowered_is, lowered_append, waits, enough}
+use Rattle.placement.proofs.CountLaws.{only_only, number_append, lowered_is, lowered_append, waits}
 
 -- ---- the edges of a block
 

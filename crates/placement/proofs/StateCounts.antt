@@ -1,4 +1,4 @@
--- Placing a state by counts: each count is exact, the order is the same, and each in_state edge lowers a count exactly once. Assumes nothing.
+-- Placing a state by counts: each count is exact, the order is the same, and each in-state edge lowers a count exactly once. Assumes nothing.
 use Prim.Native.Nat.{ℕ, zero, suc, ◌+◌, ◌<◌}
 use native.Mathlib.Omega.{arith}
 use mathlib.Core.Bool.{Bool, true, false, not, ◌&&◌, ◌||◌}
@@ -90,7 +90,7 @@ module _ (g : CFG) (s : Groups) (k : ℕ) where
   unfolding members
   members_distinct = distinct_only (λ x. eqb (get_or s.states x absent) k) (up_from 0 (length g.blocks)) (distinct_up_from 0 (length g.blocks))
 
-  -- before each choice every block's count is the number of its in_state edges from unplaced blocks
+  -- before each choice every block's count is the number of its in-state edges from unplaced blocks
   pub counts_exact : Each (Exact (in_state_targets g s)) (choices_of g s k)
   unfolding choices_of
   counts_exact = run_exact (in_state_targets g s) (length (members g s k)) (members g s k) members_distinct
@@ -107,7 +107,7 @@ module _ (g : CFG) (s : Groups) (k : ℕ) where
   unfolding lowerings
   lowerings_in_order = sym (concat_map_lem (edges_out g s) (λ (c : Choice). c.block) (choices_of g s k)) ∙ ap (concat_map (edges_out g s)) order_by_counts
 
-  -- each in_state edge of the state stands once in the list of them, and no other edge does
+  -- each in-state edge of the state stands once in the list of them, and no other edge does
   pub edges_once : (u way : ℕ) → times_in (edges_of g s k) u way ≡ choose (is_in_state g s k u way) 1 0
   unfolding edges_of concat_map
   edges_once u way = go (members g s k) members_distinct

@@ -82,7 +82,7 @@ module _ (g : CFG) (a : Closed g) (s : Groups) (G : Grouped g s) where
     few = let n = G.few_states_lem in let b = a.few_blocks_lem in omega arith;
     room = let n = G.all_blocks in let b = a.few_blocks_lem in omega arith;
     entry = In→mem 0 s.starters zero_in;
-    entry_state = sym (ap (λ (z : ℕ). get_or s.states z absent) (G.entry_IsFirst absent)) ∙ G.starter_home 0 absent G.some_state_lem;
+    entry_state = sym (ap (λ (z : ℕ). get_or s.states z absent) (G.entry_first absent)) ∙ G.starter_home 0 absent G.some_state_lem;
     home = λ y m. (of_starter y m).0;
     own = λ y m. (of_starter y m).1;
     placed = λ y m. (of_starter y m).2;
@@ -90,7 +90,7 @@ module _ (g : CFG) (a : Closed g) (s : Groups) (G : Grouped g s) where
   }
     where
       zero_in : In 0 s.starters
-      zero_in = rw (G.entry_IsFirst absent) at (get_or-in s.starters 0 absent G.some_state_lem)
+      zero_in = rw (G.entry_first absent) at (get_or-in s.starters 0 absent G.some_state_lem)
 
       of_starter : (y : ℕ) → mem y s.starters ≡ true
           → (get_or s.states y absent < length s.starters)

@@ -68,11 +68,11 @@ abbrev pub edges_to : ℕ → ℕ → List ℕ → List BlockEdge
 edges_to u way [] = []
 edges_to u way (t ∷ targets) = record { source = u; way = way; target = t } ∷ edges_to u (suc way) targets
 
--- the in_state edges of u: those to non-starters
+-- the in-state edges of u: those to non-starters
 abbrev pub edges_out : CFG → Groups → ℕ → List BlockEdge
 edges_out g s u = only (λ (e : BlockEdge). not (mem e.target s.starters)) (edges_to u 0 (successors g u))
 
--- one target for each in_state edge of u
+-- one target for each in-state edge of u
 abbrev pub in_state_targets : CFG → Groups → ℕ → List ℕ
 in_state_targets g s u = map (λ (e : BlockEdge). e.target) (edges_out g s u)
 
@@ -80,7 +80,7 @@ unfoldable pub choices_of : CFG → Groups → ℕ → List Choice
 unfolding members run
 choices_of g s k = let blocks = members g s k in run (in_state_targets g s) (length blocks) blocks
 
--- the in_state edges of state k, by rising source
+-- the in-state edges of state k, by rising source
 unfoldable pub edges_of : CFG → Groups → ℕ → List BlockEdge
 unfolding members
 edges_of g s k = concat_map (edges_out g s) (members g s k)
@@ -97,7 +97,7 @@ is_edge u way e = eqb e.source u && eqb e.way way
 abbrev pub times_in : List BlockEdge → ℕ → ℕ → ℕ
 times_in edges u way = length (only (is_edge u way) edges)
 
--- edge `way` of u is an in_state edge of state k: u is a block of the state, and the edge leads to a non-starter
+-- edge `way` of u is an in-state edge of state k: u is a block of the state, and the edge leads to a non-starter
 abbrev pub is_in_state : CFG → Groups → ℕ → ℕ → ℕ → Bool
 is_in_state g s k u way = mem u (members g s k) && (ltb way (length (successors g u)) && not (mem (get_or (successors g u) way absent) s.starters))
 
@@ -106,9 +106,9 @@ pub record PlacedByCounts (g : CFG) (s : Groups) (k : ℕ) : Type 0 where
   -- the placement is the same, block for block
   pub same_order : blocks_of (choices_of g s k) ≡ order g s k
   pub exact : Each (Exact (in_state_targets g s)) (choices_of g s k)
-  -- each in_state edge of the state lowers a count exactly once, and no other edge lowers one
+  -- each in-state edge of the state lowers a count exactly once, and no other edge lowers one
   pub once : (u way : ℕ) → times_in (lowerings g s k) u way ≡ choose (is_in_state g s k u way) 1 0
   -- whichever edges are looked for, as many lower a count as there are
   pub alike : (p : BlockEdge → Bool) → length (only p (lowerings g s k)) ≡ length (only p (edges_of g s k))
-  -- an in_state edge stays in the state
+  -- an in-state edge stays in the state
   pub inside : (u t : ℕ) → mem u (members g s k) ≡ true → mem t (in_state_targets g s u) ≡ true → mem t (members g s k) ≡ true

@@ -1,5 +1,5 @@
 -- The order in which the blocks of a state are placed ("Wires" of paper 01). Assumes nothing.
-use Rattle.std.specs.Prelude.{ℕ, zero, suc, Bool, true, false, not, ◌&&◌, ◌||◌, List, [], ◌∷◌, length, get_or, eqb}
+use Rattle.std.specs.Prelude.{ℕ, zero, suc, Bool, not, ◌&&◌, ◌||◌, List, [], ◌∷◌, length, get_or, eqb}
 use Rattle.std.proofs.Math.Option.{Option, none, some}
 use Rattle.runs.specs.Lists.{up_from, mem, only, every, first}
 use Rattle.cfg.specs.Graph.{CFG, successors}
@@ -10,7 +10,7 @@ use Rattle.grouping.specs.Grouping.{Groups}
 unfoldable pub members : CFG → Groups → ℕ → List ℕ
 members g s k = only (λ x. eqb (get_or s.states x absent) k) (up_from 0 (length g.blocks))
 
--- the incoming in_state edges of x all come from placed blocks; an edge to a starter is none of them
+-- the incoming in-state edges of x all come from placed blocks; an edge to a starter is none of them
 abbrev pub ready : CFG → Groups → List ℕ → List ℕ → ℕ → Bool
 ready g s blocks placed x = mem x s.starters || every (λ u. not (mem x (successors g u)) || mem u placed) blocks
 

@@ -40,15 +40,15 @@ placed_in edges starts blocks (suc n) placed =
 
 -- ---- by counts
 
--- an edge to t is in_state: t is a block, and no starter
+-- an edge to t is in-state: t is a block, and no starter
 abbrev pub awaited : List ℕ → ℕ → Bool
 awaited starts t = ltb t max_blocks && not (marked starts t)
 
--- the target of one edge, where it is in_state
+-- the target of one edge, where it is in-state
 abbrev pub target_in : List ℕ → ℕ → List ℕ
 target_in starts t = keep (awaited starts t) t []
 
--- the targets of u's in_state edges
+-- the targets of u's in-state edges
 abbrev pub targets_in : List ℕ → List ℕ → ℕ → List ℕ
 targets_in edges starts u = only (λ t. not (marked starts t)) (edges_in edges u)
 

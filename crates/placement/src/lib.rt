@@ -1,4 +1,6 @@
 // The order in which the blocks of a state are placed, by counts of the edges that each block waits for.
+#![tactic(auto)]
+
 ghost use Rattle.std.specs.Prelude.{◌≡◌, [], ◌∷◌, ◌++◌, ℕ, ◌+◌, ◌<◌, ◌≤◌, length, get_or, take, drop};
 ghost use Rattle.runs.specs.Lists.{concat_map};
 ghost use Rattle.fsmd.specs.Layout.{max_blocks};

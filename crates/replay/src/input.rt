@@ -2,7 +2,7 @@
 ghost use Rattle.std.specs.Prelude.{◌≡◌, ◌-◌, ◌≤◌, length};
 
 use cases::stream::Case;
-use libc::STDIN_FILENO;
+use std::io::Read;
 
 #[derive(Drop)]
 pub struct Window {
@@ -33,8 +33,23 @@ fn shift(buffer: &mut [u8], from: usize, end: usize)
     }
 }
 
+// Reads until the buffer is full, the stream ends or a read fails, and gives how many bytes it put at the start of the buffer.
+fn read_full<R: Read>(reader: &mut R, buffer: &mut [u8]) -> usize
+    ensures { result ≤ length buffer.new }
+{
+    let mut done = 0;
+    while done < buffer.len() {
+        let n = reader.read(&mut buffer[done..]).unwrap_or(0);
+        if n == 0 {
+            break;
+        }
+        done += n;
+    }
+    done
+}
+
 // A window that holds a whole case, or all that is left of the stream.
-pub fn refill(buffer: &mut [u8], w: Window) -> Window
+pub fn refill<R: Read>(reader: &mut R, buffer: &mut [u8], w: Window) -> Window
     requires { (w.from ≤ w.end) × (w.end ≤ length buffer.old) }
     ensures { (result.from ≤ result.end) × (result.end ≤ length buffer.new) }
 {
@@ -45,7 +60,7 @@ pub fn refill(buffer: &mut [u8], w: Window) -> Window
         return w;
     }
     shift(buffer, from, end);
-    let got = io::read_full(STDIN_FILENO, &mut buffer[kept..]);
+    let got = read_full(reader, &mut buffer[kept..]);
     Window {
         from: 0,
         end: kept + got,

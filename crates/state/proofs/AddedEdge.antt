@@ -1,23 +1,23 @@
 -- One more edge after those that there are. Assumes nothing.
-use Prim.Native.Nat.{ℕ, zero, suc, ◌+◌, ◌-◌, ◌*◌, ◌≤◌, ◌<◌}
+use Prim.Native.Nat.{ℕ, zero, suc, ◌+◌, ◌*◌, ◌≤◌, ◌<◌}
 use native.Mathlib.Nat.{zero-add}
 use native.Mathlib.Numerals.{add-one}
 use native.Mathlib.Omega.{arith}
 use mathlib.Core.Path.{◌≡◌, refl, sym, ap, ◌∙◌}
 use mathlib.Core.Bool.{Bool, true, false, not}
 use mathlib.Core.List.{List, [], ◌∷◌, ◌++◌, append_assoc, map}
-use lib.ListN.{length, get_or, set, take, drop, length-append, length-set, length-drop}
-use lib.Seq.{take-take, take-append-le, take-set-le, drop_at, take_at, get_or-take, get_or-set_same, get_or-set_other, length-take-le, sets, sets-eq}
+use lib.ListN.{length, get_or, set, take, drop, length-set}
+use lib.Seq.{take-take, take-set-le, drop_at, take_at, get_or-take, get_or-set_same, get_or-set_other, length-take-le, sets, sets-eq}
 use lib.Dec.{eqb}
 use borrow.Author.Tests.{ne_eqb}
 use Rattle.word.specs.Word.{choose}
 use Rattle.runs.specs.Lists.{keep, only, up_from}
-use Rattle.runs.specs.Runs.{Place, standing, halted}
+use Rattle.runs.specs.Runs.{standing, halted}
 use Rattle.runs.proofs.ListLaws.{only_append}
 use Rattle.runs.proofs.Fronts.{map_same}
 use Rattle.fsmd.specs.Layout.{max_registers, absent}
-use Rattle.state.specs.Wires.{Edge, leads_to, towards}
-use Rattle.state.specs.Making.{used, place_of, edge_to, edge_in, edges_in, pending, row_words, max_edges, Edged}
+use Rattle.state.specs.Wires.{Edge, leads_to}
+use Rattle.state.specs.Making.{used, place_of, edge_to, edge_in, edges_in, pending, row_words, Edged}
 use Rattle.state.proofs.Counting.{up_from_more}
 
 -- ---- parts of lists

@@ -1,11 +1,10 @@
 -- A block's ending as the code makes its wires and edges. Assumes nothing.
-use Prim.Native.Nat.{ℕ, zero, suc, ◌+◌, ◌-◌, ◌*◌, ◌≤◌, ◌<◌}
+use Prim.Native.Nat.{ℕ, ◌+◌, ◌*◌, ◌≤◌, ◌<◌}
 use native.Mathlib.Omega.{arith}
-use mathlib.Core.Path.{◌≡◌, refl, sym, ap, ◌∙◌, subst}
+use mathlib.Core.Path.{◌≡◌, refl, sym, ap, ◌∙◌}
 use mathlib.Core.List.{List, [], ◌∷◌, ◌++◌}
 use lib.ListN.{length, get_or, length-append}
 use Rattle.word.specs.Word.{comparison_code}
-use Rattle.runs.specs.Runs.{standing}
 use Rattle.cfg.specs.declared.Condition.{Condition}
 use Rattle.cfg.specs.declared.Ending.{Ending}
 use Rattle.cfg.specs.declared.Ending.TheVariants.{Goto, Ite, Halt}
@@ -14,7 +13,7 @@ use Rattle.cfg.specs.Table.{ending_at, block_at}
 use Rattle.fsmd.specs.declared.Wire.{Wire}
 use Rattle.fsmd.specs.Layout.{max_registers, max_blocks, absent, wire_words}
 use Rattle.state.specs.Wires.{wire, and_wire, and_not_wire, Edge, BlockBuild, StateBuild, close, after}
-use Rattle.state.specs.Making.{wires_in, stored, appended, Room, block_build_in, place_of, edge_to, pending, state_build_in, Built, Aims}
+use Rattle.state.specs.Making.{wires_in, stored, appended, block_build_in, edge_to, pending, Built}
 use Rattle.state.proofs.StoredWires.{length-wires_in, wires_in_stored, stored_none}
 use Rattle.state.proofs.EdgeLaws.{place_standing}
 

@@ -1,18 +1,17 @@
 -- How a block is entered: a start, no incoming edge, or a first one and further ones. Assumes nothing.
-use Prim.Native.Nat.{ℕ, zero, suc, ◌+◌, ◌-◌, ◌*◌, ◌≤◌, ◌<◌}
-use native.Mathlib.Nat.{add-zero, sub-zero}
+use Prim.Native.Nat.{ℕ, ◌+◌, ◌-◌, ◌*◌, ◌≤◌, ◌<◌}
+use native.Mathlib.Nat.{sub-zero}
 use native.Mathlib.Numerals.{add-one}
 use native.Mathlib.Omega.{arith}
 use mathlib.Core.Path.{◌≡◌, refl, sym, ap, ◌∙◌}
-use mathlib.Core.Bool.{Bool, true, false, not}
+use mathlib.Core.Bool.{true, false}
 use mathlib.Core.List.{List, [], ◌∷◌, ◌++◌}
 use lib.ListN.{length, get_or, take, drop, length-append, length-drop}
 use lib.Seq.{length-take-le}
 use Rattle.runs.specs.Lists.{up_from}
-use Rattle.fsmd.specs.declared.Wire.{Wire}
-use Rattle.fsmd.specs.Layout.{max_registers, max_blocks, wire_words}
+use Rattle.fsmd.specs.Layout.{max_registers, max_blocks}
 use Rattle.state.specs.Wires.{set_wire, Edge, BlockBuild, StateBuild, joins, arrive, start_block, enter, leads_to, towards}
-use Rattle.state.specs.Making.{wires_in, stored, appended, Room, block_build_in, Held, along, edge_in, edges_in, pending, state_build_in, row_words, NextAt}
+use Rattle.state.specs.Making.{wires_in, appended, block_build_in, Held, edge_in, edges_in, pending, state_build_in, row_words, NextAt}
 use Rattle.state.proofs.StoredWires.{length-wires_in}
 use Rattle.state.proofs.Points.{held_by}
 use Rattle.state.proofs.EdgeLaws.{towards_found, towards_pending}

@@ -1,22 +1,21 @@
 -- Exits as the code makes them, one after another. Assumes nothing.
-use Prim.Native.Nat.{ℕ, zero, suc, ◌+◌, ◌-◌, ◌*◌, ◌≤◌, ◌<◌}
+use Prim.Native.Nat.{ℕ, suc, ◌+◌, ◌-◌, ◌*◌, ◌≤◌, ◌<◌}
 use native.Mathlib.Nat.{sub-zero}
 use native.Mathlib.Numerals.{add-one}
 use native.Mathlib.Omega.{arith}
 use mathlib.Core.Path.{◌≡◌, refl, sym, ap, ◌∙◌}
 use mathlib.Core.Bool.{Bool, true, false, not, false≢true}
-use mathlib.Core.List.{List, [], ◌∷◌, ◌++◌, append_assoc}
+use mathlib.Core.List.{List, [], ◌∷◌, ◌++◌}
 use lib.ListN.{length, get_or, take, drop, length-append}
 use lib.Dec.{eqb}
 use borrow.Author.Tests.{eqb-true}
 use Rattle.runs.specs.Lists.{up_from, mem}
 use Rattle.runs.specs.Runs.{Place, standing, halted}
 use Rattle.runs.proofs.ListLaws.{length-up_from}
-use Rattle.fsmd.specs.declared.Wire.{Wire}
 use Rattle.fsmd.specs.Layout.{max_registers, wire_words}
 use Rattle.grouping.specs.Grouping.{Groups}
 use Rattle.state.specs.Wires.{set_wire, select_wire, selects, Edge, BlockBuild, exit, exits, close_state, leaves, leads_to, next_state_of, towards}
-use Rattle.state.specs.Making.{wires_in, stored, appended, Room, block_build_in, Held, along, place_of, edge_to, edge_in, edges_in, pending, row_words, used, NextAt, exit_to}
+use Rattle.state.specs.Making.{wires_in, appended, block_build_in, Held, along, place_of, edge_to, edge_in, edges_in, pending, row_words, used, NextAt, exit_to}
 use Rattle.state.proofs.StoredWires.{length-wires_in, wires_in_stored, appended_more, stored_none}
 use Rattle.state.proofs.Selections.{length_selects}
 use Rattle.state.proofs.Points.{held_by}

@@ -1,13 +1,13 @@
 -- What the code holds of a block in the making, carried from step to step. Assumes nothing.
-use Prim.Native.Nat.{ℕ, zero, suc, ◌+◌, ◌-◌, ◌*◌, ◌≤◌, ◌<◌}
+use Prim.Native.Nat.{ℕ, ◌*◌, ◌≤◌}
 use native.Mathlib.Omega.{arith}
 use mathlib.Core.Path.{◌≡◌, refl, sym, ap, ◌∙◌}
-use mathlib.Core.List.{List, [], ◌∷◌, ◌++◌}
+use mathlib.Core.List.{List}
 use lib.ListN.{length}
 use Rattle.fsmd.specs.declared.Wire.{Wire}
 use Rattle.fsmd.specs.Layout.{wire_words}
 use Rattle.state.specs.Wires.{BlockBuild}
-use Rattle.state.specs.Making.{wires_in, stored, block_build_in, Held, Room}
+use Rattle.state.specs.Making.{wires_in, stored, block_build_in, Held}
 use Rattle.state.proofs.StoredWires.{length-wires_in, wires_in_stored, length_stored, stored_again, stored_none}
 
 module _ {p : BlockBuild} {t₀ : List ℕ} {a : ℕ} {v : List ℕ} {n : ℕ} {t : List ℕ} (h : Held p t₀ a v n t) where

@@ -1,18 +1,17 @@
 -- A block placed, from its parts: entered, its instructions, its ending. Assumes nothing.
-use Prim.Native.Nat.{ℕ, ◌+◌, ◌*◌, ◌≤◌, ◌<◌}
+use Prim.Native.Nat.{ℕ, ◌≤◌, ◌<◌}
 use native.Mathlib.Omega.{arith}
-use mathlib.Core.Path.{◌≡◌, refl, sym, ap, ◌∙◌, subst}
+use mathlib.Core.Path.{◌≡◌, refl, sym, ap, ◌∙◌}
 use mathlib.Core.Bool.{Bool, not}
 use mathlib.Core.List.{List}
 use lib.ListN.{length}
 use Rattle.cfg.specs.declared.Block.{Block}
 use Rattle.cfg.specs.Graph.{instructions_of}
-use Rattle.fsmd.specs.declared.Wire.{Wire}
-use Rattle.fsmd.specs.Layout.{max_blocks, wire_words}
+use Rattle.fsmd.specs.Layout.{max_blocks}
 use Rattle.state.specs.Wires.{Edge, BlockBuild, StateBuild, leads_to, towards, enter, assigns, close, after}
 use Rattle.state.specs.Making.{wires_in, stored, Room, block_build_in, Held, pending, used_up, state_build_in, Built, put_block}
-use Rattle.state.proofs.StoredWires.{length-wires_in, stored_again, length_stored}
-use Rattle.state.proofs.Points.{held_count, held_length, held_on}
+use Rattle.state.proofs.StoredWires.{length-wires_in, stored_again}
+use Rattle.state.proofs.Points.{held_count, held_on}
 use Rattle.state.proofs.EdgeLaws.{pending_used_up}
 use Rattle.state.proofs.AssignLaws.{grow_assigns}
 use Rattle.state.proofs.CloseLaws.{grow_close}

@@ -2,7 +2,7 @@
 use Rattle.std.specs.Prelude.{ℕ, List, [], ◌∷◌, length, get_or, set, ◌≤◌, ◌<◌}
 use Rattle.runs.specs.Lists.{mem}
 use Rattle.cfg.specs.Table.{block_at}
-use Rattle.fsmd.specs.Layout.{max_blocks, max_registers}
+use Rattle.fsmd.specs.Layout.{max_blocks}
 use Rattle.state.specs.Wires.{StateBuild, BlockBuild, nothing, enter, leaves, towards, close_state}
 use Rattle.state.specs.Making.{put_block, Placeable, groups_in}
 

@@ -1,4 +1,6 @@
 // One state: its blocks placed in order, then its exits.
+#![tactic(auto)]
+
 pub mod blocks; // blocks.rt: what a block adds to its state
 pub mod edges; // edges.rt: the edges out of placed blocks
 pub mod exits; // exits.rt: where a state leads

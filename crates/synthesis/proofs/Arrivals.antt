@@ -2,7 +2,7 @@
 use Prim.Native.Nat.{ℕ, suc, ◌≤◌}
 use native.Mathlib.Omega.{arith}
 use mathlib.Core.Logic.{◌⊎◌, inl, inr, ◌≢◌}
-use mathlib.Core.Path.{◌≡◌, refl, sym, ap, ap₂, ◌∙◌}
+use mathlib.Core.Path.{◌≡◌, refl, sym, ap, ap₂, ◌∙◌, subst}
 use mathlib.Core.List.{List, [], ◌∷◌, map}
 use lib.ListN.{length, get_or, length-append}
 use borrow.Author.Tests.{eq-eqb, ne_eqb}
@@ -69,13 +69,14 @@ module _ (g : CFG) (s : Groups) where
 
   arrival_in_lem : (x : ℕ) (xs : List ℕ) (b : StateBuild) → In x xs → In (arrival_in g s x xs b) (arrivals_in g s xs b)
   arrival_in_lem x [] b i = absurd i
-  arrival_in_lem x (y ∷ ys) b i = rw (arrivals_cons y ys b) (go (compared x y) i (arrival_in_lem x ys (put g s y b)))
+  arrival_in_lem x (y ∷ ys) b i =
+      subst (λ (l : List ℕ). In (arrival_in g s x (y ∷ ys) b) l) (sym (arrivals_cons y ys b)) (go (compared x y) i (arrival_in_lem x ys (put g s y b)))
     where
       go : Compared x y → (x ≡ y) ⊎ In x ys → (In x ys → In (arrival_in g s x ys (put g s y b)) (arrivals_in g s ys (put g s y b)))
           → In (arrival_in g s x (y ∷ ys) b) (arrival_of y b ∷ arrivals_in g s ys (put g s y b))
       go (same h e) i later = inl (arrival_first x y ys b e)
       go (other h d) (inl e) later = absurd (d e)
-      go (other h d) (inr i) later = inr (rw (arrival_later x y ys b d) (later i))
+      go (other h d) (inr i) later = inr (subst (λ (n : ℕ). In n (arrivals_in g s ys (put g s y b))) (sym (arrival_later x y ys b d)) (later i))
 
   -- in the state that the block is in
   pub made_arrival : (k x : ℕ) → get_or s.states x absent ≡ k → k ≢ absent → arrival_made g s x ≡ arrival_in g s x (order g s k) nothing

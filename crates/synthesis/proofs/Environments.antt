@@ -99,7 +99,7 @@ pub map-up_from : (E L : List ℕ) → map (at (E ++ L)) (up_from (length E) (le
 map-up_from E [] = refl
 map-up_from E (x ∷ L) =
     ap₂ (λ (a : ℕ) (l : List ℕ). a ∷ l) (get_or-append_seam E x L 0)
-    (rw (← append_snoc E x L, ← snoc_length E x) (map-up_from (E ++ (x ∷ [])) L))
+    (rw (append_snoc E x L, snoc_length E x) at (map-up_from (E ++ (x ∷ [])) L))
 
 pub map_behind : (E : List ℕ) (x : ℕ) (L : List ℕ) (r : ℕ) → length L ≡ r → map (at (E ++ x ∷ L)) (up_from (suc (length E)) r) ≡ L
 map_behind E x L r h = rw (← append_snoc E x L, ← snoc_length E x, ← h) (map-up_from (E ++ (x ∷ [])) L)

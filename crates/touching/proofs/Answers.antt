@@ -3,13 +3,13 @@ use Prim.Native.Nat.{ℕ, ◌+◌, ◌<◌, ◌≤◌}
 use native.Mathlib.Omega.{arith}
 use mathlib.Core.Bool.{Bool, true, false, not, ◌&&◌}
 use mathlib.Core.List.{List}
-use mathlib.Core.Path.{◌≡◌, refl, sym, ap, ap₂, ◌∙◌}
+use mathlib.Core.Path.{◌≡◌, refl, ap, ◌∙◌}
 use lib.Dec.{eqb, ltb}
 use lib.ListN.{length, get_or}
 use borrow.Author.Tests.{lt-ltb, le-ltb, ltb-true}
 use Rattle.runs.specs.Lists.{up_from, first}
 use Rattle.fsmd.specs.Layout.{machine_words, record_offset, next_registers_offset}
-use Rattle.fsmd.specs.Touch.{touches, bit}
+use Rattle.fsmd.specs.Touch.{bit}
 use Rattle.fsmd.specs.Table.{state_count, machine_register_count, state_at, touch_at, admitted_machine}
 use Rattle.fsmd.proofs.Machines.{Admitted, admitted_facts}
 use Rattle.fsmd.proofs.TouchLaws.{touch_bit}

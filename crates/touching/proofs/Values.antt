@@ -3,13 +3,11 @@ use Prim.Native.Nat.{ℕ, ◌+◌, ◌<◌, ◌≤◌}
 use native.Mathlib.Omega.{arith}
 use mathlib.Core.Bool.{Bool, true, false, not, ◌&&◌}
 use mathlib.Core.List.{List}
-use mathlib.Core.Option.{none, some}
 use mathlib.Core.Path.{◌≡◌, refl, ap, ◌∙◌}
 use lib.Dec.{eqb, ltb}
-use lib.ListN.{length, get_or}
+use lib.ListN.{get_or}
 use borrow.Author.Tests.{ltb-true, eqb-false, lt-ltb, ne_eqb}
-use Rattle.runs.specs.Lists.{up_from, first}
-use Rattle.fsmd.specs.Layout.{record_offset, next_registers_offset, absent}
+use Rattle.fsmd.specs.Layout.{record_offset, next_registers_offset}
 use Rattle.fsmd.specs.Table.{state_count, machine_register_count}
 use Rattle.touching.specs.declared.TouchesAnswer.{TouchesAnswer}
 use Rattle.touching.specs.declared.TouchesAnswer.TheVariants as touched

@@ -1,5 +1,5 @@
 -- "Which states touch this register?" (R-4 of paper 02): the answers of both questions, on all inputs, by a look at the references. Assumes nothing.
-use Rattle.std.specs.Prelude.{ℕ, Bool, true, false, not, List, length, ltb}
+use Rattle.std.specs.Prelude.{ℕ, Bool, not, List, length, ltb}
 use Rattle.std.proofs.Math.Option.{Option, none, some}
 use Rattle.word.specs.Word.{choose, truth}
 use Rattle.runs.specs.Lists.{up_from, first}

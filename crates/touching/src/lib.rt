@@ -1,4 +1,6 @@
 // Which states touch a register: two questions about a machine table, answered from its touch words.
+#![tactic(auto)]
+
 ghost use Rattle.std.specs.Prelude.{◌≡◌, true, ◌<◌, ◌≤◌, length};
 ghost use Rattle.runs.specs.Lists.{up_from, first};
 ghost use Rattle.fsmd.specs.Layout.{machine_words};

@@ -1,7 +1,6 @@
 -- `delimited::digits` meets its contract. Assumes nothing.
-use Rattle.std.proofs.Common.{◌≡◌, ℕ, ◌+◌, ◌-◌, ◌*◌, ◌≤◌, length, get_or, drop, sym, ap, ◌∙◌, arith, drop_of_length-le, rules}
+use Rattle.std.proofs.Common.{◌≡◌, ◌-◌, ◌≤◌, length, drop}
 use Rattle.delimited.specs.Cursor.{field_at, digits_at_most}
-use Rattle.delimited.proofs.Numbers.{drop_more, no_byte, digits_end, digits_bad, digits_over, digits_more}
 use Rattle.delimited.proofs.digits.Given as goal
 
 abbrev pub invariant-loop-i : goal.invariant-loop-i

@@ -1,5 +1,4 @@
 -- `cfg::Block::empty` meets its contract. Assumes nothing.
-use borrow.Author.Rules.{rules}
 use Rattle.cfg.specs.Graph.{empty_block}
 use Rattle.cfg.proofs.Block.empty.Goals as goal
 

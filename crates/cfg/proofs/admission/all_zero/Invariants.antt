@@ -1,12 +1,8 @@
 -- `cfg::admission::all_zero` meets its contract. Assumes nothing.
 use Prim.Native.Nat.{◌-◌, ◌≤◌}
-use native.Mathlib.Omega.{arith}
-use mathlib.Core.Bool.{Bool, ◌&&◌, and-true, and-false}
-use mathlib.Core.Logic.{⊎_elim}
-use mathlib.Core.Path.{◌≡◌, refl, sym, ap, ◌∙◌}
-use borrow.Author.Rules.{rules}
+use mathlib.Core.Bool.{◌&&◌}
+use mathlib.Core.Path.{◌≡◌}
 use Rattle.cfg.specs.Fits.{zeros}
-use Rattle.cfg.proofs.Words.{zero_go, zero_stop, zero_done}
 use Rattle.cfg.proofs.admission.all_zero.Given as goal
 
 abbrev pub invariant-loop-i : goal.invariant-loop-i

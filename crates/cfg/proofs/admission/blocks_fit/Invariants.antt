@@ -1,10 +1,6 @@
 -- `cfg::admission::blocks_fit` meets its contract. Assumes nothing.
 use Prim.Native.Nat.{◌-◌, ◌≤◌}
-use native.Mathlib.Omega.{arith}
-use mathlib.Core.Path.{◌≡◌, sym, ◌∙◌}
-use borrow.Author.Tests.{not-true, not-false}
-use borrow.Author.Rules.{rules}
-use Rattle.runs.proofs.ListLaws.{up_from_cons, up_from_done}
+use mathlib.Core.Path.{◌≡◌}
 use Rattle.runs.specs.Lists.{up_from, every}
 use Rattle.cfg.specs.Fits.{block_passes}
 use Rattle.cfg.proofs.admission.blocks_fit.Given as goal

@@ -1,17 +1,10 @@
 -- `cfg::admission::code_valid` meets its contract. Assumes nothing.
-use Prim.Native.Nat.{◌-◌, ◌≤◌}
 use native.Mathlib.Omega.{arith}
-use mathlib.Core.List.{map}
-use mathlib.Core.Path.{◌≡◌, sym, ◌∙◌}
-use borrow.Author.Tests.{not-true, not-false}
-use borrow.Author.Rules.{rules}
-use Rattle.runs.proofs.ListLaws.{up_from_cons, up_from_done}
-use Rattle.runs.specs.Lists.{up_from, every}
-use Rattle.cfg.specs.Table.{instruction_at}
-use Rattle.cfg.proofs.Codes.{Good}
+use mathlib.Core.Path.{◌∙◌}
+use Rattle.runs.proofs.ListLaws.{up_from_cons}
 use Rattle.cfg.proofs.admission.code_valid.Goals as goal
 
 pub loop-i-preserved : goal.loop-i-preserved
 loop-i-preserved c =
     let i = c.loop-i.i in
-    (omega arith, c.loop-i.invariant.1 ∙ rw (up_from_cons i c.args.count c.loop-i-test.true, ← c.instruction_at-next.ensures, ← c.instruction_valid.ensures, not-false c.instruction_valid.result c.if-not-instruction_valid.false))
+    (omega arith, c.loop-i.invariant.1 ∙ rw (up_from_cons i c.args.count c.loop-i-test.true, ← c.instruction_at-next.ensures, ← c.instruction_valid.ensures, c.if-not-instruction_valid.false))

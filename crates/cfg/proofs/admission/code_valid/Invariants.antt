@@ -1,11 +1,7 @@
 -- `cfg::admission::code_valid` meets its contract. Assumes nothing.
 use Prim.Native.Nat.{◌-◌, ◌≤◌}
-use native.Mathlib.Omega.{arith}
 use mathlib.Core.List.{map}
-use mathlib.Core.Path.{◌≡◌, sym, ◌∙◌}
-use borrow.Author.Tests.{not-true, not-false}
-use borrow.Author.Rules.{rules}
-use Rattle.runs.proofs.ListLaws.{up_from_cons, up_from_done}
+use mathlib.Core.Path.{◌≡◌}
 use Rattle.runs.specs.Lists.{up_from, every}
 use Rattle.cfg.specs.Table.{instruction_at}
 use Rattle.cfg.proofs.Codes.{Good}

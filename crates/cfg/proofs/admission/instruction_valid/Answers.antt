@@ -1,7 +1,6 @@
 -- `cfg::admission::instruction_valid` meets its contract. Assumes nothing.
 use native.Mathlib.Omega.{arith}
 use mathlib.Core.Path.{sym, ◌∙◌}
-use borrow.Author.Rules.{rules}
 use borrow.Author.Tests.{lt-ltb, le-ltb, eq-eqb, ne_eqb}
 use Rattle.cfg.proofs.Codes.{none_good, low_good}
 use Rattle.cfg.proofs.admission.instruction_valid.Goals as goal

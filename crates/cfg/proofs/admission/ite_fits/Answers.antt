@@ -1,7 +1,7 @@
 -- `cfg::admission::ite_fits` meets its contract. Assumes nothing.
 use borrow.Author.Tests.{lt-ltb, le-ltb}
 use Rattle.cfg.specs.Graph.{valid_ending}
-use Rattle.cfg.proofs.Words.{no_code_low, no_code_high, code_mid}
+use Rattle.cfg.proofs.Words.{code_mid}
 use Rattle.cfg.proofs.admission.ite_fits.Goals as goal
 
 pub returns-then-head-a : goal.returns-then-head-a

@@ -3,8 +3,6 @@ use Prim.Native.Nat.{◌-◌, ◌*◌}
 use native.Mathlib.Omega.{arith}
 use mathlib.Core.Path.{◌≡◌, sym, ◌∙◌}
 use lib.ListN.{get_or}
-use borrow.Author.Tests.{not-true, not-false}
-use borrow.Author.Rules.{rules}
 use Rattle.cfg.specs.Layout.{block_words, all_block_words, graph_words, block_offset}
 use Rattle.cfg.proofs.Passing.{passing_blocks}
 use Rattle.cfg.proofs.Words.{no_block, many_blocks, no_register, many_registers}
@@ -44,9 +42,9 @@ returns-then-not-blocks_fit c =
     let t = k.table.now in
     let e = c.head_of-head.ensures in
     let p = c.requires in
-    let q = passing_blocks k.words t p (omega (arith, c.before.before.before.before.before)) (omega (arith, c.before.before.before.before)) (omega (arith, c.before.before.before)) (omega (arith, c.before.before)) in
+    let q = passing_blocks k.words t p (omega arith) (omega arith) (omega arith) (omega arith) in
     let f = rw (e.0, e.1) at c.blocks_fit.ensures in
-    sym (q ∙ rw (← f, not-true c.blocks_fit.result c.if-not-blocks_fit.true))
+    sym (q ∙ rw (← f, c.if-not-blocks_fit.true))
 
 pub returns : goal.returns
 returns c =
@@ -54,8 +52,8 @@ returns c =
     let t = k.table.now in
     let e = c.head_of-head.ensures in
     let p = c.requires in
-    let q = passing_blocks k.words t p (omega (arith, c.before.before.before.before.before.before)) (omega (arith, c.before.before.before.before.before)) (omega (arith, c.before.before.before.before)) (omega (arith, c.before.before.before)) in
+    let q = passing_blocks k.words t p (omega arith) (omega arith) (omega arith) (omega arith) in
     let f = rw (e.0, e.1) at c.blocks_fit.ensures in
     let z = rw e.0 at c.all_zero.ensures in
     let n : graph_words - block_offset (get_or t 0 0) ≡ all_block_words - block_words * get_or t 0 0 = omega arith in
-    sym (q ∙ rw (← f, ← n, ← z, not-false c.blocks_fit.result c.if-not-blocks_fit.false))
+    sym (q ∙ rw (← f, ← n, ← z, c.if-not-blocks_fit.false))

@@ -5,7 +5,7 @@ use Rattle.cfg.proofs.Codes.{other_good, sample_good}
 use Rattle.cfg.proofs.admission.sample_valid.Goals as goal
 
 pub returns-then-i-ne-IN : goal.returns-then-i-ne-IN
-returns-then-i-ne-IN c =     sym (other_good c.args.registers c.args.i c.args.words c.requires c.if-i-ne-IN.true)
+returns-then-i-ne-IN c = sym (other_good c.args.registers c.args.i c.args.words c.requires c.if-i-ne-IN.true)
 
 pub returns-then-registers-i : goal.returns-then-registers-i
 returns-then-registers-i c =

@@ -1,14 +1,9 @@
 -- `cfg::decode::block_at` meets its contract. Assumes nothing.
-use Prim.Native.Nat.{ℕ, ◌+◌, ◌-◌, ◌≤◌, ◌<◌}
 use native.Mathlib.Omega.{arith}
-use mathlib.Core.Path.{◌≡◌, refl, sym, ap, ◌∙◌}
-use lib.ListN.{length, get_or, set, length-set}
-use Rattle.cfg.specs.declared.Instruction.{Instruction}
+use mathlib.Core.Path.{◌≡◌}
 use Rattle.cfg.specs.Layout.{max_instructions, block_offset}
-use Rattle.cfg.specs.Graph.{no_instruction, empty_block}
 use Rattle.cfg.specs.Table.{instruction_at, block_at}
-use Rattle.cfg.proofs.Blocks.{one_more, all_decoded}
-use borrow.Author.Rules.{rules}
+use Rattle.cfg.proofs.Blocks.{all_decoded}
 use Rattle.cfg.proofs.decode.block_at.Goals as goal
 
 pub returns : goal.returns
@@ -19,4 +14,4 @@ returns c =
     let is = l.block.instructions in
     let h = l.invariant.1 in
     let e : l.i ≡ max_instructions = omega (arith, c.loop-i-test.false) in
-    rw (c.Ending-at.ensures, all_decoded (instruction_at a.table.now (block_offset a.n)) is h (λ j b. l.invariant.2 j (omega arith)))
+    rw (c.ending_at-ending.ensures, all_decoded (instruction_at a.table.now (block_offset a.n)) is h (λ j b. l.invariant.2 j (omega arith)))

@@ -1,6 +1,5 @@
 -- `cfg::decode::instruction_at` meets its contract. Assumes nothing.
 use mathlib.Core.Path.{refl}
-use borrow.Author.Rules.{rules}
 use Rattle.cfg.specs.Table.{instruction_at}
 use Rattle.cfg.proofs.decode.instruction_at.Goals as goal
 

@@ -1,25 +1,13 @@
 -- `cfg::run::run_blocks` meets its contract: a turn of the outer loop is a step, the inner one runs the block's instructions. Assumes nothing.
-use Prim.Native.Nat.{ℕ, ◌+◌, ◌-◌, ◌%◌, ◌≤◌, ◌<◌}
-use native.Mathlib.Omega.{arith}
-use mathlib.Core.Bool.{Bool, true, false, ◌||◌}
-use mathlib.Core.List.{List}
-use mathlib.Core.Path.{◌≡◌, refl, sym, ap, subst, ◌∙◌}
-use lib.Dec.{eqb}
-use lib.ListN.{get_or, set, drop}
-use borrow.Author.Tests.{lt-ltb, le-ltb, eq-eqb, ne_eqb}
-use Rattle.runs.proofs.RunLaws.{dry_ends, Reached, reached_start, reached_spent, registers_spent, reached_halted, reached_dry, registers_ended}
-use Rattle.word.specs.Word.{choose}
-use Rattle.word.specs.declared.Registers.{Registers}
-use Rattle.runs.specs.Runs.{Place, standing, halted, Contents, Configuration, stands_at, start_at, Supply, up_to, arrivals_at}
-use Rattle.cfg.specs.declared.Condition.{Condition}
-use Rattle.cfg.specs.declared.Block.{Block}
-use Rattle.cfg.specs.Layout.{max_registers}
-use Rattle.cfg.specs.Steps.{EndingWithin, BlockWithin, leave_by, place_of, marked_runner}
-use Rattle.cfg.specs.Table.{block_count, block_at, graph_of}
-use Rattle.cfg.specs.Graph.{no_instruction, instructions_of, execute_all, instructions_over, leave}
-use Rattle.cfg.proofs.Running.{execute_is, over_is, code_next, code_done, flag_next, flag_done, block_within, ending_within, leave_is, next_below, turn, stands_at_lem}
-use Rattle.cfg.proofs.Admitted.{admitted_facts}
-use borrow.Author.Rules.{rules}
+use Prim.Native.Nat.{◌-◌, ◌≤◌, ◌<◌}
+use mathlib.Core.Bool.{◌||◌}
+use mathlib.Core.Path.{◌≡◌}
+use lib.ListN.{drop}
+use Rattle.runs.proofs.RunLaws.{Reached}
+use Rattle.runs.specs.Runs.{stands_at, start_at, up_to}
+use Rattle.cfg.specs.Steps.{marked_runner}
+use Rattle.cfg.specs.Table.{block_count, graph_of}
+use Rattle.cfg.specs.Graph.{instructions_of, execute_all, instructions_over}
 use Rattle.cfg.proofs.run.run_blocks.Given as goal
 
 abbrev pub invariant-loop-i : goal.invariant-loop-i

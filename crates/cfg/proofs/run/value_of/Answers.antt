@@ -1,7 +1,6 @@
 -- `cfg::run::value_of` meets its contract. Assumes nothing.
-use mathlib.Core.Path.{sym, ◌∙◌}
-use borrow.Author.Rules.{rules}
-use Rattle.cfg.proofs.Running.{value_set, value_other}
+use mathlib.Core.Path.{sym}
+use Rattle.cfg.proofs.Running.{value_set}
 use Rattle.cfg.proofs.run.value_of.Goals as goal
 
 pub returns-then-i-eq-SET : goal.returns-then-i-eq-SET

@@ -1,13 +1,9 @@
 -- `cfg::starters::all_below` meets its contract. Assumes nothing.
 use Prim.Native.Nat.{◌-◌, ◌≤◌}
-use native.Mathlib.Omega.{arith}
-use mathlib.Core.Path.{◌≡◌, refl, sym, ◌∙◌}
+use mathlib.Core.Path.{◌≡◌}
 use lib.Dec.{ltb}
-use lib.ListN.{length, get_or, drop}
-use borrow.Author.Rules.{rules}
-use borrow.Author.Tests.{lt-ltb, le-ltb}
+use lib.ListN.{length, drop}
 use Rattle.runs.specs.Lists.{every}
-use Rattle.runs.proofs.Every.{every_fails, every_passes, every_done}
 use Rattle.cfg.proofs.starters.all_below.Given as goal
 
 abbrev pub invariant-loop-i : goal.invariant-loop-i

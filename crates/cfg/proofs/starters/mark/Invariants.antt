@@ -1,16 +1,9 @@
 -- `cfg::starters::mark` meets its contract. Assumes nothing.
 use Prim.Native.Nat.{ℕ, ◌-◌, ◌≤◌}
-use native.Mathlib.Omega.{arith}
-use mathlib.Core.Path.{◌≡◌, refl, sym, ◌∙◌}
-use lib.Dec.{ltb}
-use lib.ListN.{length, get_or, drop, length-set}
-use borrow.Author.Rules.{rules}
-use borrow.Author.Tests.{ltb-true}
+use mathlib.Core.Path.{◌≡◌}
+use lib.ListN.{length, get_or, drop}
 use Rattle.word.specs.Word.{choose}
 use Rattle.runs.specs.Lists.{mem}
-use Rattle.runs.proofs.ListLaws.{every_at}
-use Rattle.cfg.specs.Layout.{max_blocks}
-use Rattle.cfg.proofs.Marking.{mark_turn, mark_done}
 use Rattle.cfg.proofs.starters.mark.Given as goal
 
 abbrev pub invariant-loop-i : goal.invariant-loop-i

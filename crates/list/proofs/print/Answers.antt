@@ -1,0 +1,15 @@
+-- A listing that was written is within the output. Assumes nothing.
+use Rattle.std.proofs.Common.{◌≤◌, length, arith, sym, ◌∙◌}
+use Rattle.std.proofs.lemmas.List.{length-take-le}
+use Rattle.listing.proofs.Answers.{listed-within}
+use Rattle.list.proofs.print.Goals as goal
+
+pub slice_bounds-out-end : goal.slice_bounds-out-end
+slice_bounds-out-end g c =
+    let fits = listed-within c.args.text.now _ c.in-Listed.count (sym c.list-answer.ensures.value ∙ c.in-Listed.is) in
+    omega (arith, fits, c.list-answer.auto.out)
+
+pub slice_bounds-write_all-end : goal.slice_bounds-write_all-end
+slice_bounds-write_all-end g c =
+    let fits = listed-within c.args.text.now _ c.in-Listed.count (sym c.list-answer.ensures.value ∙ c.in-Listed.is) in
+    sym (length-take-le _ _ (omega (arith, fits, c.list-answer.auto.out)))

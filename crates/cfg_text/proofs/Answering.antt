@@ -1,15 +1,11 @@
 -- The answer of reading and the table it leaves, by the tests that lead there. Assumes nothing.
 use mathlib.Core.Path.{◌≡◌, ◌∙◌, refl, sym, ap}
-use mathlib.Core.List.{List, [], ◌∷◌, ◌++◌}
-use mathlib.Core.Bool.{Bool, true, false}
+use mathlib.Core.List.{List, ◌++◌}
 use Prim.Native.Nat.{ℕ, ◌≤◌, ◌<◌}
 use native.Mathlib.Omega.{arith}
 use lib.ListN.{length, drop, replicate}
-use lib.Dec.{ltb}
 use borrow.Author.Tests.{lt-ltb, le-ltb}
 use Rattle.cfg.specs.Layout.{graph_words}
-use Rattle.cfg.specs.Graph.{CFG}
-use Rattle.cfg.specs.Table.{graph_table_of}
 use Rattle.cfg_text.specs.declared.ReadAnswer.{ReadAnswer}
 use Rattle.cfg_text.specs.declared.ReadAnswer.TheVariants.{Refused, Read}
 use Rattle.cfg_text.specs.Walk.{Reading, refused, read, start}

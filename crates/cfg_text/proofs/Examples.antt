@@ -1,12 +1,11 @@
 -- Texts of paper 01 that are refused or read, and lines of R-1 of paper 02, computed. Assumes nothing.
-use Prim.Native.Nat.{ℕ, ◌+◌}
-use mathlib.Core.Bool.{Bool, true, false}
+use Prim.Native.Nat.{ℕ}
+use mathlib.Core.Bool.{Bool, false}
 use mathlib.Core.List.{List, [], ◌∷◌, ◌++◌}
-use mathlib.Core.Path.{◌≡◌, refl}
 use Prim.Native.String.{String}
-use lib.Dec.{T, eqb}
+use lib.Dec.{T}
 use Rattle.runs.specs.Lists.{every, same, concat_map}
-use Rattle.cfg.specs.Graph.{CFG, valid_graph}
+use Rattle.cfg.specs.Graph.{valid_graph}
 use Rattle.delimited.specs.Parts.{bytes}
 use Rattle.cfg_text.specs.Walk.{Reading, refused, read}
 use Rattle.cfg_text.specs.Read.{read_text}

@@ -1,26 +1,19 @@
 -- Where reading stands between two lines: the walk from here gives what the whole text gives. Assumes nothing.
-use mathlib.Core.Path.{◌≡◌, ◌∙◌, refl, sym, ap, subst}
-use mathlib.Core.List.{List, [], ◌∷◌, ◌++◌}
-use mathlib.Core.Bool.{Bool, true, false}
-use Prim.Native.Nat.{ℕ, zero, suc, ◌+◌, ◌-◌, ◌*◌, ◌≤◌, ◌<◌}
+use mathlib.Core.Path.{◌≡◌, ◌∙◌, refl, sym, ap}
+use mathlib.Core.List.{List}
+use Prim.Native.Nat.{ℕ, suc, ◌+◌, ◌≤◌, ◌<◌}
 use native.Mathlib.Numerals.{add-one}
 use native.Mathlib.Omega.{arith}
 use lib.ListN.{length, drop}
 use Rattle.cfg.specs.Layout.{max_blocks, graph_words}
-use Rattle.cfg.specs.Graph.{CFG}
-use Rattle.cfg.specs.Table.{graph_table_of}
-use Rattle.cfg_line.specs.declared.Line.{Line}
 use Rattle.cfg_line.specs.declared.Parsed.{Parsed}
 use Rattle.delimited.specs.Parts.{split_at}
 use Rattle.cfg_line.specs.Form.{by_name}
 use Rattle.cfg_line.specs.Cursor.{parsed_at}
-use Rattle.cfg_text.specs.declared.Due.TheVariants as due
 use Rattle.cfg_text.specs.declared.ReadState.{ReadState}
-use Rattle.cfg_text.specs.declared.LineStep.{LineStep}
 use Rattle.cfg_text.specs.declared.LineStep.TheVariants.{Go, Stop}
 use Rattle.cfg_text.specs.declared.ReadAnswer.{ReadAnswer}
-use Rattle.cfg_text.specs.declared.ReadAnswer.TheVariants.{Refused, Read}
-use Rattle.cfg_text.specs.Walk.{Progress, start, between, inside, Next, go, refuse, Reading, refused, read, next, finish, proceed, walk}
+use Rattle.cfg_text.specs.Walk.{Progress, start, inside, Next, go, refuse, next, finish, proceed, walk}
 use Rattle.cfg_text.specs.Read.{read_text}
 use Rattle.cfg_text.specs.ReadSteps.{read_state_of, filled, StandsAfter, Advances, AnswersReading, Room}
 use Rattle.cfg_text.proofs.Stores.{filled_length}

@@ -1,14 +1,12 @@
 -- What each step of reading does is what the definition does. Assumes nothing.
 use mathlib.Core.Path.{◌≡◌, ◌∙◌, refl, sym, ap}
 use mathlib.Core.List.{List, [], ◌∷◌, ◌++◌}
-use mathlib.Core.Bool.{true, false, and-true}
-use Prim.Native.Nat.{ℕ, zero, suc, ◌+◌, ◌*◌, ◌≤◌, ◌<◌}
+use mathlib.Core.Bool.{true, false}
+use Prim.Native.Nat.{ℕ, ◌+◌, ◌*◌, ◌≤◌, ◌<◌}
 use native.Mathlib.Omega.{arith}
-use lib.ListN.{length, take, length-append}
-use lib.Seq.{sets, take-nil}
-use lib.Dec.{ltb}
+use lib.ListN.{length, length-append}
+use lib.Seq.{sets}
 use borrow.Author.Tests.{eq-eqb, ne_eqb, lt-ltb, le-ltb}
-use Rattle.word.specs.Word.{arity}
 use Rattle.runs.proofs.ListLaws.{every_snoc, length_padded}
 use Rattle.runs.specs.Lists.{padded}
 use Rattle.cfg.specs.Layout.{max_instructions, block_offset, code_offset, instruction_words}
@@ -25,38 +23,6 @@ use Rattle.cfg_text.specs.declared.ReadAnswer.TheVariants.{Refused, Read}
 use Rattle.cfg_text.specs.Walk.{Progress, start, between, inside, Reading, refused, read, all_below, instruction_registers, ending_registers, opened, joined, closed, block_with, finish}
 use Rattle.cfg_text.specs.ReadSteps.{read_state_of, sized, StandsAfter, Advances, AnswersReading, ended_at, after_block}
 use Rattle.cfg_text.proofs.Stores.{opened_words, joined_words, closed_words, table_words}
-
--- ---- which registers an instruction names
-
-module _ (r : ℕ) (i : Instruction) where
-  pub below_written : r ≤ i.d → all_below r (instruction_registers i) ≡ false
-  below_written h = rw (le-ltb i.d r h)
-
-  pub below_set : i.d < r → i.code ≡ 1 → all_below r (instruction_registers i) ≡ true
-  below_set h e = rw (lt-ltb i.d r h, eq-eqb i.code 1 e)
-
-  pub below_none : i.d < r → (i.code ≡ 1 → ⊥) → arity i.code ≡ 0 → all_below r (instruction_registers i) ≡ true
-  below_none h e u = rw (lt-ltb i.d r h, ne_eqb i.code 1 e, u)
-
-  pub below_first : i.d < r → (i.code ≡ 1 → ⊥) → (arity i.code ≡ 0 → ⊥) → r ≤ i.a → all_below r (instruction_registers i) ≡ false
-  below_first h e u l = rw (lt-ltb i.d r h, ne_eqb i.code 1 e) (by (arity i.code) u)
-    where
-      by : (n : ℕ) → (n ≡ 0 → ⊥) → all_below r (take n (i.a ∷ i.b ∷ [])) ≡ false
-      by zero u = absurd (u refl)
-      by (suc n) u = rw (le-ltb i.a r l)
-
-  pub below_unary : i.d < r → (i.code ≡ 1 → ⊥) → i.a < r → arity i.code ≡ 1 → all_below r (instruction_registers i) ≡ true
-  below_unary h e l u = rw (lt-ltb i.d r h, ne_eqb i.code 1 e, u, lt-ltb i.a r l)
-
-  pub below_binary :
-      i.d < r → (i.code ≡ 1 → ⊥) → (arity i.code ≡ 0 → ⊥) → i.a < r → (arity i.code ≡ 1 → ⊥)
-      → all_below r (instruction_registers i) ≡ ltb i.b r
-  below_binary h e z l u = rw (lt-ltb i.d r h, ne_eqb i.code 1 e) (by (arity i.code) z u)
-    where
-      by : (n : ℕ) → (n ≡ 0 → ⊥) → (n ≡ 1 → ⊥) → all_below r (take n (i.a ∷ i.b ∷ [])) ≡ ltb i.b r
-      by zero z u = absurd (z refl)
-      by (suc zero) z u = absurd (u refl)
-      by (suc (suc n)) z u = rw (lt-ltb i.a r l, take-nil n) (and-true (ltb i.b r))
 
 -- ---- the code's place is of one kind only
 
@@ -144,13 +110,13 @@ module _ (p : ReadState) (w : List ℕ) (b r : ℕ) (bs : List Block) (is : List
   ninth i h = rw (le-ltb (length is) 8 (rw in_count at h)) refl
 
   pub bad_register : (i : Instruction) (v : List ℕ) → p.count < 8 → all_below p.registers (instruction_registers i) ≡ false → Advances m (Stop (Refused 4 m)) v (joined i b r bs is)
-  bad_register i v h e = rw (lt-ltb (length is) 8 (rw in_count at h), rw in_registers at e) refl
+  bad_register i v h e = rw (lt-ltb (length is) 8 (rw in_count at h), ap (λ (n : ℕ). all_below n (instruction_registers i)) (sym in_registers) ∙ e) refl
 
   pub joins : (i : Instruction) (v : List ℕ) → p.count < 8 → all_below p.registers (instruction_registers i) ≡ true
       → v ≡ sets w (block_offset p.done + code_offset + instruction_words * p.count) (instruction_words_of i)
       → Advances m (Go (record { due = due.Inside; blocks = p.blocks; registers = p.registers; done = p.done; count = p.count + 1 })) v (joined i b r bs is)
   joins i v h e ev =
-      rw (lt-ltb (length is) 8 (rw in_count at h), rw in_registers at e)
+      rw (lt-ltb (length is) 8 (rw in_count at h), ap (λ (n : ℕ). all_below n (instruction_registers i)) (sym in_registers) ∙ e)
       (record {
         place = ap (λ (x : ReadState). record { due = due.Inside; blocks = x.blocks; registers = x.registers; done = x.done; count = x.count + 1 }) s.place
             ∙ ap (λ (n : ℕ). record { due = due.Inside; blocks = b; registers = r; done = length bs; count = n }) (one_more is i);

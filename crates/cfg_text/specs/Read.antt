@@ -1,5 +1,5 @@
 -- "Read text into graph table" of paper 01: its answer and the table it leaves, on all inputs. Assumes nothing.
-use Rattle.std.specs.Prelude.{ℕ, Bool, true, false, List, [], ◌∷◌, ◌++◌, ◌≡◌, length, drop, ltb}
+use Rattle.std.specs.Prelude.{ℕ, List, ◌++◌, ◌≡◌, length, drop, ltb}
 use Rattle.word.specs.Word.{choose}
 use Rattle.cfg.specs.Layout.{graph_words}
 use Rattle.cfg.specs.Table.{graph_table_of}

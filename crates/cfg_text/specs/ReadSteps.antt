@@ -8,14 +8,13 @@ use Rattle.cfg.specs.Graph.{CFG}
 use Rattle.cfg.specs.declared.Block.{Block}
 use Rattle.cfg_line.specs.declared.Line.{Line}
 use Rattle.cfg_line.specs.declared.Line.TheVariants as line
-use Rattle.cfg_text.specs.declared.Due.{Due}
 use Rattle.cfg_text.specs.declared.Due.TheVariants as due
 use Rattle.cfg_text.specs.declared.ReadState.{ReadState}
 use Rattle.cfg_text.specs.declared.LineStep.{LineStep}
 use Rattle.cfg_text.specs.declared.LineStep.TheVariants.{Go, Stop}
 use Rattle.cfg_text.specs.declared.ReadAnswer.{ReadAnswer}
 use Rattle.cfg_text.specs.declared.ReadAnswer.TheVariants.{Refused}
-use Rattle.cfg_text.specs.Walk.{Progress, start, between, inside, Next, go, refuse, Reading, refused, read}
+use Rattle.cfg_text.specs.Walk.{Progress, start, between, inside, Next, go, refuse, Reading, read}
 use Rattle.cfg_text.specs.Read.{reading_answer}
 
 abbrev pub read_state_of : Progress → ReadState

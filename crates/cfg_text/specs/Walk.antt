@@ -1,11 +1,10 @@
 -- Which line is due where, and what the lines make ("Text" and "Read text into graph table" of paper 01). Assumes nothing.
-use Rattle.std.specs.Prelude.{ℕ, suc, Bool, true, false, ◌&&◌, List, [], ◌∷◌, ◌++◌, length, take, eqb, ltb}
+use Rattle.std.specs.Prelude.{ℕ, suc, Bool, ◌&&◌, List, [], ◌∷◌, ◌++◌, length, take, eqb, ltb}
 use Rattle.word.specs.Word.{choose, arity, set_code}
 use Rattle.runs.specs.Lists.{every, padded}
 use Rattle.cfg.specs.Layout.{max_instructions}
 use Rattle.cfg.specs.Graph.{CFG, no_instruction, targets}
 use Rattle.cfg.specs.declared.Instruction.{Instruction}
-use Rattle.cfg.specs.declared.Condition.{Condition}
 use Rattle.cfg.specs.declared.Ending.{Ending}
 use Rattle.cfg.specs.declared.Ending.TheVariants as ending
 use Rattle.cfg.specs.declared.Block.{Block}

@@ -1,4 +1,6 @@
 // Writing a graph table as text.
+#![tactic(auto)]
+
 ghost use Rattle.std.specs.Prelude.{◌≡◌, true, List, map, ℕ, ◌+◌, ◌≤◌, ◌<◌, ◌^◌, length, get_or};
 ghost use Rattle.runs.specs.Lists.{up_from};
 ghost use Rattle.cfg.specs.Layout.{max_blocks, max_instructions, block_words, graph_words, block_offset};

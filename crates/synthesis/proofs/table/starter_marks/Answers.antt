@@ -1,0 +1,23 @@
+-- `synthesis::table::starter_marks` meets its contract. Assumes nothing.
+use mathlib.Core.Path.{◌≡◌, refl, sym, ap, ◌∙◌}
+use Prim.Native.Nat.{ℕ, ◌-◌, ◌+◌, ◌<◌}
+use native.Mathlib.Omega.{arith}
+use lib.ListN.{length, get_or, replicate, length-replicate, get_or-replicate}
+use borrow.Author.Rules.{rules, scaled_Fits}
+use Rattle.fsmd.specs.Layout.{max_blocks}
+use Rattle.synthesis.proofs.TableWrites.{Marking, marking_none, marking_on, marking_all}
+use Rattle.synthesis.proofs.table.starter_marks.Goals as goal
+
+below : (c : goal.at.bounds-marks-byte_index {- TODO: goal.at does not exist; turn the helper into lets of its answers -}) → c.byte_index.result < max_blocks
+below c =
+    let h = c.requires c.loop-i.i c.loop-i-test.true in
+    omega (arith, c.byte_index.ensures.0)
+
+pub loop-i-init : goal.loop-i-init
+loop-i-init c = marking_none c.args.starters.now
+
+pub loop-i-preserved : goal.loop-i-preserved
+loop-i-preserved c =
+    let a = c.args in
+    let l = c.loop-i in
+    marking_on a.starters.now l.marks l.i l.invariant c.loop-i-test.true c.byte_index.result c.byte_index.ensures.0 (below c)

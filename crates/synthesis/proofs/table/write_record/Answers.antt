@@ -1,0 +1,20 @@
+-- `synthesis::table::write_record` meets its contract. Assumes nothing.
+use mathlib.Core.Path.{◌≡◌, sym, ap₂, ◌∙◌}
+use mathlib.Core.List.{List}
+use Prim.Native.Nat.{ℕ, ◌+◌, ◌≤◌}
+use native.Mathlib.Omega.{arith}
+use lib.ListN.{length, take, set, length-set}
+use lib.Seq.{length-take-le}
+use borrow.Author.Rules.{rules}
+use Rattle.fsmd.specs.Layout.{max_registers, touch_offset}
+use Rattle.fsmd.specs.Touch.{touch_word}
+use Rattle.synthesis.proofs.TableWrites.{record_written}
+use Rattle.synthesis.proofs.table.write_record.Goals as goal
+
+pub returns : goal.returns
+returns c =
+    let b = c.before.before.before.before.before.before.before.before in
+    let a = b.args in
+    let touch = touch_word (take a.used a.registers.now) in
+    ap₂ (λ (l : List ℕ) (v : ℕ). set l (a.at + touch_offset) v) c.copy_words.ensures c.touch_word.ensures
+    ∙ record_written a.words.now a.registers.now a.at a.first a.count a.next touch b.requires.1

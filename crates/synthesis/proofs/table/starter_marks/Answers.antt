@@ -8,11 +8,6 @@ use Rattle.fsmd.specs.Layout.{max_blocks}
 use Rattle.synthesis.proofs.TableWrites.{Marking, marking_none, marking_on, marking_all}
 use Rattle.synthesis.proofs.table.starter_marks.Goals as goal
 
-below : (c : goal.at.bounds-marks-byte_index {- TODO: goal.at does not exist; turn the helper into lets of its answers -}) → c.byte_index.result < max_blocks
-below c =
-    let h = c.requires c.loop-i.i c.loop-i-test.true in
-    omega (arith, c.byte_index.ensures.0)
-
 pub loop-i-init : goal.loop-i-init
 loop-i-init c = marking_none c.args.starters.now
 
@@ -20,4 +15,6 @@ pub loop-i-preserved : goal.loop-i-preserved
 loop-i-preserved c =
     let a = c.args in
     let l = c.loop-i in
-    marking_on a.starters.now l.marks l.i l.invariant c.loop-i-test.true c.byte_index.result c.byte_index.ensures.0 (below c)
+    let h : get_or a.starters.now l.i 0 < max_blocks = c.requires l.i c.loop-i-test.true in
+    let b : c.byte_index.result < max_blocks = omega (arith, c.byte_index.ensures.0) in
+    marking_on a.starters.now l.marks l.i l.invariant c.loop-i-test.true c.byte_index.result c.byte_index.ensures.0 b

@@ -2,7 +2,6 @@
 use mathlib.Core.Path.{sym, ◌∙◌}
 use lib.Seq.{length-take-le}
 use borrow.Author.Rules.{rules}
-use borrow.Author.Tests.{not-true, not-false}
 use Rattle.fsmd.specs.Layout.{machine_words}
 use Rattle.synthesis.proofs.TableFilled.{short_graph_lem, short_machine_lem, not_admitted, machine_made}
 use Rattle.synthesis.proofs.table.synthesise.Goals as goal
@@ -16,13 +15,13 @@ returns-then-machine-lt-WORDS c = let a = c.args in short_machine_lem a.graph.no
 pub returns-then-not-is_admitted : goal.returns-then-not-is_admitted
 returns-then-not-is_admitted c =
     let a = c.args in
-    not_admitted a.graph.now a.machine.now c.if-graph-lt-WORDS.false c.if-machine-lt-WORDS.false (sym c.is_admitted.ensures ∙ not-true c.is_admitted.result c.if-not-is_admitted.true)
+    not_admitted a.graph.now a.machine.now c.if-graph-lt-WORDS.false c.if-machine-lt-WORDS.false (sym c.is_admitted.ensures ∙ c.if-not-is_admitted.true)
 
 pub fill-requires : goal.fill-requires
 fill-requires c =
-    (sym c.is_admitted.ensures ∙ not-false c.is_admitted.result c.if-not-is_admitted.false, length-take-le machine_words c.args.machine.now c.if-machine-lt-WORDS.false)
+    (sym c.is_admitted.ensures ∙ c.if-not-is_admitted.false, length-take-le machine_words c.args.machine.now c.if-machine-lt-WORDS.false)
 
 pub returns : goal.returns
 returns c =
     let a = c.args in
-    machine_made a.graph.now a.machine.now c.if-machine-lt-WORDS.false (sym c.is_admitted.ensures ∙ not-false c.is_admitted.result c.if-not-is_admitted.false) c.fill.new.table c.fill.ensures
+    machine_made a.graph.now a.machine.now c.if-machine-lt-WORDS.false (sym c.is_admitted.ensures ∙ c.if-not-is_admitted.false) c.fill.new.table c.fill.ensures

@@ -13,8 +13,7 @@ use Rattle.synthesis.proofs.table.write_record.Goals as goal
 
 pub returns : goal.returns
 returns c =
-    let b = c.before.before.before.before.before.before.before.before in
-    let a = b.args in
+    let a = c.args in
     let touch = touch_word (take a.used a.registers.now) in
     ap₂ (λ (l : List ℕ) (v : ℕ). set l (a.at + touch_offset) v) c.copy_words.ensures c.touch_word.ensures
-    ∙ record_written a.words.now a.registers.now a.at a.first a.count a.next touch b.requires.1
+    ∙ record_written a.words.now a.registers.now a.at a.first a.count a.next touch c.requires.1

@@ -1,17 +1,12 @@
 -- `synthesis::table::all_states` meets its contract. Assumes nothing.
-use mathlib.Core.Path.{◌≡◌, refl, sym, ap, ◌∙◌}
-use mathlib.Core.List.{List}
-use Prim.Native.Nat.{ℕ, ◌-◌, ◌+◌, ◌<◌, ◌≤◌}
-use native.Mathlib.Omega.{arith}
-use lib.ListN.{length, take, set, length-set}
-use borrow.Author.Rules.{rules}
+use mathlib.Core.Path.{◌≡◌}
+use Prim.Native.Nat.{◌-◌, ◌≤◌}
+use lib.ListN.{length, take}
 use Rattle.cfg.specs.Table.{graph_of}
 use Rattle.fsmd.specs.Layout.{records_offset}
 use Rattle.grouping.specs.Grouping.{groups}
-use Rattle.synthesis.specs.StateWords.{with_states, first_states, first_arrivals, Filled}
+use Rattle.synthesis.specs.StateWords.{first_arrivals, Filled}
 use Rattle.state.specs.Making.{Edged}
-use Rattle.synthesis.proofs.ArrivalWords.{arrivals_length}
-use Rattle.synthesis.proofs.MachineTable.{filled_on}
 use Rattle.synthesis.proofs.table.all_states.Given as goal
 
 abbrev pub invariant-loop-k : goal.invariant-loop-k

@@ -3,9 +3,8 @@ use mathlib.Core.Path.{◌≡◌, refl, sym, ◌∙◌}
 use mathlib.Core.List.{List}
 use Prim.Native.Nat.{ℕ}
 use native.Mathlib.Omega.{arith}
-use lib.ListN.{length, take, drop, length-append, length-drop}
+use lib.ListN.{length, take, drop, length-drop}
 use lib.Seq.{length-take-le}
-use borrow.Author.Rules.{rules}
 use Rattle.fsmd.specs.Layout.{max_blocks, arrivals_offset, machine_words}
 use Rattle.synthesis.proofs.TableFilled.{arrivals_behind}
 use Rattle.synthesis.proofs.table.fill.Goals as goal

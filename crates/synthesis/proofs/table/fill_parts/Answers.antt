@@ -1,12 +1,11 @@
 -- `synthesis::table::fill_parts` meets its contract. Assumes nothing.
-use mathlib.Core.Path.{◌≡◌, refl, sym, ap, ◌∙◌}
+use mathlib.Core.Path.{◌≡◌, sym, ap, ◌∙◌}
 use mathlib.Core.Bool.{true}
 use mathlib.Core.List.{List}
 use Prim.Native.Nat.{ℕ}
 use native.Mathlib.Omega.{arith}
 use lib.ListN.{length, get_or, take}
 use lib.Seq.{length-take-le}
-use borrow.Author.Rules.{rules}
 use Rattle.runs.specs.Lists.{mem}
 use Rattle.cfg.specs.Table.{graph_of, admitted_graph}
 use Rattle.grouping.specs.declared.Grouping.{Grouping}

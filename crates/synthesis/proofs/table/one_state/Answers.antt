@@ -1,18 +1,16 @@
 -- `synthesis::table::one_state` meets its contract. Assumes nothing.
 use mathlib.Core.Path.{◌≡◌, refl, sym, ap, ◌∙◌}
 use mathlib.Core.List.{List, [], ◌∷◌, ◌++◌}
-use Prim.Native.Nat.{ℕ, ◌+◌, ◌-◌, ◌*◌, ◌≤◌, ◌<◌}
+use Prim.Native.Nat.{ℕ, ◌+◌, ◌-◌, ◌≤◌, ◌<◌}
 use native.Mathlib.Omega.{arith}
 use lib.ListN.{length, get_or, take, drop, replicate, length-append, length-drop}
 use lib.Seq.{length-take-le, sets}
-use borrow.Author.Rules.{rules}
 use borrow.Rule.Slice.PartMut.{same_len_mid, put_mid}
 use Rattle.fsmd.specs.Layout.{max_states, max_blocks, max_registers, max_wires, records_offset, arrivals_offset, wire_offset, record_offset}
 use Rattle.fsmd.specs.Machine.{wire_count}
 use Rattle.fsmd.specs.Touch.{touch_word}
 use Rattle.cfg.specs.Layout.{graph_words}
 use Rattle.cfg.specs.Table.{graph_of}
-use Rattle.grouping.specs.Grouping.{groups}
 use Rattle.grouping.proofs.Reach.{admitted_closed}
 use Rattle.grouping.proofs.GroupingLaws.{Grouped}
 use Rattle.placement.specs.Placement.{order}

@@ -1,11 +1,9 @@
 -- `synthesis::table::starter_marks` meets its contract. Assumes nothing.
-use mathlib.Core.Path.{◌≡◌, refl, sym, ap, ◌∙◌}
-use Prim.Native.Nat.{ℕ, ◌-◌, ◌+◌, ◌<◌}
+use Prim.Native.Nat.{◌<◌}
 use native.Mathlib.Omega.{arith}
-use lib.ListN.{length, get_or, replicate, length-replicate, get_or-replicate}
-use borrow.Author.Rules.{rules, scaled_Fits}
+use lib.ListN.{get_or}
 use Rattle.fsmd.specs.Layout.{max_blocks}
-use Rattle.synthesis.proofs.TableWrites.{Marking, marking_none, marking_on, marking_all}
+use Rattle.synthesis.proofs.TableWrites.{marking_none, marking_on}
 use Rattle.synthesis.proofs.table.starter_marks.Goals as goal
 
 pub loop-i-init : goal.loop-i-init

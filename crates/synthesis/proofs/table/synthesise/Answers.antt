@@ -1,7 +1,6 @@
 -- `synthesis::table::synthesise` meets its contract. Assumes nothing.
 use mathlib.Core.Path.{sym, ◌∙◌}
 use lib.Seq.{length-take-le}
-use borrow.Author.Rules.{rules}
 use Rattle.fsmd.specs.Layout.{machine_words}
 use Rattle.synthesis.proofs.TableFilled.{short_graph_lem, short_machine_lem, not_admitted, machine_made}
 use Rattle.synthesis.proofs.table.synthesise.Goals as goal

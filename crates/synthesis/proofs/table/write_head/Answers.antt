@@ -1,11 +1,9 @@
 -- `synthesis::table::write_head` meets its contract. Assumes nothing.
-use mathlib.Core.Path.{◌≡◌, refl, sym, ap, ◌∙◌}
+use mathlib.Core.Path.{ap, ◌∙◌}
 use mathlib.Core.List.{List}
-use Prim.Native.Nat.{ℕ, ◌-◌, ◌+◌, ◌<◌, ◌≤◌}
-use native.Mathlib.Omega.{arith}
-use lib.ListN.{length, take, set, length-set}
+use Prim.Native.Nat.{ℕ}
+use lib.ListN.{length, set}
 use lib.Seq.{sets}
-use borrow.Author.Rules.{rules}
 use Rattle.fsmd.specs.Layout.{starters_offset, block_states_offset}
 use Rattle.synthesis.proofs.TableWrites.{head_written}
 use Rattle.synthesis.proofs.table.write_head.Goals as goal

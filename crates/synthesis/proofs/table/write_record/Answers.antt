@@ -1,12 +1,9 @@
 -- `synthesis::table::write_record` meets its contract. Assumes nothing.
-use mathlib.Core.Path.{◌≡◌, sym, ap₂, ◌∙◌}
+use mathlib.Core.Path.{ap₂, ◌∙◌}
 use mathlib.Core.List.{List}
-use Prim.Native.Nat.{ℕ, ◌+◌, ◌≤◌}
-use native.Mathlib.Omega.{arith}
-use lib.ListN.{length, take, set, length-set}
-use lib.Seq.{length-take-le}
-use borrow.Author.Rules.{rules}
-use Rattle.fsmd.specs.Layout.{max_registers, touch_offset}
+use Prim.Native.Nat.{ℕ, ◌+◌}
+use lib.ListN.{take, set}
+use Rattle.fsmd.specs.Layout.{touch_offset}
 use Rattle.fsmd.specs.Touch.{touch_word}
 use Rattle.synthesis.proofs.TableWrites.{record_written}
 use Rattle.synthesis.proofs.table.write_record.Goals as goal

@@ -1,5 +1,5 @@
 -- "Synthesise" of paper 01: the machine of a graph, the answer and the final machine table, on all inputs. Assumes nothing.
-use Rattle.std.specs.Prelude.{ℕ, Bool, true, false, not, ◌||◌, List, ◌++◌, map, length, drop, ltb}
+use Rattle.std.specs.Prelude.{ℕ, not, ◌||◌, List, ◌++◌, map, length, drop, ltb}
 use Rattle.word.specs.Word.{choose}
 use Rattle.runs.specs.Lists.{up_from}
 use Rattle.cfg.specs.Layout.{graph_words}

@@ -1,0 +1,31 @@
+-- `synthesis::table::fill` meets its contract. Assumes nothing.
+use mathlib.Core.Path.{◌≡◌, refl, sym, ◌∙◌}
+use mathlib.Core.List.{List}
+use Prim.Native.Nat.{ℕ}
+use native.Mathlib.Omega.{arith}
+use lib.ListN.{length, take, drop, length-drop}
+use lib.Seq.{length-take-le}
+use Rattle.fsmd.specs.Layout.{max_blocks, arrivals_offset, machine_words}
+use Rattle.synthesis.proofs.TableFilled.{arrivals_behind}
+use Rattle.synthesis.proofs.table.fill.Goals as goal
+
+-- the words before the arrivals, and those behind them
+front_length : (t : List ℕ) → length t ≡ machine_words → length (take arrivals_offset t) ≡ arrivals_offset
+front_length t h = length-take-le arrivals_offset t (omega arith)
+
+rest-length : (t : List ℕ) → length t ≡ machine_words → length (drop arrivals_offset t) ≡ max_blocks
+rest-length t h = omega (arith, length-drop arrivals_offset t)
+
+pub slice_bounds-fill_parts-end-2 : goal.slice_bounds-fill_parts-end-2
+slice_bounds-fill_parts-end-2 c = sym (front_length c.args.table.now c.requires.1)
+
+pub fill_parts-requires : goal.fill_parts-requires
+fill_parts-requires c = (c.requires.0, front_length c.args.table.now c.requires.1, refl)
+
+pub returns : goal.returns
+returns c =
+    let f = c.fill_parts in
+    let t = c.args.table.now in
+    c.copy_words.ensures
+    ∙ arrivals_behind f.new.table (drop arrivals_offset t) f.new.arrivals (f.auto.table ∙ front_length t c.requires.1) (f.auto.arrivals ∙ sym (rest-length t c.requires.1))
+    ∙ f.ensures

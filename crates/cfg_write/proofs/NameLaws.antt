@@ -9,7 +9,6 @@ use mathlib.Core.Logic.{◌⊎◌, inl, inr}
 use lib.Dec.{eqb}
 use lib.ListN.{length, get_or, get_or-eq_default}
 use borrow.Author.Tests.{eqb-true, eqb-false, ne_eqb}
-use Rattle.word.proofs.Keys.{NoKey, past}
 use Rattle.word.specs.declared.Comparison.{Comparison}
 use Rattle.word.specs.declared.Comparison.TheVariants.{Eq, Ne, Lt, Ge, Ltu, Geu}
 use Rattle.word.specs.Word.{choose, arity, comparison_at, comparison_code}
@@ -158,11 +157,10 @@ name_test p h n k (inl g) =
 name_test p h n k (inr e) = rw e n
 
 -- a code that is none, as a `match` on the codes says it, has no name
-pub no_name : (k : ℕ) → NoKey 0 11 k → (k ≡ 20 → ⊥) → instruction_name k ≡ []
+pub no_name : (k : ℕ) → (1 ≤ k → k ≤ 11 → ⊥) → (k ≡ 20 → ⊥) → instruction_name k ≡ []
 unfolding instruction_name instruction_names
 no_name zero h n = refl
 no_name (suc k) h n =
-    let p = past 0 11 (suc k) h (omega arith) in
     rw (ne_eqb (suc k) 20 n) (get_or-eq_default instruction_names [] {n = k} (omega arith))
 
 -- ---- comparisons

@@ -16,7 +16,6 @@ use Rattle.cfg_write.specs.Write.{text_of, write_answer, write_bytes}
 use Rattle.cfg_write.specs.RoundTrip.{ReadAgain, WrittenAgain}
 use Rattle.cfg_write.specs.declared.WriteAnswer.TheVariants as write
 use Rattle.cfg_write.proofs.Whole.{all_words, Whole}
-use Rattle.cfg_write.proofs.AcceptedLaws.{accepted}
 use Rattle.cfg_write.proofs.GraphLaws.{graph_read, graph_short_lem, accepted_whole, accepted_text}
 use Rattle.cfg_write.proofs.AnswerLaws.{admitted_whole, begins_graph, begins_admitted, took_of, answer_read_lem, words_are, answer_written, bytes_written, wrote_of, took_bytes}
 

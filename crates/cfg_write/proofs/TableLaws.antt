@@ -105,7 +105,8 @@ blocks_read_lem (k ∷ bs) n front s e p =
     let i = blocks_read_lem bs (suc n) (front ++ block_words_of k) s (omega arith) (and_right (proper k) (every proper bs) p) in
     let t = append_assoc front (block_words_of k) (rest ++ s) in
     let h = block_behind front (block_words_of k ++ (rest ++ s)) n e ∙ block_read k eight (rest ++ s) in
-    rw (append_assoc (block_words_of k) rest s) (ap₂ (λ (b : Block) (l : List Block). b ∷ l) h (rw t at i))
+    ap (λ (x : List ℕ). map (block_at (front ++ x)) (up_from n (suc (length bs)))) (append_assoc (block_words_of k) rest s)
+    ∙ ap₂ (λ (b : Block) (l : List Block). b ∷ l) h (rw t at i)
 
 blocks_length : (bs : List Block) → every proper bs ≡ true → length (concat_map block_words_of bs) ≡ block_words * length bs
 unfolding concat_map

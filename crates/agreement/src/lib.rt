@@ -1,1 +1,2 @@
 // The per-cycle agreement of graph and machine: see specs/.
+#![tactic(auto)]

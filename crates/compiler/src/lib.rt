@@ -1,5 +1,7 @@
 // The eleven operations, on buffers that the caller lends. Each contract says the whole of what an operation does, on all inputs: its
 // answer, and what every buffer holds at the end. A refused operation leaves its buffers as they were.
+#![tactic(auto)]
+
 pub mod fields; // fields.rt: the numbers and values of an answer
 
 ghost use Rattle.std.specs.Prelude.{◌≡◌, List, [], ℕ, ◌≤◌, length, take};

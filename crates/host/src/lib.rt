@@ -1,5 +1,7 @@
 // The eleven operations as C functions: include/gutkavu.h declares them. Each returns the refusal's number, 0 for success, and sets every
 // other field on every call.
+#![tactic(auto)]
+
 ghost use Rattle.std.specs.Prelude.{◌≡◌};
 ghost use Rattle.capture.specs.Capture.{compare_captures};
 ghost use Rattle.cfg_text.specs.Read.{read_answer, read_words, read_number, read_line};

@@ -1,4 +1,6 @@
 // The listing of a graph's text: which blocks share a state, and how many wires each state has.
+#![tactic(auto)]
+
 pub mod lines; // lines.rt: the lines of a listing in a buffer
 pub mod table; // table.rt: the listing that a machine table's words give
 

@@ -3,20 +3,19 @@ use Prim.Native.Nat.{ℕ, ◌+◌, ◌-◌, ◌<◌, ◌≤◌}
 use native.Mathlib.Omega.{arith}
 use mathlib.Core.Bool.{Bool, true, false, not, ◌&&◌}
 use mathlib.Core.List.{List, ◌++◌, map}
-use mathlib.Core.Path.{◌≡◌, refl, sym, ap, ap₂, ◌∙◌}
+use mathlib.Core.Path.{◌≡◌, refl, sym, ap, ◌∙◌}
 use lib.Dec.{eqb, ltb}
 use lib.ListN.{length, get_or, drop, length-map, get_or-append}
 use lib.Seq.{get_or-drop, get_or-append-add}
 use borrow.Author.Tests.{ltb-true, ltb-false, eqb-true, not-false}
 use Rattle.runs.proofs.ListLaws.{get_or-map}
-use Rattle.fsmd.specs.Layout.{max_registers, machine_words, record_offset, next_registers_offset}
-use Rattle.fsmd.specs.Machine.{State, FSMD, worked, clock, machine_runner}
+use Rattle.fsmd.specs.Layout.{machine_words, record_offset, next_registers_offset}
+use Rattle.fsmd.specs.Machine.{State, FSMD, worked, clock}
 use Rattle.fsmd.specs.Touch.{touches}
 use Rattle.fsmd.specs.Table.{state_count, machine_register_count, state_at, machine_of, admitted_machine}
 use Rattle.fsmd.proofs.Machines.{registers_is, state_is, admitted_facts}
 use Rattle.fsmd.proofs.Windows.{window_length}
 use Rattle.synthesis.proofs.Environments.{worked_grows}
-use Rattle.touching.specs.declared.TouchesAnswer.{TouchesAnswer}
 use Rattle.touching.specs.declared.TouchesAnswer.TheVariants.{Refused, Answered}
 use Rattle.touching.specs.Touching.{touches_at, touches_answer, touches_number, touched_field}
 use Rattle.touching.specs.Values.{Admits}

@@ -1,5 +1,5 @@
 -- The fields of the answers of reading, writing, synthesis and comparing captures are the papers'. Assumes nothing.
-use Prim.Native.Nat.{ℕ, ◌≤◌, ◌<◌}
+use Prim.Native.Nat.{ℕ, ◌<◌}
 use mathlib.Core.Bool.{Bool, true, false, ◌||◌}
 use mathlib.Core.Path.{◌≡◌, refl}
 use mathlib.Core.Logic.{◌⊎◌, inl, inr}
@@ -9,7 +9,7 @@ use lib.Dec.{ltb}
 use borrow.Author.Tests.{lt-ltb, le-ltb}
 use Rattle.capture.specs.Capture.{compare_lines, compare_captures, comparison}
 use Rattle.cfg.specs.Layout.{graph_words}
-use Rattle.cfg.specs.Table.{graph_of, admitted_graph}
+use Rattle.cfg.specs.Table.{graph_of}
 use Rattle.cfg_text.specs.Walk.{Reading, refused, read}
 use Rattle.cfg_text.specs.Read.{reading, reading_answer, read_answer, read_number, read_line}
 use Rattle.cfg_write.specs.Write.{text_of, write_answer, write_number, write_length}

@@ -56,7 +56,7 @@ pub fn write_text(table: &[u32], out: &mut [u8]) -> WriteAnswer
     ensures value { result ≡ write_answer table.now out.old }
     ensures out_after { out.new ≡ write_bytes table.now out.old }
     ensures write_values { WriteValues table.now out.old result }
-    ensures by_index { (n : ℕ) → result ≡ Written n → (again : List ℕ) → graph_words ≤ length again → ReadAgain table.now again (take n out.new) }
+    ensures read_again { (n : ℕ) → result ≡ Written n → (again : List ℕ) → graph_words ≤ length again → ReadAgain table.now again (take n out.new) }
 {
     cfg_write::write_text(table, out)
 }

@@ -162,6 +162,7 @@ fn end_block(
 }
 
 // An instruction joins the block, which has room for eight.
+#[tactic(auto, using(crate::proofs::Steps::ninth), unfolding(crate::specs::Walk::next))]
 fn join(p: ReadState, i: Instruction, words: &mut [u32], n: u32) -> LineStep
     requires { (p.done < max_blocks) × (length words.old ≡ graph_words) }
     ensures { (b r : ℕ) (bs : List Block) (is : List Instruction)

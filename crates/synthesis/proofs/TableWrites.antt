@@ -7,7 +7,7 @@ use mathlib.Core.Path.{◌≡◌, refl, sym, ◌∙◌, ap}
 use mathlib.Core.List.{List, [], ◌∷◌, ◌++◌}
 use lib.Dec.{eqb}
 use lib.ListN.{length, get_or, take, replicate, set, length-append, length-replicate, length-set, replicate-append-replicate}
-use lib.Seq.{take-suc, take_all, sets}
+use lib.Seq.{take-suc, sets}
 use Rattle.buffers.proofs.Copies.{sets_append, sets_over}
 use Rattle.fsmd.specs.Layout.{max_states, max_blocks, max_registers, starters_offset, block_states_offset, touch_offset, arrivals_offset}
 use Rattle.runs.specs.Lists.{mem}
@@ -72,6 +72,3 @@ marking_on starters marks i m l x e h =
       each = λ y. marked_set marks x y (omega (arith, m.size)) ∙ ap (λ (b : Bool). eqb y x || b) (m.each y) ∙ sym (mem_snoc y x (take i starters))
           ∙ ap (mem y) (ap (λ (z : ℕ). take i starters ++ (z ∷ [])) e ∙ sym (take-suc starters i 0 l) ∙ ap (λ (n : ℕ). take n starters) (sym (add-one i)));
     }
-
-pub marking_all : (starters marks : List ℕ) (i : ℕ) → Marking starters marks i → length starters ≤ i → (x : ℕ) → marked marks x ≡ mem x starters
-marking_all starters marks i m l x = m.each x ∙ ap (mem x) (take_all i starters l)

@@ -236,7 +236,7 @@ write_record-requires c =
     let m = c.make-made in
     let w = few_wires p q.1 q.0 _ c.place-count.ensures.1 m.new.wires m.new.values m.result.registers m.result.wires m.result.next m.ensures.held m.auto.values m.ensures.registers_in_bounds m.auto.wires in
     let l = table_length p q.1 q.0 _ c.place-count.ensures.1 m.new.wires m.new.values m.result.registers m.result.wires m.result.next m.ensures.held m.auto.values m.ensures.registers_in_bounds m.auto.wires in
-    (omega arith, registers_length p q.1 q.0 _ c.place-count.ensures.1 m.new.wires m.new.values m.result.registers m.result.wires m.result.next m.ensures.held m.auto.values m.ensures.registers_in_bounds m.auto.wires, s.wire, omega arith, s.registers)
+    (omega arith, registers_length p q.1 q.0 _ c.place-count.ensures.1 m.new.wires m.new.values m.result.registers m.result.wires m.result.next m.ensures.held m.auto.values m.ensures.registers_in_bounds m.auto.wires, s.wire, omega arith, omega arith)
 
 pub overflow_add-result : goal.overflow_add-result
 overflow_add-result c =

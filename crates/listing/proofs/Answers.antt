@@ -8,7 +8,7 @@ use lib.ListN.{length}
 use lib.Dec.{ltb}
 use borrow.Author.Tests.{ltb-false}
 use Rattle.word.specs.Word.{choose}
-use Rattle.listing.specs.Listing.{listing, answer_for, list_answer}
+use Rattle.listing.specs.Listing.{listing, list_answer}
 use Rattle.listing.specs.declared.ListAnswer.TheVariants.{Listed, Short}
 
 by-test : (short : Bool) (size n : ℕ) → choose short (Short size) (Listed size) ≡ Listed n → (short ≡ false) × (size ≡ n)

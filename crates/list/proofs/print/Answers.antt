@@ -1,5 +1,5 @@
 -- A listing that was written is within the output. Assumes nothing.
-use Rattle.std.proofs.Common.{◌≤◌, length, arith, sym, ◌∙◌}
+use Rattle.std.proofs.Common.{arith, sym, ◌∙◌}
 use Rattle.std.proofs.lemmas.List.{length-take-le}
 use Rattle.listing.proofs.Answers.{listed-within}
 use Rattle.list.proofs.print.Goals as goal

@@ -1,5 +1,5 @@
 -- What runs answer: Run machine on an admitted table, and the graph's run beside the machine's. Assumes nothing.
-use Prim.Native.Nat.{ℕ, suc, ◌+◌, ◌≤◌, ◌<◌}
+use Prim.Native.Nat.{ℕ, suc, ◌≤◌, ◌<◌}
 use native.Mathlib.Omega.{arith}
 use native.Mathlib.Decide.{dec_lt}
 use mathlib.Core.Path.{◌≡◌, refl, sym, ap, ◌∙◌}
@@ -9,68 +9,50 @@ use mathlib.Core.List.{List, ◌++◌}
 use lib.Dec.{ltb}
 use lib.ListN.{length, take, drop}
 use borrow.Author.Tests.{lt-ltb, le-ltb, ltb-true, ltb-false}
+use Rattle.std.specs.Prelude.{Option, Some, None, Result, Ok}
+use Rattle.refusal.specs.declared.Refusal.{Refusal}
+use Rattle.refusal.specs.declared.Refusal.TheVariants.{ShortBuffer}
 use Rattle.word.specs.Word.{truth}
 use Rattle.runs.specs.Lists.{mem}
-use Rattle.runs.specs.Runs.{Place, standing, halted, Configuration, start_at, Supply, Runner, goes, times, steps_run, outcome, answer, registers_after, run_number, run_outcome, run_count, run_next, run_flag}
-use Rattle.runs.specs.declared.RunAnswer.{RunAnswer}
+use Rattle.runs.specs.Runs.{Place, standing, halted, Configuration, start_at, Supply, Runner, goes, times, steps_run, outcome, answer, registers_after, refusal_number, run_number, run_outcome, run_next}
+use Rattle.runs.specs.declared.RunEnd.{RunEnd}
 use Rattle.runs.proofs.RunLaws.{never_both, place_of, registers_of, flag_of, arrivals_of, halted_ends, dry_lasts}
 use Rattle.runs.proofs.RunLaws.{steps_run_le, going_before, at_count, left_ended, arrivals_run}
 use Rattle.runs.proofs.RunLaws.{Reached, reached_after, answer_is, reached_spent, reached_halted, reached_dry, at_ended, counted_ended}
 use Rattle.cfg.specs.Graph.{CFG, graph_runner}
 use Rattle.fsmd.specs.Layout.{max_registers}
 use Rattle.fsmd.specs.Machine.{machine_runner, blocks_run}
-use Rattle.runs.specs.Operations.{answered, registers_left, total_of}
-use Rattle.runs.proofs.OperationLaws.{refused, accepted, accepted_left, accepted_total}
+use Rattle.runs.specs.Operations.{answered, registers_left, total_of, outcome_at, next_at, RunValues}
+use Rattle.runs.proofs.OperationLaws.{accepted_left, accepted_total, answer_values, operation_values}
 use Rattle.grouping.specs.Grouping.{Groups}
 use Rattle.synthesis.specs.Synthesis.{machine_for}
-use Rattle.runs.specs.Operations.{next_at}
 use Rattle.agreement.specs.Agreement.{graph_after, machine_after, machine_counts, state_in, place_in, in_machine, HaltingCycle, DryCycle, RunAgrees, SameEnd, RunsAlike, SameAnswer}
 use Rattle.agreement.proofs.WholeRun.{standing_of, Here, Over, Both}
 
--- ---- the fields of an outcome
+-- ---- what an outcome tells of the place, and of whether budget is left
 
-outcome_number : (p : Place) (left : Bool) (c : ℕ) (f : Bool) → run_number (outcome p left c f) ≡ 0
-outcome_number (standing n) true c f = refl
-outcome_number (standing n) false c f = refl
-outcome_number halted left c f = refl
+at_halted : (p : Place) (left : Bool) → outcome_at p left ≡ 1 → p ≡ halted
+at_halted (standing n) true h = absurd (omega arith)
+at_halted (standing n) false h = absurd (omega arith)
+at_halted halted left h = refl
 
-outcome_next : (p : Place) (left : Bool) (c : ℕ) (f : Bool) → run_next (outcome p left c f) ≡ next_at p
-outcome_next (standing n) true c f = refl
-outcome_next (standing n) false c f = refl
-outcome_next halted left c f = refl
+halted_at : (p : Place) (left : Bool) → p ≡ halted → outcome_at p left ≡ 1
+halted_at p left h = rw h
 
-outcome_count : (p : Place) (left : Bool) (c : ℕ) (f : Bool) → run_count (outcome p left c f) ≡ c
-outcome_count (standing n) true c f = refl
-outcome_count (standing n) false c f = refl
-outcome_count halted left c f = refl
+at_spent : (p : Place) (left : Bool) → outcome_at p left ≡ 0 → left ≡ false
+at_spent (standing n) true h = absurd (omega arith)
+at_spent (standing n) false h = refl
+at_spent halted left h = absurd (omega arith)
 
-outcome_flag : (p : Place) (left : Bool) (c : ℕ) (f : Bool) → run_flag (outcome p left c f) ≡ truth f
-outcome_flag (standing n) true c f = refl
-outcome_flag (standing n) false c f = refl
-outcome_flag halted left c f = refl
+at_dry : (p : Place) (left : Bool) → outcome_at p left ≡ 2 → ((n : ℕ) × (p ≡ standing n)) × (left ≡ true)
+at_dry (standing n) true h = ((n, refl), refl)
+at_dry (standing n) false h = absurd (omega arith)
+at_dry halted left h = absurd (omega arith)
 
-outcome_halted : (p : Place) (left : Bool) (c : ℕ) (f : Bool) → run_outcome (outcome p left c f) ≡ 1 → p ≡ halted
-outcome_halted (standing n) true c f h = absurd (omega arith)
-outcome_halted (standing n) false c f h = absurd (omega arith)
-outcome_halted halted left c f h = refl
+-- ---- an operation that is refused for a short buffer alone, of a machine: n is its refusal
 
-halted_outcome : (p : Place) (left : Bool) (c : ℕ) (f : Bool) → p ≡ halted → run_outcome (outcome p left c f) ≡ 1
-halted_outcome p left c f h = rw h
-
-outcome_spent : (p : Place) (left : Bool) (c : ℕ) (f : Bool) → run_outcome (outcome p left c f) ≡ 0 → left ≡ false
-outcome_spent (standing n) true c f h = absurd (omega arith)
-outcome_spent (standing n) false c f h = refl
-outcome_spent halted left c f h = absurd (omega arith)
-
-outcome_dry : (p : Place) (left : Bool) (c : ℕ) (f : Bool) → run_outcome (outcome p left c f) ≡ 2 → ((n : ℕ) × (p ≡ standing n)) × (left ≡ true)
-outcome_dry (standing n) true c f h = ((n, refl), refl)
-outcome_dry (standing n) false c f h = absurd (omega arith)
-outcome_dry halted left c f h = absurd (omega arith)
-
--- ---- an operation that is refused for a short buffer alone, of a machine: n is the number of its refusal
-
-module _ (m : Runner) (f : ℕ → ℕ → List ℕ → ℕ) (each : (q : ℕ) → m.arrives q ≡ true) (ws : Supply) (q₀ : ℕ) (buffer : List ℕ) (k n : ℕ)
-    (short : length buffer < max_registers → n ≡ 7) (full : max_registers ≤ length buffer → n ≡ 0) where
+module _ (m : Runner) (f : ℕ → ℕ → List ℕ → ℕ) (each : (q : ℕ) → m.arrives q ≡ true) (ws : Supply) (q₀ : ℕ) (buffer : List ℕ) (k : ℕ) (n : Option Refusal)
+    (short : length buffer < max_registers → n ≡ Some ShortBuffer) (full : max_registers ≤ length buffer → n ≡ None) where
   abbrev rs : List ℕ
   rs = take max_registers buffer
 
@@ -86,14 +68,14 @@ module _ (m : Runner) (f : ℕ → ℕ → List ℕ → ℕ) (each : (q : ℕ) �
   abbrev flag : Bool
   flag = (machine_after m ws q₀ rs k).contents.flag
 
-  abbrev result : RunAnswer
+  abbrev result : Result RunEnd Refusal
   result = answered n m ws buffer q₀ k
 
   abbrev Agrees : Type 0
   Agrees = RunAgrees m f ws q₀ k buffer (registers_left n m ws buffer q₀ k) result (total_of f n m ws buffer q₀ k)
 
-  run_outcome_lem : max_registers ≤ length buffer → result ≡ outcome place (ltb count k) count flag
-  run_outcome_lem h = accepted m ws buffer q₀ k n (full h) ∙ answer_is m ws k c₀
+  values : RunValues n m ws k c₀ result
+  values = operation_values m ws buffer q₀ k n
 
   run_registers : max_registers ≤ length buffer → registers_left n m ws buffer q₀ k ≡ (machine_after m ws q₀ rs k).contents.registers ++ drop max_registers buffer
   unfolding registers_after
@@ -122,34 +104,35 @@ module _ (m : Runner) (f : ℕ → ℕ → List ℕ → ℕ) (each : (q : ℕ) �
 
   long_enough : max_registers ≤ length buffer → Agrees
   long_enough h =
-      let e = run_outcome_lem h in
+      let z = full h in
       let left = ltb count k in
-      let number = ap run_number e ∙ outcome_number place left count flag in
-      let counted = ap run_count e ∙ outcome_count place left count flag in
+      let number : run_number result ≡ 0 = values.number ∙ ap refusal_number z in
+      let e = values.outcome z in
+      let counted = values.count z in
       record {
         not9 = λ d. absurd (omega arith);
         not10 = λ d. absurd (omega arith);
         not12 = λ d. absurd (omega arith);
         accepted = λ d. number;
-        answers = λ z. record {
-          halts = (λ d. outcome_halted place left count flag (sym (ap run_outcome e) ∙ d), λ d. ap run_outcome e ∙ halted_outcome place left count flag d);
+        answers = λ q. record {
+          halts = (λ d. at_halted place left (sym e ∙ d), λ d. e ∙ halted_at place left d);
           registers = run_registers h;
-          flag = ap run_flag e ∙ outcome_flag place left count flag;
-          next = ap run_next e ∙ outcome_next place left count flag;
+          flag = values.flag z;
+          next = values.next z;
           spent = λ d.
-              let l = ltb-false count k (outcome_spent place left count flag (sym (ap run_outcome e) ∙ d)) in
+              let l = ltb-false count k (at_spent place left (sym e ∙ d)) in
               counted ∙ omega (arith, steps_run_le m ws k c₀);
-          ended = λ d. rw counted (halting (outcome_halted place left count flag (sym (ap run_outcome e) ∙ d)));
+          ended = λ d. rw counted (halting (at_halted place left (sym e ∙ d)));
           dried = λ d.
-              let p = outcome_dry place left count flag (sym (ap run_outcome e) ∙ d) in
+              let p = at_dry place left (sym e ∙ d) in
               rw counted (drying p.0.0 p.0.1 (ltb-true count k p.1));
-          blocks = accepted_total f m ws buffer q₀ k n (full h);
+          blocks = accepted_total f m ws buffer q₀ k n z;
         };
       }
 
   too_short : length buffer < max_registers → Agrees
   too_short h =
-      let seven : run_number result ≡ 7 = ap run_number (refused m ws buffer q₀ k n 6 (short h)) in
+      let seven : run_number result ≡ 7 = values.number ∙ ap refusal_number (short h) in
       record {
         not9 = λ d. absurd (omega arith);
         not10 = λ d. absurd (omega arith);
@@ -166,6 +149,10 @@ module _ (m : Runner) (f : ℕ → ℕ → List ℕ → ℕ) (each : (q : ℕ) �
       go (no h) = long_enough (omega arith)
 
 -- ---- the graph's run beside the machine's
+
+-- of a run that is not refused
+abbrev outcome_of : RunEnd → ℕ
+outcome_of end = run_outcome (Ok end)
 
 module _ (g : CFG) (s : Groups) (ws : Supply) (b₀ : ℕ) (rs : List ℕ) (k : ℕ) (both : Both g s ws b₀ rs k) where
   abbrev graph : Runner
@@ -196,17 +183,17 @@ module _ (g : CFG) (s : Groups) (ws : Supply) (b₀ : ℕ) (rs : List ℕ) (k : 
       ∙ arrivals_run machine ws (λ q. refl) k (start_at (state_in s b₀) rs) (state_in s b) (place_of both.machine ∙ ap (place_in s) h)
       ∙ omega arith
 
-  machine_outcome : run_outcome (answer machine ws k (start_at (state_in s b₀) rs)) ≡ run_outcome (outcome (place_in s end.place) (ltb cycles k) cycles end.contents.flag)
-  machine_outcome = ap run_outcome (answer_is machine ws k (start_at (state_in s b₀) rs)) ∙ ap (λ (c : Configuration). run_outcome (outcome c.place (ltb cycles k) cycles c.contents.flag)) both.machine
+  machine_outcome : outcome_of (answer machine ws k (start_at (state_in s b₀) rs)) ≡ outcome_of (outcome (place_in s end.place) (ltb cycles k) cycles end.contents.flag)
+  machine_outcome = ap outcome_of (answer_is machine ws k (start_at (state_in s b₀) rs)) ∙ ap (λ (c : Configuration). outcome_of (outcome c.place (ltb cycles k) cycles c.contents.flag)) both.machine
 
   spent_alike : Here s k end → RunsAlike g s machine blocks ws b₀ rs k
   spent_alike h =
-      let e : run_outcome (answer machine ws k (start_at (state_in s b₀) rs)) ≡ 0 =
+      let e : outcome_of (answer machine ws k (start_at (state_in s b₀) rs)) ≡ 0 =
       machine_outcome ∙ rw (h.place, le-ltb cycles k (omega (arith, cycles_are h.block h.place, h.counted))) in
       record {
         blocks = both.steps;
         at = record {
-          outcome = ap run_outcome (reached_spent graph ws both.steps from both.steps end (frame both.steps (omega arith)) h.block h.place (omega arith)) ∙ sym e;
+          outcome = ap outcome_of (reached_spent graph ws both.steps from both.steps end (frame both.steps (omega arith)) h.block h.place (omega arith)) ∙ sym e;
           same = both.machine;
           starter = λ b d. rw (standing_of (sym d ∙ h.place)) h.starter;
           counted = both.counted ∙ sym both.run;
@@ -216,7 +203,7 @@ module _ (g : CFG) (s : Groups) (ws : Supply) (b₀ : ℕ) (rs : List ℕ) (k : 
 
   -- ended with the block budget n, and so with every larger one
   ended_alike : (o : Over s ws k end) (n : ℕ) (l : both.steps ≤ n)
-      → run_outcome (answer graph ws n from) ≡ run_outcome (outcome (place_in s end.place) (ltb cycles k) cycles end.contents.flag) → SameEnd g s machine blocks ws b₀ rs k n
+      → outcome_of (answer graph ws n from) ≡ outcome_of (outcome (place_in s end.place) (ltb cycles k) cycles end.contents.flag) → SameEnd g s machine blocks ws b₀ rs k n
   ended_alike o n l e =
       let z : graph_after g s.starters ws b₀ rs n ≡ end = at_ended graph ws n from both.steps end (frame n l) o.ended in
       record {
@@ -229,12 +216,12 @@ module _ (g : CFG) (s : Groups) (ws : Supply) (b₀ : ℕ) (rs : List ℕ) (k : 
   over_alike : (p : Place) → end.place ≡ p → Over s ws k end → RunsAlike g s machine blocks ws b₀ rs k
   over_alike halted h o =
       let same : (n : ℕ) → both.steps ≤ n → SameEnd g s machine blocks ws b₀ rs k n =
-      λ n l. ended_alike o n l (ap run_outcome (reached_halted graph ws n from both.steps end (frame n l) o.ended h) ∙ rw h) in
+      λ n l. ended_alike o n l (ap outcome_of (reached_halted graph ws n from both.steps end (frame n l) o.ended h) ∙ rw h) in
       record { blocks = both.steps; at = same both.steps (omega arith); beyond = λ d. same }
   over_alike (standing b) h o =
       let same : (n : ℕ) → suc both.steps ≤ n → SameEnd g s machine blocks ws b₀ rs k n =
       λ n l. ended_alike o n (omega arith)
-      (ap run_outcome (reached_dry graph ws n from both.steps end (frame n (omega arith)) o.ended b h l)
+      (ap outcome_of (reached_dry graph ws n from both.steps end (frame n (omega arith)) o.ended b h l)
       ∙ rw (h, lt-ltb cycles k (omega (arith, cycles_are b h, o.counted)))) in
       record { blocks = suc both.steps; at = same (suc both.steps) (omega arith); beyond = λ d. same }
 
@@ -249,35 +236,29 @@ module _ (g : CFG) (s : Groups) (ws : Supply) (b₀ : ℕ) (rs : List ℕ) (k : 
 
 module _ (g : CFG) (s : Groups) (m : Runner) (f : ℕ → ℕ → List ℕ → ℕ) (ws : Supply) (b₀ : ℕ) (rs : List ℕ) (k n : ℕ) (high : List ℕ)
     (e : SameEnd g s m f ws b₀ rs k n) where
-  abbrev left : RunAnswer
-  left = answer (graph_runner g s.starters) ws n (start_at b₀ rs)
+  abbrev left : Result RunEnd Refusal
+  left = Ok (answer (graph_runner g s.starters) ws n (start_at b₀ rs))
 
-  abbrev right : RunAnswer
-  right = answer m ws k (start_at (state_in s b₀) rs)
+  abbrev right : Result RunEnd Refusal
+  right = Ok (answer m ws k (start_at (state_in s b₀) rs))
 
-  answer_number : (r : Runner) (k : ℕ) (c : Configuration) → run_number (answer r ws k c) ≡ 0
-  answer_number r k c = ap run_number (answer_is r ws k c) ∙ outcome_number (times r ws k c).place (ltb (steps_run r ws k c) k) (steps_run r ws k c) (times r ws k c).contents.flag
+  left_values : RunValues None (graph_runner g s.starters) ws n (start_at b₀ rs) left
+  left_values = answer_values (graph_runner g s.starters) ws n (start_at b₀ rs)
 
-  answer_next : (r : Runner) (k : ℕ) (c : Configuration) → run_next (answer r ws k c) ≡ next_at (times r ws k c).place
-  answer_next r k c = ap run_next (answer_is r ws k c) ∙ outcome_next (times r ws k c).place (ltb (steps_run r ws k c) k) (steps_run r ws k c) (times r ws k c).contents.flag
-
-  answer_flag : (r : Runner) (k : ℕ) (c : Configuration) → run_flag (answer r ws k c) ≡ truth (times r ws k c).contents.flag
-  answer_flag r k c = ap run_flag (answer_is r ws k c) ∙ outcome_flag (times r ws k c).place (ltb (steps_run r ws k c) k) (steps_run r ws k c) (times r ws k c).contents.flag
-
-  answer_count : (r : Runner) (k : ℕ) (c : Configuration) → run_count (answer r ws k c) ≡ steps_run r ws k c
-  answer_count r k c = ap run_count (answer_is r ws k c) ∙ outcome_count (times r ws k c).place (ltb (steps_run r ws k c) k) (steps_run r ws k c) (times r ws k c).contents.flag
+  right_values : RunValues None m ws k (start_at (state_in s b₀) rs) right
+  right_values = answer_values m ws k (start_at (state_in s b₀) rs)
 
   next_alike : (p : Place) → (graph_after g s.starters ws b₀ rs n).place ≡ p
       → (run_outcome right ≡ 1) ⊎ ((mem (run_next left) s.starters ≡ true) × (run_next right ≡ state_in s (run_next left)))
   next_alike halted h =
-      inl (ap run_outcome (answer_is m ws k (start_at (state_in s b₀) rs))
-      ∙ halted_outcome (times m ws k (start_at (state_in s b₀) rs)).place (ltb (steps_run m ws k (start_at (state_in s b₀) rs)) k) (steps_run m ws k (start_at (state_in s b₀) rs)) (times m ws k (start_at (state_in s b₀) rs)).contents.flag
-      (place_of e.same ∙ ap (place_in s) h))
+      let end = times m ws k (start_at (state_in s b₀) rs) in
+      inl (right_values.outcome refl
+      ∙ halted_at end.place (ltb (steps_run m ws k (start_at (state_in s b₀) rs)) k) (place_of e.same ∙ ap (place_in s) h))
   next_alike (standing b) h =
-      let l : run_next left ≡ b = answer_next (graph_runner g s.starters) n (start_at b₀ rs) ∙ ap next_at h in
+      let l : run_next left ≡ b = left_values.next refl ∙ ap next_at h in
       inr (
         rw l (e.starter b h),
-        answer_next m k (start_at (state_in s b₀) rs) ∙ ap next_at (place_of e.same ∙ ap (place_in s) h) ∙ ap (state_in s) (sym l),
+        right_values.next refl ∙ ap next_at (place_of e.same ∙ ap (place_in s) h) ∙ ap (state_in s) (sym l),
       )
 
   pub ends_alike : SameAnswer s left right (machine_counts m f ws (state_in s b₀) rs k)
@@ -286,10 +267,10 @@ module _ (g : CFG) (s : Groups) (m : Runner) (f : ℕ → ℕ → List ℕ → �
   unfolding registers_after
   ends_alike =
       record {
-        accepted = (answer_number (graph_runner g s.starters) n (start_at b₀ rs), answer_number m k (start_at (state_in s b₀) rs));
+        accepted = (left_values.number, right_values.number);
         outcome = e.outcome;
         registers = ap (λ (q : List ℕ). q ++ high) (sym (registers_of e.same));
-        flag = answer_flag (graph_runner g s.starters) n (start_at b₀ rs) ∙ ap truth (sym (flag_of e.same)) ∙ sym (answer_flag m k (start_at (state_in s b₀) rs));
+        flag = left_values.flag refl ∙ ap truth (sym (flag_of e.same)) ∙ sym (right_values.flag refl);
         next = next_alike (graph_after g s.starters ws b₀ rs n).place refl;
-        blocks = e.counted ∙ sym (answer_count (graph_runner g s.starters) n (start_at b₀ rs));
+        blocks = e.counted ∙ sym (left_values.count refl);
       }

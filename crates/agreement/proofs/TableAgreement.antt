@@ -9,6 +9,7 @@ use lib.ListN.{length, get_or, take, drop, length-append}
 use lib.Seq.{length-take-le}
 use lib.Dec.{eqb, ltb}
 use borrow.Author.Tests.{lt-ltb}
+use Rattle.std.specs.Prelude.{None, Ok}
 use Rattle.runs.specs.Lists.{mem, every}
 use Rattle.runs.proofs.Sets.{mem→In, In→mem}
 use Rattle.runs.proofs.MembershipLaws.{in_every}
@@ -32,7 +33,6 @@ use Rattle.grouping.specs.Grouping.{Groups, groups}
 use Rattle.grouping.proofs.Reach.{reached_below, valid_closed, admitted_closed}
 use Rattle.grouping.proofs.GroupingLaws.{Grouped, grouped}
 use Rattle.synthesis.specs.Synthesis.{machine_for, machine, synthesis_answer, synthesis_words}
-use Rattle.synthesis.specs.declared.SynthesisAnswer.TheVariants.{Made}
 use Rattle.synthesis.proofs.GraphFacts.{graph_fits}
 use Rattle.placement.proofs.StateOrder.{Arranged, arranged}
 use Rattle.synthesis.proofs.SynthesisedMachine.{states_count, machine_is, made_fits}
@@ -119,7 +119,7 @@ module _ (t rest : List ℕ) (ok : admitted_graph t ≡ true) (s : Groups) (G : 
     graph_same : graph_runner g starters ≡ graph_runner g s.starters
     graph_same = ap (λ (f : ℕ → Bool). record { unit = λ w n q. run_block w (block_of g n) q; arrives = f }) (fun_ext alike)
 
-    graph_accepted : graph_words_refusal t buffer b₀ starters ≡ 0
+    graph_accepted : graph_words_refusal t buffer b₀ starters ≡ None
     graph_accepted =
         words_none_refused t buffer b₀ starters (admitted_facts t ok).long enough ok (starters_below b₀ start)
         (rw (
@@ -128,20 +128,20 @@ module _ (t rest : List ℕ) (ok : admitted_graph t ≡ true) (s : Groups) (G : 
           in_every (λ b. ltb b (get_or t 0 0)) starters (λ b i. lt-ltb b (get_or t 0 0) (starters_below b (sym (alike b) ∙ In→mem b starters i))),
         ))
 
-    graph_answer_lem : (n : ℕ) → graph_words_answer t buffer b₀ n words starters ≡ answer (graph_runner g s.starters) ws n (start_at b₀ rs)
+    graph_answer_lem : (n : ℕ) → graph_words_answer t buffer b₀ n words starters ≡ Ok (answer (graph_runner g s.starters) ws n (start_at b₀ rs))
     graph_answer_lem n =
         accepted (graph_runner g starters) ws buffer b₀ n (graph_words_refusal t buffer b₀ starters) graph_accepted
-        ∙ ap (λ (r : Runner). answer r ws n (start_at b₀ rs)) graph_same
+        ∙ ap (λ (r : Runner). Ok (answer r ws n (start_at b₀ rs))) graph_same
 
     graph_registers_lem : (n : ℕ) → graph_words_registers t buffer b₀ n words starters ≡ registers_after (graph_runner g s.starters) ws n (start_at b₀ rs) ++ drop max_registers buffer
     graph_registers_lem n =
         accepted_left (graph_runner g starters) ws buffer b₀ n (graph_words_refusal t buffer b₀ starters) graph_accepted
         ∙ ap (λ (r : Runner). registers_after r ws n (start_at b₀ rs) ++ drop max_registers buffer) graph_same
 
-    machine_accepted : machine_words_refusal table buffer (state_in s b₀) ≡ 0
+    machine_accepted : machine_words_refusal table buffer (state_in s b₀) ≡ None
     machine_accepted = words_refuse_none table buffer (state_in s b₀) long enough table_admitted (start_known b₀ start)
 
-    machine_answer_lem : machine_words_answer table buffer (state_in s b₀) k words ≡ answer m ws k (start_at (state_in s b₀) rs)
+    machine_answer_lem : machine_words_answer table buffer (state_in s b₀) k words ≡ Ok (answer m ws k (start_at (state_in s b₀) rs))
     machine_answer_lem = accepted m ws buffer (state_in s b₀) k (machine_words_refusal table buffer (state_in s b₀)) machine_accepted
 
     machine_registers_lem : machine_words_registers table buffer (state_in s b₀) k words ≡ registers_after m ws k (start_at (state_in s b₀) rs) ++ drop max_registers buffer
@@ -218,5 +218,5 @@ listed_lasts ws k h j l = lt-ltb j (length ws) (omega arith)
 
 -- ---- and so the words that Synthesise leaves
 
-pub synthesised_agrees : (t old : List ℕ) → synthesis_answer t old ≡ Made → Agreement t (synthesis_words t old)
+pub synthesised_agrees : (t old : List ℕ) → synthesis_answer t old ≡ Ok tt → Agreement t (synthesis_words t old)
 synthesised_agrees t old e = rw (made_words t old e) (agreement t (drop machine_words old) (made_admitted t old e))

@@ -1,11 +1,12 @@
 -- Demand 3, the per-cycle agreement on equal words: one statement on whole runs, over all starters, words, registers and every k. Assumes nothing.
 -- To be read beside "The mission" and "Runs" of paper 01, and R-1, R-2 and R-7 of paper 02. Equal contents are equal registers and equal flags.
-use Rattle.std.specs.Prelude.{ℕ, suc, ◌+◌, ◌≤◌, ◌<◌, ◌≡◌, ◌⊎◌, ◌↔◌, ◌≢◌, true, false, List, [], ◌++◌, length, get_or, take, drop}
+use Rattle.std.specs.Prelude.{ℕ, suc, ◌+◌, ◌≤◌, ◌<◌, ◌≡◌, ◌⊎◌, ◌↔◌, ◌≢◌, true, false, List, [], ◌++◌, length, get_or, take, drop, Result, Ok}
 use Rattle.word.specs.Word.{truth}
 use Rattle.runs.specs.Lists.{mem}
 use Rattle.runs.specs.Runs.{Place, standing, halted, Contents, Configuration, stands_at, start_at, Supply, listed, unread, Runner, goes, step, times, steps_run, total, answer, run_number, run_outcome, run_count, run_next, run_flag}
 use Rattle.runs.specs.Operations.{next_at}
-use Rattle.runs.specs.declared.RunAnswer.{RunAnswer}
+use Rattle.refusal.specs.declared.Refusal.{Refusal}
+use Rattle.runs.specs.declared.RunEnd.{RunEnd}
 use Rattle.cfg.specs.Graph.{CFG, graph_runner, wordless_graph}
 use Rattle.cfg.specs.Table.{graph_of}
 use Rattle.cfg.specs.Run.{graph_words_answer, graph_words_registers}
@@ -89,7 +90,7 @@ pub record AgreeAfter (g : CFG) (s : Groups) (m : Runner) (f : ℕ → ℕ → L
 -- With a budget of n blocks the graph's run ends as the machine's with k cycles: spent, halted or dry alike,
 -- at the same arrival with equal registers and flags, the one at a starter and the other in its state; and the machine has counted the blocks that the graph ran.
 pub record SameEnd (g : CFG) (s : Groups) (m : Runner) (f : ℕ → ℕ → List ℕ → ℕ) (ws : Supply) (b₀ : ℕ) (rs : List ℕ) (k n : ℕ) : Type 0 where
-  pub outcome : run_outcome (answer (graph_runner g s.starters) ws n (start_at b₀ rs)) ≡ run_outcome (answer m ws k (start_at (state_in s b₀) rs))
+  pub outcome : run_outcome (Ok (answer (graph_runner g s.starters) ws n (start_at b₀ rs))) ≡ run_outcome (Ok (answer m ws k (start_at (state_in s b₀) rs)))
   pub same : machine_after m ws (state_in s b₀) rs k ≡ in_machine s (graph_after g s.starters ws b₀ rs n)
   pub starter : (b : ℕ) → (graph_after g s.starters ws b₀ rs n).place ≡ standing b → mem b s.starters ≡ true
   pub counted : machine_counts m f ws (state_in s b₀) rs k ≡ steps_run (graph_runner g s.starters) ws n (start_at b₀ rs)
@@ -98,7 +99,7 @@ pub record SameEnd (g : CFG) (s : Groups) (m : Runner) (f : ℕ → ℕ → List
 pub record RunsAlike (g : CFG) (s : Groups) (m : Runner) (f : ℕ → ℕ → List ℕ → ℕ) (ws : Supply) (b₀ : ℕ) (rs : List ℕ) (k : ℕ) : Type 0 where
   pub blocks : ℕ
   pub at : SameEnd g s m f ws b₀ rs k blocks
-  pub beyond : run_outcome (answer m ws k (start_at (state_in s b₀) rs)) ≢ 0 → (n : ℕ) → blocks ≤ n → SameEnd g s m f ws b₀ rs k n
+  pub beyond : run_outcome (Ok (answer m ws k (start_at (state_in s b₀) rs))) ≢ 0 → (n : ℕ) → blocks ≤ n → SameEnd g s m f ws b₀ rs k n
 
 -- ---- Run machine from state q₀, with a register buffer and budget k, on the words ws
 
@@ -116,7 +117,7 @@ pub record DryCycle (m : Runner) (ws : Supply) (q₀ : ℕ) (rs : List ℕ) (k c
   pub left : c < k
 
 -- the answer a of k cycles from the buffer's registers, the blocks n that it has counted, and the buffer after, where not refused
-pub record Answers (m : Runner) (f : ℕ → ℕ → List ℕ → ℕ) (ws : Supply) (q₀ k : ℕ) (buffer after : List ℕ) (a : RunAnswer) (n : ℕ) : Type 0 where
+pub record Answers (m : Runner) (f : ℕ → ℕ → List ℕ → ℕ) (ws : Supply) (q₀ k : ℕ) (buffer after : List ℕ) (a : Result RunEnd Refusal) (n : ℕ) : Type 0 where
   -- halted exactly when the machine has halted after k cycles
   pub halts : (run_outcome a ≡ 1) ↔ ((machine_after m ws q₀ (take max_registers buffer) k).place ≡ halted)
   -- the registers and the flag of that moment, words past 16 as before
@@ -131,7 +132,7 @@ pub record Answers (m : Runner) (f : ℕ → ℕ → List ℕ → ℕ) (ws : Sup
   pub blocks : n ≡ machine_counts m f ws q₀ (take max_registers buffer) k
 
 -- the same of an operation that may be refused
-pub record RunAgrees (m : Runner) (f : ℕ → ℕ → List ℕ → ℕ) (ws : Supply) (q₀ k : ℕ) (buffer after : List ℕ) (a : RunAnswer) (n : ℕ) : Type 0 where
+pub record RunAgrees (m : Runner) (f : ℕ → ℕ → List ℕ → ℕ) (ws : Supply) (q₀ k : ℕ) (buffer after : List ℕ) (a : Result RunEnd Refusal) (n : ℕ) : Type 0 where
   -- never refused 9, 10 or 12, and not at all where the buffer has its 16 words
   pub not9 : run_number a ≢ 9
   pub not10 : run_number a ≢ 10
@@ -143,7 +144,7 @@ pub record RunAgrees (m : Runner) (f : ℕ → ℕ → List ℕ → ℕ) (ws : S
 
 -- the graph's answer and buffer, and the machine's, with the blocks n that it has counted: the same outcome, equal registers and flags,
 -- next the starter of the machine's next state, and n the graph's count
-pub record SameAnswer (s : Groups) (graph machine : RunAnswer) (n : ℕ) (after after' : List ℕ) : Type 0 where
+pub record SameAnswer (s : Groups) (graph machine : Result RunEnd Refusal) (n : ℕ) (after after' : List ℕ) : Type 0 where
   pub accepted : (run_number graph ≡ 0) × (run_number machine ≡ 0)
   pub outcome : run_outcome graph ≡ run_outcome machine
   pub registers : after ≡ after'

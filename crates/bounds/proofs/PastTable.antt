@@ -1,5 +1,6 @@
 -- Words past the lengths of the machine table and of both buffers do not matter, and stay. Assumes nothing.
-use Rattle.std.proofs.Common.{◌≡◌, ℕ, ◌<◌, ◌≤◌, Bool, true, false, ltb, List, ◌++◌, length, get_or, take, drop, sym, refl, ap, ◌∙◌, ap₂, append_assoc, arith, length-append, ltb-false, ltb-true}
+use Rattle.std.proofs.Common.{◌≡◌, ℕ, ◌<◌, ◌≤◌, Bool, true, false, ltb, List, Result, Ok, Err, ◌++◌, length, get_or, take, drop, sym, refl, ap, ◌∙◌, ap₂, append_assoc, arith, length-append, ltb-false, ltb-true}
+use Rattle.refusal.specs.declared.Refusal.{Refusal}
 use lib.ListN.{get_or-append}
 use lib.Seq.{take-append-le, drop-append-le}
 use Rattle.word.specs.Word.{compare_of}
@@ -11,12 +12,10 @@ use Rattle.fsmd.specs.Machine.{State}
 use Rattle.fsmd.specs.Table.{state_count, machine_register_count, admitted_machine}
 use Rattle.fsmd.proofs.Machines.{admitted_facts}
 use Rattle.fsmd.proofs.PastTable.{past_whole, past_admitted, past_count, past_register_count, past_state}
-use Rattle.bounds.specs.declared.BoundsAnswer.{BoundsAnswer}
-use Rattle.bounds.specs.declared.BoundsAnswer.TheVariants.{Refused, Bounded}
 use Rattle.bounds.specs.Bounds.{Bounds, next_bounds}
 use Rattle.bounds.specs.Operation.{ordered, bounds_answer, bounds_after, left, lowest_left, highest_left}
 use Rattle.bounds.specs.Values.{Long}
-use Rattle.bounds.proofs.Answers.{accepted, answer-other, answer-no-state, answer-crossed, answer-bounded}
+use Rattle.bounds.proofs.Answers.{accepted, not_admitted, no_state, crossed, not_refused}
 
 -- registers are the first words of a buffer
 module _ (ls hs v w : List ℕ) (low : max_registers ≤ length ls) (high : max_registers ≤ length hs) (n : ℕ) (few : n ≤ max_registers) where
@@ -33,9 +32,9 @@ module _ (ls hs v w : List ℕ) (low : max_registers ≤ length ls) (high : max_
       (λ e. below_of (λ i. compare_of Ge (get_or (hs ++ w) i 0) (get_or (ls ++ v) i 0)) n (λ i h. test_same i h ∙ below_at (λ i. compare_of Ge (get_or hs i 0) (get_or ls i 0)) n i e h))
 
 -- a longer buffer: where nothing is refused, the same new words, as many as before
-past_left : (a : BoundsAnswer) (r n : ℕ) (new words l x : List ℕ) → (a ≡ Bounded → (r ≡ n) × (new ≡ words) × (n ≤ length l)) → left a r new (l ++ x) ≡ left a n words l ++ x
-past_left (Refused m) r n new words l x h = refl
-past_left Bounded r n new words l x h =
+past_left : (a : Result (Unit {0}) Refusal) (r n : ℕ) (new words l x : List ℕ) → (a ≡ Ok tt → (r ≡ n) × (new ≡ words) × (n ≤ length l)) → left a r new (l ++ x) ≡ left a n words l ++ x
+past_left (Err refusal) r n new words l x h = refl
+past_left (Ok tt) r n new words l x h =
     let p = h refl in
     ap₂ (λ (ws : List ℕ) (m : ℕ). ws ++ drop m (l ++ x)) p.1 p.0
     ∙ ap (λ (rest : List ℕ). words ++ rest) (drop-append-le n l x p.2) ∙ sym (append_assoc words (drop n l) x)
@@ -61,16 +60,16 @@ module _ (t u ls v hs w : List ℕ) (long : Long t ls hs) (k : ℕ) where
 
       go : (b c d : Bool) → admitted_machine t ≡ b → ltb k (state_count t) ≡ c → ordered (machine_register_count t) ls hs ≡ d
           → bounds_answer (t ++ u) (ls ++ v) (hs ++ w) k ≡ bounds_answer t ls hs k
-      go false c d e f g = answer-other (t ++ u) (ls ++ v) (hs ++ w) k past_long (admits ∙ e) ∙ sym (answer-other t ls hs k long e)
+      go false c d e f g = not_admitted (t ++ u) (ls ++ v) (hs ++ w) k past_long (admits ∙ e) ∙ sym (not_admitted t ls hs k long e)
       go true false d e f g =
           let h = ltb-false k (state_count t) f in
-          answer-no-state (t ++ u) (ls ++ v) (hs ++ w) k past_long (admits ∙ e) (omega (arith, h, counts)) ∙ sym (answer-no-state t ls hs k long e h)
+          no_state (t ++ u) (ls ++ v) (hs ++ w) k past_long (admits ∙ e) (omega (arith, h, counts)) ∙ sym (no_state t ls hs k long e h)
       go true true false e f g =
           let h = ltb-true k (state_count t) f in
-          answer-crossed (t ++ u) (ls ++ v) (hs ++ w) k past_long (admits ∙ e) (omega (arith, h, counts)) (past_orders e ∙ g) ∙ sym (answer-crossed t ls hs k long e h g)
+          crossed (t ++ u) (ls ++ v) (hs ++ w) k past_long (admits ∙ e) (omega (arith, h, counts)) (past_orders e ∙ g) ∙ sym (crossed t ls hs k long e h g)
       go true true true e f g =
           let h = ltb-true k (state_count t) f in
-          answer-bounded (t ++ u) (ls ++ v) (hs ++ w) k past_long (admits ∙ e) (omega (arith, h, counts)) (past_orders e ∙ g) ∙ sym (answer-bounded t ls hs k long e h g)
+          not_refused (t ++ u) (ls ++ v) (hs ++ w) k past_long (admits ∙ e) (omega (arith, h, counts)) (past_orders e ∙ g) ∙ sym (not_refused t ls hs k long e h g)
 
   past_after : admitted_machine t ≡ true → k < state_count t → bounds_after (t ++ u) (ls ++ v) (hs ++ w) k ≡ bounds_after t ls hs k
   unfolding bounds_after
@@ -84,7 +83,7 @@ module _ (t u ls v hs w : List ℕ) (long : Long t ls hs) (k : ℕ) where
     few : machine_register_count t ≤ max_registers
     after : bounds_after (t ++ u) (ls ++ v) (hs ++ w) k ≡ bounds_after t ls hs k
 
-  same : bounds_answer t ls hs k ≡ Bounded → Same
+  same : bounds_answer t ls hs k ≡ Ok tt → Same
   same e =
       let a = accepted t ls hs k e in
       record { count = past_register_count t u long.table; few = a.table.few_registers_lem; after = past_after a.good a.state }
@@ -92,13 +91,13 @@ module _ (t u ls v hs w : List ℕ) (long : Long t ls hs) (k : ℕ) where
   pub past_lowest : lowest_left (t ++ u) (ls ++ v) (hs ++ w) k ≡ lowest_left t ls hs k ++ v
   unfolding lowest_left
   past_lowest =
-      ap (λ (a : BoundsAnswer). left a (machine_register_count (t ++ u)) (bounds_after (t ++ u) (ls ++ v) (hs ++ w) k).lowest (ls ++ v)) past_bounds
+      ap (λ (a : Result (Unit {0}) Refusal). left a (machine_register_count (t ++ u)) (bounds_after (t ++ u) (ls ++ v) (hs ++ w) k).lowest (ls ++ v)) past_bounds
       ∙ past_left (bounds_answer t ls hs k) (machine_register_count (t ++ u)) (machine_register_count t) _ _ ls v
       (λ e. let s = same e in (s.count, ap (λ (b : Bounds). b.lowest) s.after, omega (arith, s.few, long.lowest)))
 
   pub past_highest : highest_left (t ++ u) (ls ++ v) (hs ++ w) k ≡ highest_left t ls hs k ++ w
   unfolding highest_left
   past_highest =
-      ap (λ (a : BoundsAnswer). left a (machine_register_count (t ++ u)) (bounds_after (t ++ u) (ls ++ v) (hs ++ w) k).highest (hs ++ w)) past_bounds
+      ap (λ (a : Result (Unit {0}) Refusal). left a (machine_register_count (t ++ u)) (bounds_after (t ++ u) (ls ++ v) (hs ++ w) k).highest (hs ++ w)) past_bounds
       ∙ past_left (bounds_answer t ls hs k) (machine_register_count (t ++ u)) (machine_register_count t) _ _ hs w
       (λ e. let s = same e in (s.count, ap (λ (b : Bounds). b.highest) s.after, omega (arith, s.few, long.highest)))

@@ -1,13 +1,11 @@
--- Ranges of a set, of a select, and of a code that is none. Assumes nothing.
+-- Ranges of a set and of a select. Assumes nothing.
 use Rattle.std.proofs.Common.{◌≡◌, ℕ, zero, suc, ◌-◌, ◌^◌, Bool, true, false, ◌&&◌, eqb, ltb, leb, pos, negsuc, sym, refl, ap, ◌∙◌, arith, ltb-false, eq-eqb, ne_eqb, eqb-true}
-use lib.ListN.{get_or-eq_default}
 use lib.Signed.{le_z}
 use borrow.Author.Tests.{lt-leb}
 use Rattle.word.specs.Word.{choose, compare_of, set_code, select_code, eval_of, arity}
 use Rattle.word.specs.declared.Comparison.TheVariants.{Ge}
-use Rattle.word.proofs.Keys.{NoKey, past}
 use Rattle.bounds.specs.declared.Range.{Range}
-use Rattle.bounds.specs.Range.{span, exact, full, is_single, has_zero, select_range, rules, rule_of, range_of}
+use Rattle.bounds.specs.Range.{span, exact, is_single, has_zero, select_range, rule_of, range_of}
 
 -- a set gives its literal
 pub range_literal : (x : ℕ) (b c : Range) → range_of set_code (exact x) b c ≡ exact x
@@ -48,10 +46,3 @@ range_select a b c = go (is_single a) (is_single b) (is_single c) refl refl refl
     go true true false e f g = refl
     go true false u e f g = refl
     go false t u e f g = refl
-
--- ---- a code that is none
-
-pub rule_none : (k : ℕ) (a b c : Range) → NoKey 0 20 k → rule_of k a b c ≡ full
-unfolding rule_of
-rule_none zero a b c h = refl
-rule_none (suc k) a b c h = get_or-eq_default (rules a b c) full {n = suc k} (past 0 20 (suc k) h (omega arith))

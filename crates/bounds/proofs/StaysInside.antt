@@ -1,5 +1,5 @@
 -- Every cycle from values inside ends inside what the operation leaves, in signed values; so no lowest that it leaves is above its highest. Assumes nothing.
-use Rattle.std.proofs.Common.{◌≡◌, ℕ, ◌^◌, ◌<◌, Bool, true, false, ltb, List, [], ◌∷◌, ◌++◌, map, length, get_or, take, drop, sym, refl, ap, ◌∙◌, le_trans, arith, lit<, length-take-le, get_or-take, ltb-false, ltb-true, le-leb, leb-true}
+use Rattle.std.proofs.Common.{◌≡◌, ℕ, ◌^◌, ◌<◌, Bool, true, false, ltb, List, Ok, [], ◌∷◌, ◌++◌, map, length, get_or, take, drop, sym, refl, ap, ◌∙◌, le_trans, arith, lit<, length-take-le, get_or-take, ltb-false, ltb-true, le-leb, leb-true}
 use lib.ListN.{get_or-append}
 use Rattle.runs.specs.Lists.{up_from}
 use Rattle.runs.proofs.Every.{below_at}
@@ -11,7 +11,6 @@ use Rattle.fsmd.specs.Machine.{State, clock}
 use Rattle.fsmd.specs.Table.{machine_register_count, wire_at, state_at, machine_of, first_wire_at, wire_count_at}
 use Rattle.fsmd.proofs.Machines.{state_is}
 use Rattle.bounds.specs.declared.Range.{Range}
-use Rattle.bounds.specs.declared.BoundsAnswer.TheVariants.{Bounded}
 use Rattle.bounds.specs.Bounds.{range_at, first_bounds}
 use Rattle.bounds.specs.Operation.{bounds_answer, bounds_after, lowest_left, highest_left}
 use Rattle.bounds.specs.Sound.{Between, Inside, RegisterWords, CyclesStayInside, NotCrossed}
@@ -53,7 +52,7 @@ unfolding wire_at
 literals t w [] = tt
 literals t w (i ∷ is) = (w _, literals t w is)
 
-module _ (t ls hs : List ℕ) (k : ℕ) (words : AllWords t) (low-words : AllWords ls) (high-words : AllWords hs) (answer : bounds_answer t ls hs k ≡ Bounded) where
+module _ (t ls hs : List ℕ) (k : ℕ) (words : AllWords t) (low-words : AllWords ls) (high-words : AllWords hs) (answer : bounds_answer t ls hs k ≡ Ok tt) where
   facts : Accepted t ls hs k
   facts = accepted t ls hs k answer
 

@@ -8,7 +8,7 @@ use Rattle.runs.proofs.Every.{below_at, below_of}
 use Rattle.fsmd.specs.Table.{machine_register_count}
 use Rattle.bounds.specs.Operation.{ordered, bounds_answer, bounds_number}
 use Rattle.bounds.specs.Values.{BoundsValues}
-use Rattle.bounds.proofs.Answers.{answer-short-table, answer-short-lowest, answer-short-highest, answer-other, answer-no-state, answer-crossed, answer-bounded}
+use Rattle.bounds.proofs.Answers.{short_table, short_lowest, short_highest, not_admitted, no_state, crossed, not_refused}
 
 -- one lowest above its highest is enough
 not_ordered : (n : ℕ) (ls hs : List ℕ) (i : ℕ) → i < n → lt_z (signed_of (get_or hs i 0)) (signed_of (get_or ls i 0)) ≡ true → ordered n ls hs ≡ false
@@ -23,11 +23,11 @@ module _ (t ls hs : List ℕ) (k : ℕ) where
   pub bounds_values : BoundsValues t ls hs k (bounds_answer t ls hs k)
   bounds_values =
       record {
-        short_table = λ h. ap bounds_number (answer-short-table t ls hs k h);
-        short_lowest = λ h. ap bounds_number (answer-short-lowest t ls hs k h);
-        short_highest = λ h. ap bounds_number (answer-short-highest t ls hs k h);
-        other = λ l f. ap bounds_number (answer-other t ls hs k l f);
-        no_state = λ l g h. ap bounds_number (answer-no-state t ls hs k l g h);
-        crossed = λ l g h i b e. ap bounds_number (answer-crossed t ls hs k l g h (not_ordered (machine_register_count t) ls hs i b e));
-        bounded = λ l g h f. ap bounds_number (answer-bounded t ls hs k l g h (below_of (λ i. compare_of Ge (get_or hs i 0) (get_or ls i 0)) (machine_register_count t) f));
+        short_table = λ h. ap bounds_number (short_table t ls hs k h);
+        short_lowest = λ h. ap bounds_number (short_lowest t ls hs k h);
+        short_highest = λ h. ap bounds_number (short_highest t ls hs k h);
+        other = λ l f. ap bounds_number (not_admitted t ls hs k l f);
+        no_state = λ l g h. ap bounds_number (no_state t ls hs k l g h);
+        crossed = λ l g h i b e. ap bounds_number (crossed t ls hs k l g h (not_ordered (machine_register_count t) ls hs i b e));
+        bounded = λ l g h f. ap bounds_number (not_refused t ls hs k l g h (below_of (λ i. compare_of Ge (get_or hs i 0) (get_or ls i 0)) (machine_register_count t) f));
       }

@@ -1,9 +1,9 @@
 -- The number that "Registers known within bounds" answers, case by case. Assumes nothing.
-use Rattle.std.specs.Prelude.{◌≡◌, ℕ, ◌<◌, ◌≤◌, true, false, List, length, int_lt, slice_index}
+use Rattle.std.specs.Prelude.{◌≡◌, ℕ, ◌<◌, ◌≤◌, true, false, List, length, int_lt, slice_index, Result}
 use Rattle.word.specs.Word.{signed_of}
 use Rattle.fsmd.specs.Layout.{machine_words, max_registers}
 use Rattle.fsmd.specs.Table.{state_count, machine_register_count, admitted_machine}
-use Rattle.bounds.specs.declared.BoundsAnswer.{BoundsAnswer}
+use Rattle.refusal.specs.declared.Refusal.{Refusal}
 use Rattle.bounds.specs.Operation.{bounds_number}
 use Rattle.bounds.specs.Sound.{NotCrossed}
 
@@ -13,7 +13,7 @@ pub record Long (t ls hs : List ℕ) : Type 0 where
   pub lowest : max_registers ≤ length ls
   pub highest : max_registers ≤ length hs
 
-pub record BoundsValues (t ls hs : List ℕ) (k : ℕ) (a : BoundsAnswer) : Type 0 where
+pub record BoundsValues (t ls hs : List ℕ) (k : ℕ) (a : Result (Unit {0}) Refusal) : Type 0 where
   pub short_table : length t < machine_words → bounds_number a ≡ 7
   pub short_lowest : length ls < max_registers → bounds_number a ≡ 7
   pub short_highest : length hs < max_registers → bounds_number a ≡ 7

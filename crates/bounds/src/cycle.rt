@@ -1,148 +1,150 @@
-// One cycle over ranges: the state's wires in order, then all next registers at once. Lowest and highest words stand in two arrays.
-ghost use Rattle.std.specs.Prelude.{◌≡◌, ◌+◌, ◌≤◌, ◌++◌, map, length, take, drop, slice_index};
+// One cycle over ranges: the state's wires in order, then all next registers at once.
+// Lowest and highest words stand in two buffers in all of it, and no array of ranges: C lends them (gutkavu_bounds).
+ghost use Rattle.std.specs.Prelude.{◌≡◌, ◌+◌, ◌≤◌, ◌++◌, map, length, take, drop};
 ghost use Rattle.runs.specs.Lists.{up_from};
-ghost use Rattle.fsmd.specs.Layout.{machine_words, max_registers, max_wires};
+ghost use Rattle.fsmd.specs.Layout.{max_registers, max_wires};
 ghost use Rattle.fsmd.specs.Table.{wire_at, wire_count_at};
 ghost use Rattle.fsmd.specs.Clock.{Ready};
 ghost use Rattle.bounds.specs.Bounds.{range_at, first_bounds, wire_range, bounded};
-ghost use Rattle.bounds.specs.Cycle.{Cycled};
+ghost use Rattle.bounds.specs.Cycle.{bounds_of, Cycled};
 
 use super::Range;
-use super::rules::{exact, range_of};
-use buffers::word_index;
-use fsmd::table::{first_wire, record, wire, wire_count};
+use super::rules::range_of;
+use fsmd::table::{MachineWords, record};
 use fsmd::{MachineTable, Wire};
 use word::Code;
 
-// How many words there is room for in one array: those of few wires, of more, and of all.
-#[derive(Clone, Copy)]
-struct Room;
+// How many ranges there is room for: those of few wires, of more, and of all.
+const FEW: usize = 64;
 
-impl Room {
-    const FEW: usize = 64;
+const MORE: usize = 512;
 
-    const MORE: usize = 512;
+const ALL: usize = MachineTable::REGISTERS + MachineTable::WIRES;
 
-    const ALL: usize = MachineTable::REGISTERS + MachineTable::WIRES;
-}
-
-// What reference x reads among the first n words; past them 0, which an admitted machine never reads.
-fn read(words: &[u32], n: usize, x: u32) -> u32
-    requires { n ≤ length words.now }
-    ensures { result ≡ slice_index (take n words.now) x }
+// The range of reference x; past the last only 0, which an admitted machine never reads.
+fn read(ranges: &[Range], x: u32) -> Range
+    ensures { result ≡ range_at (bounds_of ranges.now) x }
 {
-    let i = word_index(x);
-    if i < n { words[i] } else { 0 }
+    ranges.get(x as usize).copied().unwrap_or(Range::exact(0))
 }
 
-// The range of reference x among the first n.
-fn range_at(lows: &[u32], highs: &[u32], n: usize, x: u32) -> Range
-    requires n_in_bounds { n ≤ length lows.now }
-    requires n_in_bounds_2 { n ≤ length highs.now }
-    ensures { result ≡ range_at (first_bounds n lows.now highs.now) x }
-{
-    Range {
-        low: read(lows, n, x),
-        high: read(highs, n, x),
-    }
-}
-
-// The range of a wire, from those of the first n references.
-fn wire_range(lows: &[u32], highs: &[u32], n: usize, w: Wire) -> Range
-    requires n_in_bounds { n ≤ length lows.now }
-    requires n_in_bounds_2 { n ≤ length highs.now }
-    ensures { result ≡ wire_range (range_at (first_bounds n lows.now highs.now)) w }
+// The range of a wire.
+fn wire_range(ranges: &[Range], w: Wire) -> Range
+    ensures { result ≡ wire_range (range_at (bounds_of ranges.now)) w }
 {
     if w.code == Code::SET {
-        return exact(w.a);
+        return Range::exact(w.a);
     }
-    let a = range_at(lows, highs, n, w.a);
-    let b = range_at(lows, highs, n, w.b);
-    let c = range_at(lows, highs, n, w.c);
+    let a = read(ranges, w.a);
+    let b = read(ranges, w.b);
+    let c = read(ranges, w.c);
     range_of(w.code, a, b, c)
 }
 
-// The wires in order, after the sixteen registers.
-fn work(lows: &mut [u32], highs: &mut [u32], table: &[u32], first: usize, count: usize)
-    requires machine_words_in_bounds { machine_words ≤ length table.now }
-    requires count_bound { first + count ≤ max_wires }
-    requires count_in_bounds { max_registers + count ≤ length lows.old }
-    requires count_in_bounds_2 { max_registers + count ≤ length highs.old }
-    ensures { first_bounds (max_registers + count) lows.new highs.new ≡ bounded (first_bounds max_registers lows.old highs.old) (map (wire_at table.now) (up_from first count)) }
+// The registers' ranges, from their lowest and their highest words.
+fn load(room: &mut [Range], lowest: &[u32], highest: &[u32])
+    requires room { max_registers ≤ length room.old }
+    requires lowest { max_registers ≤ length lowest.now }
+    requires highest { max_registers ≤ length highest.now }
+    ensures { bounds_of (take max_registers room.new) ≡ first_bounds max_registers lowest.now highest.now }
+// By index: of words written through `iter_mut` with `zip` a proof knows none afterwards.
 {
-    let mut n = 0;
-    while n < count {
-        let at = MachineTable::REGISTERS + n;
-        let r = wire_range(lows, highs, at, wire(table, first + n));
-        lows[at] = r.low;
-        highs[at] = r.high;
-        n += 1;
+    for i in 0..MachineTable::REGISTERS {
+        room[i] = Range {
+            low: lowest[i],
+            high: highest[i],
+        };
     }
 }
 
-// What the next registers read among the first n words, by the `count` references from `at` on, into the front of `out`.
-fn put_next(out: &mut [u32], words: &[u32], n: usize, table: &[u32], at: usize, count: usize)
-    requires n_in_bounds { n ≤ length words.now }
-    requires count_in_bounds { at + count ≤ length table.now }
-    requires count_in_bounds_2 { count ≤ length out.old }
-    ensures { out.new ≡ map (λ x. slice_index (take n words.now) x) (take count (drop at table.now)) ++ drop count out.old }
+// As `work` of fsmd's clock, which goes over words. Not one function: what is read, made of a wire and stored differs, and the loop alone is alike.
+// The wires in order, after the sixteen registers.
+fn work(room: &mut [Range], machine: MachineWords, first: usize, count: usize)
+    requires wires { first + count ≤ max_wires }
+    requires room { max_registers + count ≤ length room.old }
+    ensures { bounds_of (take (max_registers + count) room.new) ≡ bounded (bounds_of (take max_registers room.old)) (map (wire_at machine.entry.words.now) (up_from first count)) }
 {
-    let mut i = 0;
-    while i < count {
-        out[i] = read(words, n, table[at + i]);
-        i += 1;
+    // By index: each range is made of those before it.
+    for n in 0..count {
+        let at = MachineTable::REGISTERS + n;
+        room[at] = wire_range(&room[..at], machine.wire(first + n));
+    }
+}
+
+// What the next registers read, by their references, as the first words of both buffers.
+fn put_next(lowest: &mut [u32], highest: &mut [u32], ranges: &[Range], references: &[u32])
+    requires lowest { length references.now ≤ length lowest.old }
+    requires highest { length references.now ≤ length highest.old }
+    ensures lowest_after { lowest.new ≡ map (λ x. (range_at (bounds_of ranges.now) x).low) references.now ++ drop (length references.now) lowest.old }
+    ensures highest_after { highest.new ≡ map (λ x. (range_at (bounds_of ranges.now) x).high) references.now ++ drop (length references.now) highest.old }
+{
+    // By index: of words written through `iter_mut` with `zip` a proof knows none afterwards.
+    for (i, x) in references.iter().enumerate() {
+        let range = read(ranges, *x);
+        lowest[i] = range.low;
+        highest[i] = range.high;
     }
 }
 
 // One cycle of state k, in room for its registers and wires.
 fn bound_in(
-    lows: &mut [u32],
-    highs: &mut [u32],
-    table: &[u32],
+    room: &mut [Range],
+    machine: MachineWords,
     k: usize,
     lowest: &mut [u32],
     highest: &mut [u32],
 )
-    requires ready { Ready table.now k }
-    requires k_in_bounds { max_registers + wire_count_at table.now k ≤ length lows.old }
-    requires k_in_bounds_2 { max_registers + wire_count_at table.now k ≤ length highs.old }
-    requires max_registers_in_bounds { max_registers ≤ length lowest.old }
-    requires max_registers_in_bounds_2 { max_registers ≤ length highest.old }
-    ensures { Cycled table.now k lowest.old highest.old lowest.new highest.new }
+    requires ready { Ready machine.words.now k }
+    requires room { max_registers + wire_count_at machine.words.now k ≤ length room.old }
+    requires lowest { max_registers ≤ length lowest.old }
+    requires highest { max_registers ≤ length highest.old }
+    ensures { Cycled machine.entry.words.now k lowest.old highest.old lowest.new highest.new }
 {
-    let registers = word_index(table[MachineTable::REGISTER_COUNT]);
+    let registers = machine.head().registers as usize;
     let next = record(k) + MachineTable::NEXT_REGISTERS;
-    let count = wire_count(table, k);
-    let n = MachineTable::REGISTERS + count;
-    runs::store(lows, runs::load(lowest));
-    runs::store(highs, runs::load(highest));
-    work(lows, highs, table, first_wire(table, k), count);
-    put_next(lowest, lows, n, table, next, registers);
-    put_next(highest, highs, n, table, next, registers);
+    let count = machine.wire_count(k);
+    load(room, lowest, highest);
+    work(room, machine, machine.first_wire(k), count);
+    put_next(
+        lowest,
+        highest,
+        &room[..MachineTable::REGISTERS + count],
+        &machine.words[next..next + registers],
+    );
+}
+
+// The same, in room of its own for N ranges.
+fn bound_within<const N: usize>(
+    machine: MachineWords,
+    k: usize,
+    lowest: &mut [u32],
+    highest: &mut [u32],
+)
+    requires few { N ≤ max_registers + max_wires }
+    requires ready { Ready machine.words.now k }
+    requires room { max_registers + wire_count_at machine.words.now k ≤ N }
+    requires lowest { max_registers ≤ length lowest.old }
+    requires highest { max_registers ≤ length highest.old }
+    ensures { Cycled machine.entry.words.now k lowest.old highest.old lowest.new highest.new }
+{
+    let mut room = [Range::exact(0); N];
+    bound_in(&mut room, machine, k, lowest, highest);
 }
 
 // One cycle of state k: the lowest and highest next words of the registers below R, in place of those before it. The room is cleared, so that
 // one which is not much larger than needed saves time.
-pub fn bound_cycle(table: &[u32], k: usize, lowest: &mut [u32], highest: &mut [u32])
-    requires ready { Ready table.now k }
-    requires max_registers_in_bounds { max_registers ≤ length lowest.old }
-    requires max_registers_in_bounds_2 { max_registers ≤ length highest.old }
-    ensures { Cycled table.now k lowest.old highest.old lowest.new highest.new }
+pub fn bound_cycle(machine: MachineWords, k: usize, lowest: &mut [u32], highest: &mut [u32])
+    requires ready { Ready machine.words.now k }
+    requires lowest { max_registers ≤ length lowest.old }
+    requires highest { max_registers ≤ length highest.old }
+    ensures { Cycled machine.entry.words.now k lowest.old highest.old lowest.new highest.new }
 {
-    let n = MachineTable::REGISTERS + wire_count(table, k);
-    if n <= Room::FEW {
-        let mut lows = [0u32; Room::FEW];
-        let mut highs = [0u32; Room::FEW];
-        bound_in(&mut lows, &mut highs, table, k, lowest, highest);
-        return;
+    let n = MachineTable::REGISTERS + machine.wire_count(k);
+    if n <= FEW {
+        bound_within::<FEW>(machine, k, lowest, highest);
+    } else if n <= MORE {
+        bound_within::<MORE>(machine, k, lowest, highest);
+    } else {
+        bound_within::<ALL>(machine, k, lowest, highest);
     }
-    if n <= Room::MORE {
-        let mut lows = [0u32; Room::MORE];
-        let mut highs = [0u32; Room::MORE];
-        bound_in(&mut lows, &mut highs, table, k, lowest, highest);
-        return;
-    }
-    let mut lows = [0u32; Room::ALL];
-    let mut highs = [0u32; Room::ALL];
-    bound_in(&mut lows, &mut highs, table, k, lowest, highest);
 }

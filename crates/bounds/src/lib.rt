@@ -6,15 +6,8 @@ pub mod cycle; // cycle.rt: one cycle over ranges
 pub mod operation; // operation.rt: the operation on two register buffers
 
 // All words from a lowest to a highest, in signed order.
-#[derive(Clone, Copy)]
+#[derive(Clone, Copy, Debug, PartialEq, Eq)]
 pub struct Range {
     pub low: u32,
     pub high: u32,
-}
-
-#[derive(Clone, Copy)]
-pub enum BoundsAnswer {
-    // The refusal's number.
-    Refused(u32),
-    Bounded,
 }

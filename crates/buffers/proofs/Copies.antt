@@ -1,20 +1,19 @@
--- Laws of `sets`, a list with others stored from a number on: one element more, one copy after another, and what a copy is by `◌++◌` and `drop`. Assumes nothing.
-use Prim.Native.Nat.{ℕ, suc, ◌+◌, ◌≤◌, ◌<◌}
+-- Laws of `sets`, a list with others stored from a number on: a part copied over, one copy after another, and what a copy is by `◌++◌` and `drop`. Assumes nothing.
+use Prim.Native.Nat.{ℕ, suc, ◌+◌, ◌≤◌}
 use native.Mathlib.Nat.{add-zero}
-use native.Mathlib.Numerals.{add-one}
 use native.Mathlib.Omega.{arith}
 use mathlib.Core.Path.{◌≡◌, refl, sym, ap, ◌∙◌}
 use mathlib.Core.List.{List, [], ◌∷◌, ◌++◌, append_assoc, append-nil}
-use lib.ListN.{length, get_or, set, drop, length-set, length-append, drop_of_length-le}
-use lib.Seq.{sets, sets-eq, drop-cons, drop_at, take_at, drop-drop, set-append_left}
+use borrow.Rule.Slice.PartMut.{put_mid}
+use lib.ListN.{length, take, set, drop, length-set, length-append, drop_of_length-le}
+use lib.Seq.{sets, sets-eq, drop_at, take_at, drop-drop, set-append_left}
+
+-- a part of a slice that is copied over, as `to[at..at + from.len()].copy_from_slice(from)` leaves it
+pub sets_part : {A : Type 0} (l s t : List A) (at n : ℕ) → t ≡ s → n ≡ length s → at + length s ≤ length l → put_mid at n l t ≡ sets l at s
+sets_part {A} l s t at n e m h =
+    rw (e, m) (ap (λ (r : List A). take at l ++ (s ++ r)) (drop-drop (length s) at l) ∙ sym (append_assoc (take at l) s (drop (at + length s) l)) ∙ sym (sets-eq s l at h))
 
 module _ {ℓ} {A : Type ℓ} where
-  -- a turn of the loop that copies: what is stored and what is left come to the same as before
-  pub sets_next : (l s : List A) (at i : ℕ) (d : A) → i < length s → sets (set l (at + i) (get_or s i d)) (at + (i + 1)) (drop (i + 1) s) ≡ sets l (at + i) (drop i s)
-  sets_next l s at i d h =
-      let e : at + (i + 1) ≡ suc (at + i) = omega arith in
-      rw (e, add-one, drop-cons s i d h)
-
   -- one copy behind another is one copy
   pub sets_append : (l : List A) (i : ℕ) (s t : List A) → sets (sets l i s) (i + length s) t ≡ sets l i (s ++ t)
   sets_append l i [] t = rw add-zero

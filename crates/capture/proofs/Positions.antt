@@ -2,7 +2,11 @@
 use mathlib.Core.Path.{◌≡◌, ◌∙◌, refl, sym, ap}
 use mathlib.Core.List.{List, [], ◌∷◌, ◌++◌, append_assoc}
 use mathlib.Core.Bool.{Bool, true, false}
-use mathlib.Core.Option.{Option, none, some}
+use Rattle.std.specs.Prelude.{Option, None, Some, Result, Ok, Err}
+use Rattle.std.specs.Option.{option_flatten}
+use Rattle.std.specs.Result.{result_ok}
+use Rattle.std.proofs.lemmas.Option.{none-some, same_Some}
+use Rattle.refusal.specs.declared.Refusal.TheVariants.{BadRecording, BadCycle}
 use Prim.Native.Nat.{ℕ, suc, ◌+◌, ◌-◌, ◌≤◌, ◌<◌}
 use native.Mathlib.Omega.{arith}
 use lib.Dec.{eqb}
@@ -12,12 +16,10 @@ use borrow.Author.Tests.{eqb-true, ne_eqb, lt-ltb, le-ltb}
 use Rattle.delimited.proofs.Split.{apart, parts, split_part, split_last}
 use Rattle.delimited.proofs.Cursors.{behind}
 use Rattle.capture.specs.declared.recording.Fault.{Fault}
-use Rattle.capture.specs.declared.recording.Fault.TheVariants as fault
-use Rattle.capture.specs.declared.recording.Scan.TheVariants.{Cycle, NoForm}
+use Rattle.capture.specs.declared.recording.Line.{Line}
 use Rattle.capture.specs.declared.recording.Position.{Position}
-use Rattle.capture.specs.declared.recording.Step.TheVariants as step
-use Rattle.capture.specs.Capture.{Entry, line_entry, line_entries, recording, fault_from, words_of, as_entry}
-use Rattle.capture.specs.Steps.{scanned, scan_at, lines_behind, position_behind, fault_at, Within, Passed, Advanced}
+use Rattle.capture.specs.Capture.{Entry, line_entry, line_entries, recording, fault_from, words_of, as_entry, at_line}
+use Rattle.capture.specs.Steps.{line_of, scanned, scan_at, lines_behind, position_behind, fault_at, Within, Passed, Advanced, Follows}
 use Rattle.delimited.proofs.Lines.{line_open, line_feed}
 
 -- a text's first line ends with a line feed, or the text has none
@@ -42,35 +44,35 @@ pub recording_end : (r : ℕ) (text : List ℕ) (at : ℕ) → length text ≤ a
 unfolding recording line_entries
 recording_end r text at h = rw (drop_of_length-le text h)
 
-recording_open : (r : ℕ) (s : List ℕ) → apart 10 s ≡ true → 0 < length s → recording r s ≡ none ∷ []
+recording_open : (r : ℕ) (s : List ℕ) → apart 10 s ≡ true → 0 < length s → recording r s ≡ None ∷ []
 unfolding recording line_entries
 recording_open r s w h = rw (split_last 10 s w, ne_eqb (length s) 0 (λ e. omega arith))
 
 line_at_feed : (r at : ℕ) (l t : List ℕ) → apart 10 l ≡ true → scan_at r at (l ++ (10 ∷ t)) ≡ scanned (line_entry r l) (at + length l + 1)
 unfolding scan_at line_entry
-line_at_feed r at l t w = line_feed NoForm (λ fs. scanned (as_entry (words_of (suc (suc r)) fs))) at l t w
+line_at_feed r at l t w = line_feed None (λ fs. scanned (as_entry (words_of (suc (suc r)) fs))) at l t w
 
-line_at_unended : (r at : ℕ) (s : List ℕ) → apart 10 s ≡ true → scan_at r at s ≡ NoForm
+line_at_unended : (r at : ℕ) (s : List ℕ) → apart 10 s ≡ true → scan_at r at s ≡ None
 unfolding scan_at
-line_at_unended r at s w = line_open NoForm (λ fs. scanned (as_entry (words_of (suc (suc r)) fs))) at s w
+line_at_unended r at s w = line_open None (λ fs. scanned (as_entry (words_of (suc (suc r)) fs))) at s w
 
-no_form_lem : {X : Type 0} {c n : ℕ} → NoForm ≡ Cycle c n → X
-no_form_lem e = absurd (let z : ◌≡◌ {A = ℕ} 0 1 = cc in omega arith)
+no_form_lem : {X : Type 0} {c n : ℕ} → None ≡ line_of c n → X
+no_form_lem e = absurd (none-some _ e)
 
 module _ (r : ℕ) (text : List ℕ) (p : Position) where
   -- a line that is not of the form
-  pub not_read : p.at < length text → scan_at r p.at (drop p.at text) ≡ NoForm → fault_at r text p ≡ fault.At 17 p.line
+  pub not_read : p.at < length text → scan_at r p.at (drop p.at text) ≡ None → fault_at r text p ≡ at_line BadRecording p.line
   unfolding fault_from
   not_read h e = go (ended (drop p.at text))
     where
-      at_fault : (ls : List (Option Entry)) → recording r (drop p.at text) ≡ none ∷ ls → fault_at r text p ≡ fault.At 17 p.line
+      at_fault : (ls : List (Option Entry)) → recording r (drop p.at text) ≡ None ∷ ls → fault_at r text p ≡ at_line BadRecording p.line
       at_fault ls g = rw g
 
-      untold : (o : Option Entry) (n : ℕ) → scanned o n ≡ NoForm → o ≡ none
-      untold none n g = refl
-      untold (some x) n g = no_form_lem (sym g)
+      untold : (o : Option Entry) (n : ℕ) → scanned o n ≡ None → o ≡ None
+      untold None n g = refl
+      untold (Some x) n g = no_form_lem (sym g)
 
-      go : Ended (drop p.at text) → fault_at r text p ≡ fault.At 17 p.line
+      go : Ended (drop p.at text) → fault_at r text p ≡ at_line BadRecording p.line
       go (unended w) = at_fault [] (recording_open r (drop p.at text) w (rw length-drop (omega arith)))
       go (feed l t w g) =
           at_fault (recording r t)
@@ -84,13 +86,13 @@ module _ (r : ℕ) (text : List ℕ) (p : Position) where
     record LineRead : Type 0 where
       bytes : List ℕ
       words : List ℕ
-      line : line_entry r bytes ≡ some (record { cycle = c; words = words })
+      line : line_entry r bytes ≡ Some (record { cycle = c; words = words })
       read : take (next - p.at) (drop p.at text) ≡ bytes ++ (10 ∷ [])
-      lines : lines_behind r text p ≡ some (record { cycle = c; words = words }) ∷ recording r (drop next text)
+      lines : lines_behind r text p ≡ Some (record { cycle = c; words = words }) ∷ recording r (drop next text)
       ahead : p.at < next
       inside : next ≤ length text
 
-    line_read : scan_at r p.at (drop p.at text) ≡ Cycle c next → LineRead
+    line_read : scan_at r p.at (drop p.at text) ≡ line_of c next → LineRead
     line_read e = go (ended (drop p.at text))
       where
         taken : (l t : List ℕ) → p.at + length l + 1 ≡ next → take (next - p.at) (l ++ (10 ∷ t)) ≡ l ++ (10 ∷ [])
@@ -100,12 +102,13 @@ module _ (r : ℕ) (text : List ℕ) (p : Position) where
 
         by :
             (l t : List ℕ) → apart 10 l ≡ true → drop p.at text ≡ l ++ (10 ∷ t)
-            → (o : Option Entry) → line_entry r l ≡ o → scanned o (p.at + length l + 1) ≡ Cycle c next → LineRead
-        by l t w g none q h = no_form_lem h
-        by l t w g (some x) q h =
-            let c_is : x.cycle ≡ c = cc in
-            let next_is : p.at + length l + 1 ≡ next = cc in
-            let x_is : some x ≡ some (record { cycle = c; words = x.words }) = ap (λ (k : ℕ). some (record { cycle = k; words = x.words })) c_is in
+            → (o : Option Entry) → line_entry r l ≡ o → scanned o (p.at + length l + 1) ≡ line_of c next → LineRead
+        by l t w g None q h = no_form_lem h
+        by l t w g (Some x) q h =
+            let read = same_Some _ _ h in
+            let c_is : x.cycle ≡ c = ap (λ (y : Line). y.cycle) read in
+            let next_is : p.at + length l + 1 ≡ next = ap (λ (y : Line). y.next) read in
+            let x_is : Some x ≡ Some (record { cycle = c; words = x.words }) = ap (λ (k : ℕ). Some (record { cycle = k; words = x.words })) c_is in
             let long = length-drop p.at text in
             let sum = ap length g ∙ length-append l (10 ∷ t) in
             record {
@@ -117,7 +120,7 @@ module _ (r : ℕ) (text : List ℕ) (p : Position) where
                   ap (recording r) g
                   ∙ recording_feed r l t w
                   ∙ ap (λ (o : Option Entry). o ∷ recording r t) (q ∙ x_is)
-                  ∙ ap (λ (s : List ℕ). some (record { cycle = c; words = x.words }) ∷ recording r s)
+                  ∙ ap (λ (s : List ℕ). Some (record { cycle = c; words = x.words }) ∷ recording r s)
                   (sym (behind text l t 10 p.at g) ∙ ap (λ (n : ℕ). drop n text) next_is);
               ahead = omega arith;
               inside = omega arith;
@@ -127,12 +130,12 @@ module _ (r : ℕ) (text : List ℕ) (p : Position) where
         go (unended w) = no_form_lem (sym (line_at_unended r p.at (drop p.at text) w) ∙ e)
         go (feed l t w g) = by l t w g (line_entry r l) refl (sym (line_at_feed r p.at l t w) ∙ ap (scan_at r p.at) (sym g) ∙ e)
 
-    pub not_above : scan_at r p.at (drop p.at text) ≡ Cycle c next → c < p.least → fault_at r text p ≡ fault.At 18 p.line
+    pub not_above : scan_at r p.at (drop p.at text) ≡ line_of c next → c < p.least → fault_at r text p ≡ at_line BadCycle p.line
     unfolding fault_from
     not_above e h = let l = line_read e in rw (l.lines, lt-ltb c p.least h)
 
     pub passed :
-        scan_at r p.at (drop p.at text) ≡ Cycle c next → p.least ≤ c → Within text p
+        scan_at r p.at (drop p.at text) ≡ line_of c next → p.least ≤ c → Within text p
         → Passed r text p c (position_behind p c next)
     unfolding fault_from
     passed e h w =
@@ -153,8 +156,13 @@ module _ (r : ℕ) (text : List ℕ) (p : Position) where
           within = record { inside = l.inside; line = omega arith };
         }
 
-  -- the fault where a recording goes on no more
-  pub stopped : (f : Fault) → Advanced r text p (step.Stop f) → fault_at r text p ≡ f
+  -- a recording that ends here has no fault
+  pub ended_here : Advanced r text p (Ok None) → fault_at r text p ≡ None
   unfolding fault_from
-  stopped fault.Nothing e = rw e
-  stopped (fault.At k n) e = e
+  ended_here e = rw e
+
+  -- a line that was read follows, or nothing does
+  pub follows : (s : Result (Option Line) Fault) → Advanced r text p s → Follows r text p (option_flatten (result_ok s))
+  follows (Ok (Some l)) e = e
+  follows (Ok None) e = λ q. e
+  follows (Err f) e = λ q. absurd (none-some f (sym q ∙ e))

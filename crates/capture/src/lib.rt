@@ -6,32 +6,33 @@ pub mod recording; // recording.rt: one recording
 
 ghost use Rattle.std.specs.Prelude.{◌≡◌};
 ghost use Rattle.runs.specs.Lists.{same};
-ghost use Rattle.capture.specs.Capture.{compare_captures};
-ghost use Rattle.capture.specs.Steps.{position_behind, Passed, Within, noted, MovedOn, Ready, AfterStep, judged_at};
+ghost use Rattle.capture.specs.Capture.{in_range, compare_captures};
+ghost use Rattle.capture.specs.Steps.{position_behind, Passed, Within, Follows, noted, MovedOn, Ready, AfterStep, judged_at};
 
 use cfg::GraphTable;
-use recording::{Fault, Position, Step};
+use recording::{Line, Position};
+use refusal::Refusal;
 
-#[derive(Clone, Copy)]
-pub enum Difference {
-    Nowhere,
-    // The first cycle.
-    At(u32),
+// How many cycles both recordings hold, and the first of them where state or registers differ.
+#[derive(Clone, Copy, Debug, PartialEq, Eq)]
+pub struct Comparison {
+    pub shared: u64,
+    pub difference: Option<u32>,
 }
 
-#[derive(Clone, Copy)]
-pub enum CaptureAnswer {
-    // The refusal's number, the recording and its line; both are 0 where R is not 1 to 16.
-    Refused(u32, u32, u64),
-    // How many cycles both hold, and the first of them where state or registers differ.
-    Compared(u64, Difference),
+// Why two recordings are refused, the recording and its line; both are 0 where R is not 1 to 16, as C is given them (gutkavu_compare_captures).
+#[derive(Clone, Copy, Debug, PartialEq, Eq)]
+pub struct CaptureError {
+    pub refusal: Refusal,
+    pub recording: u32,
+    pub line: u64,
 }
 
-// A position in a recording, and its next line.
+// A position in a recording, and its next line, if there is one without a fault.
 #[derive(Clone, Copy)]
 struct Head {
     position: Position,
-    step: Step,
+    line: Option<Line>,
 }
 
 // Where the merge stands in both recordings, and what it has found.
@@ -39,154 +40,130 @@ struct Head {
 struct Merge {
     first: Head,
     second: Head,
-    shared: u64,
-    difference: Difference,
-}
-
-#[derive(Clone, Copy)]
-enum MergeStep {
-    Go(Merge),
-    // One of the recordings goes on no more.
-    Stop,
-}
-
-// Two lines are the same. All bytes are looked at, since a loop without an early end is the faster.
-fn same_bytes(one: &[u8], two: &[u8]) -> bool
-    ensures { result ≡ same one.now two.now }
-{
-    if one.len() != two.len() {
-        return false;
-    }
-    let mut all = true;
-    let mut i: usize = 0;
-    while i < one.len() {
-        all = all & (one[i] == two[i]);
-        i += 1;
-    }
-    all
+    found: Comparison,
 }
 
 // The first difference so far, where both recordings hold the cycle, in these lines. A number without leading zeros has one writing, so
 // equal words are equal bytes.
-fn first_difference(found: Difference, cycle: u32, one: &[u8], two: &[u8]) -> Difference
+fn first_difference(found: Option<u32>, cycle: u32, one: &[u8], two: &[u8]) -> Option<u32>
     ensures { result ≡ noted found cycle (same one.now two.now) }
 {
-    let Difference::Nowhere = found else {
+    if found.is_some() {
         return found;
-    };
-    if same_bytes(one, two) {
-        return Difference::Nowhere;
     }
-    Difference::At(cycle)
+    if one == two { None } else { Some(cycle) }
 }
 
-// Behind the next line, which is of that cycle.
-fn behind(registers: u32, text: &[u8], head: Head, cycle: u32, next: usize) -> Head
-    requires { Passed registers text.now head.position cycle (position_behind head.position cycle next) × Within text.now head.position }
-    ensures { MovedOn registers text.now head.position cycle next result }
-{
-    let p = head.position;
-    let q = recording::behind(p, cycle, next);
-    Head {
-        position: q,
-        step: recording::advance(registers, text, q.at, q.line, q.least),
+impl Head {
+    #[tactic(auto, using(crate::proofs::Positions::follows))]
+    fn at(registers: u32, text: &[u8], position: Position) -> Head
+        requires { Within text.now position }
+        ensures position_value { result.position ≡ position }
+        ensures line_value { Follows registers text.now position result.line }
+    {
+        Head {
+            position,
+            line: position.advance(registers, text).ok().flatten(),
+        }
+    }
+
+    // Behind the next line.
+    fn behind(self, registers: u32, text: &[u8], read: Line) -> Head
+        requires { Passed registers text.now self.position read.cycle (position_behind self.position read.cycle read.next) × Within text.now self.position }
+        ensures { MovedOn registers text.now self.position read.cycle read.next result }
+    {
+        Head::at(registers, text, self.position.behind(read))
     }
 }
 
-// One step: over the lower of both next cycles, or over both where they are the same.
-fn merge_next(registers: u32, first: &[u8], second: &[u8], m: Merge) -> MergeStep
+// One step: over the lower of both next cycles, or over both where they are the same; none where one of the recordings goes on no more.
+fn merge_next(registers: u32, first: &[u8], second: &[u8], m: Merge) -> Option<Merge>
     requires { Ready registers first.now second.now m }
     ensures { AfterStep registers first.now second.now m result }
 {
     let one = m.first;
     let two = m.second;
-    let found = m.difference;
-    let x = one.step;
-    let y = two.step;
-    let Step::Entry(c, p) = x else {
-        return MergeStep::Stop;
-    };
-    let Step::Entry(d, q) = y else {
-        return MergeStep::Stop;
-    };
-    if c < d {
-        return MergeStep::Go(Merge {
-            first: behind(registers, first, one, c, p),
-            second: two,
-            shared: m.shared,
-            difference: found,
+    let x = one.line?;
+    let y = two.line?;
+    if x.cycle < y.cycle {
+        return Some(Merge {
+            first: one.behind(registers, first, x),
+            ..m
         });
     }
-    if d < c {
-        return MergeStep::Go(Merge {
-            first: one,
-            second: behind(registers, second, two, d, q),
-            shared: m.shared,
-            difference: found,
+    if y.cycle < x.cycle {
+        return Some(Merge {
+            second: two.behind(registers, second, y),
+            ..m
         });
     }
-    let a = one.position.at;
-    let b = two.position.at;
-    MergeStep::Go(Merge {
-        first: behind(registers, first, one, c, p),
-        second: behind(registers, second, two, d, q),
-        shared: m.shared + 1,
-        difference: first_difference(found, c, &first[a..p], &second[b..q]),
+    let found = m.found;
+    let a = &first[one.position.at..x.next];
+    let b = &second[two.position.at..y.next];
+    Some(Merge {
+        first: one.behind(registers, first, x),
+        second: two.behind(registers, second, y),
+        found: Comparison {
+            shared: found.shared + 1,
+            difference: first_difference(found.difference, x.cycle, a, b),
+        },
     })
 }
 
 // The faults that are left, the first recording's first; else what the merge has found.
-fn finish(registers: u32, first: &[u8], second: &[u8], m: Merge) -> CaptureAnswer
+fn finish(registers: u32, first: &[u8], second: &[u8], m: Merge) -> Result<Comparison, CaptureError>
     requires { Ready registers first.now second.now m }
     ensures { result ≡ judged_at registers first.now second.now m }
 {
-    let one = m.first;
-    let two = m.second;
-    let found = m.difference;
-    let p = one.position;
-    let q = two.position;
-    let f = recording::first_fault(registers, first, p);
-    if let Fault::At(k, n) = f {
-        return CaptureAnswer::Refused(k, 1, n);
+    if let Some(fault) = recording::first_fault(registers, first, m.first.position) {
+        return Err(CaptureError {
+            refusal: fault.refusal,
+            recording: 1,
+            line: fault.line,
+        });
     }
-    let g = recording::first_fault(registers, second, q);
-    if let Fault::At(k, n) = g {
-        return CaptureAnswer::Refused(k, 2, n);
+    if let Some(fault) = recording::first_fault(registers, second, m.second.position) {
+        return Err(CaptureError {
+            refusal: fault.refusal,
+            recording: 2,
+            line: fault.line,
+        });
     }
-    CaptureAnswer::Compared(m.shared, found)
+    Ok(m.found)
+}
+
+// R is 1 to 16.
+fn in_range(registers: u32) -> bool
+    ensures { result ≡ in_range registers }
+{
+    (1..=GraphTable::REGISTERS).contains(&(registers as usize))
 }
 
 // "Answer the number of cycles that both hold and the first of them where state or registers differ, or none."
-pub fn compare_captures(registers: u32, first: &[u8], second: &[u8]) -> CaptureAnswer
+pub fn compare_captures(
+    registers: u32,
+    first: &[u8],
+    second: &[u8],
+) -> Result<Comparison, CaptureError>
     ensures { result ≡ compare_captures registers first.now second.now }
 {
-    if registers < 1 {
-        return CaptureAnswer::Refused(17, 0, 0);
+    if !in_range(registers) {
+        return Err(CaptureError {
+            refusal: Refusal::BadRecording,
+            recording: 0,
+            line: 0,
+        });
     }
-    if GraphTable::REGISTERS < (registers as usize) {
-        return CaptureAnswer::Refused(17, 0, 0);
-    }
-    let start = Position {
-        at: 0,
-        line: 1,
-        least: 0,
-    };
     let mut m = Merge {
-        first: Head {
-            position: start,
-            step: recording::advance(registers, first, start.at, start.line, start.least),
+        first: Head::at(registers, first, Position::START),
+        second: Head::at(registers, second, Position::START),
+        found: Comparison {
+            shared: 0,
+            difference: None,
         },
-        second: Head {
-            position: start,
-            step: recording::advance(registers, second, start.at, start.line, start.least),
-        },
-        shared: 0,
-        difference: Difference::Nowhere,
     };
-    loop {
-        let MergeStep::Go(n) = merge_next(registers, first, second, m) else {
-            return finish(registers, first, second, m);
-        };
-        m = n;
+    while let Some(next) = merge_next(registers, first, second, m) {
+        m = next;
     }
+    finish(registers, first, second, m)
 }

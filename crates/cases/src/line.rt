@@ -1,5 +1,5 @@
 // A line of numbers in base ten, parted by commas, a line feed at the end.
-ghost use Rattle.std.specs.Prelude.{◌≡◌, ◌*◌, ◌<◌, ◌≤◌, length};
+ghost use Rattle.std.specs.Prelude.{◌*◌, ◌<◌, ◌≤◌, length};
 
 // What stands behind field i of n.
 fn behind(i: usize, n: usize) -> u8
@@ -13,13 +13,11 @@ pub fn put_line(out: &mut [u8], fields: &[u32]) -> usize
     requires { length fields.now ≤ 1000 }
     ensures { result ≤ 11 * length fields.now }
 {
-    let mut at: usize = 0;
-    let mut i: usize = 0;
-    while i < fields.len() {
-        at = decimal::put_decimal(out, at, fields[i]);
+    let mut at = 0;
+    for (i, field) in fields.iter().enumerate() {
+        at = decimal::put_decimal(out, at, *field);
         decimal::put_byte(out, at, behind(i, fields.len()));
         at += 1;
-        i += 1;
     }
     at
 }

@@ -4,14 +4,14 @@ use native.Mathlib.Omega.{arith}
 use mathlib.Core.Path.{◌≡◌, refl, sym, ap, ◌∙◌}
 use mathlib.Core.Logic.{◌⊎◌, inl, inr}
 use mathlib.Core.Bool.{Bool, true, false, ◌&&◌, ◌||◌}
-use mathlib.Core.List.{List, [], ◌∷◌}
+use mathlib.Core.List.{List, []}
 use lib.Dec.{eqb, leb, ltb}
 use lib.ListN.{length, get_or, take, drop, length-take, length-drop, length-map, get_or-eq_default}
 use lib.Seq.{get_or-take, get_or-drop}
-use borrow.Author.Tests.{leb-true, ltb-true, ltb-false, eqb-true, ne_eqb, eq-eqb, lt-ltb}
+use borrow.Author.Tests.{leb-true, ltb-true, eqb-true, ne_eqb, eq-eqb, lt-ltb}
 use Rattle.cfg.proofs.Lengths.{table_length}
 use Rattle.word.specs.Word.{choose, arity}
-use Rattle.runs.specs.Lists.{up_from, mem, same, every}
+use Rattle.runs.specs.Lists.{up_from, same, every}
 use Rattle.runs.proofs.ListLaws.{and_left, and_right, and_both, every_at, same_eq, length-up_from, get_or-map-up_from}
 use Rattle.cfg.specs.declared.Instruction.{Instruction}
 use Rattle.cfg.specs.declared.Condition.{Condition}
@@ -240,25 +240,3 @@ admitted_facts t h =
       block = λ m l. rw (blocks_length t, registers_are t, block_below t m l) at (v.block m (rw blocks_length l));
       words = w;
     }
-
--- every successor of every block is a block
-pub successors_below : (t : List ℕ) → Admitted t → (n : ℕ) → every (λ (x : ℕ). ltb x (get_or t 0 0)) (successors (graph_of t) n) ≡ true
-successors_below t a n = go (ltb n (get_or t 0 0)) refl
-  where
-    go : (b : Bool) → ltb n (get_or t 0 0) ≡ b → every (λ (x : ℕ). ltb x (get_or t 0 0)) (successors (graph_of t) n) ≡ true
-    go true e =
-        let l = ltb-true n (get_or t 0 0) e in
-        rw (block_below t n l) (targets_below (get_or t 0 0) (get_or t 1 0) (block_at t n).ending (a.block n l).ended)
-    go false e = rw (no_successors t n (ltb-false n (get_or t 0 0) e))
-
--- the same of one that stands among them
-mem_every : (b : ℕ) (l : List ℕ) → every (λ (x : ℕ). ltb x b) l ≡ true → (x : ℕ) → mem x l ≡ true → x < b
-mem_every b [] h x m = absurd (let z : ◌≡◌ {A = ℕ} 0 1 = cc in omega arith)
-mem_every b (y ∷ l) h x m = go (mem_every b l (and_right (ltb y b) (every (λ (x : ℕ). ltb x b) l) h) x) (eqb x y) refl
-  where
-    go : (mem x l ≡ true → x < b) → (p : Bool) → eqb x y ≡ p → x < b
-    go k true e = let f = eqb-true x y e in let g = ltb-true y b (and_left (ltb y b) (every (λ (x : ℕ). ltb x b) l) h) in omega arith
-    go k false e = k (either (eqb x y) (mem x l) m e)
-
-pub successor_below : (t : List ℕ) → Admitted t → (n x : ℕ) → mem x (successors (graph_of t) n) ≡ true → x < get_or t 0 0
-successor_below t a n = mem_every (get_or t 0 0) (successors (graph_of t) n) (successors_below t a n)

@@ -2,12 +2,10 @@
 use Prim.Native.Nat.{ℕ, ◌+◌, ◌<◌}
 use native.Mathlib.Omega.{arith}
 use mathlib.Core.Path.{◌≡◌, refl, sym, ◌∙◌}
-use mathlib.Core.Bool.{Bool, true, false}
 use mathlib.Core.List.{List, map}
-use lib.Dec.{eqb}
-use lib.ListN.{length, get_or, set}
-use lib.Seq.{get_or-set_same, get_or-set_other, ext_get_or}
-use borrow.Author.Tests.{eqb-true, eqb-false, eq-eqb, ne_eqb}
+use lib.ListN.{length, get_or}
+use lib.Seq.{ext_get_or}
+use borrow.Author.Tests.{eq-eqb, ne_eqb}
 use Rattle.word.specs.Word.{comparison_at}
 use Rattle.runs.specs.Lists.{up_from}
 use Rattle.runs.proofs.ListLaws.{get_or-map-up_from}
@@ -15,7 +13,7 @@ use Rattle.cfg.specs.declared.Instruction.{Instruction}
 use Rattle.cfg.specs.declared.Ending.TheVariants.{Goto, Ite, Halt}
 use Rattle.cfg.specs.Layout.{max_instructions, ending_offset, block_offset}
 use Rattle.cfg.specs.Graph.{no_instruction}
-use Rattle.cfg.specs.Table.{instruction_at, ending_at, block_at}
+use Rattle.cfg.specs.Table.{ending_at, block_at}
 
 -- ---- endings by their kind
 
@@ -50,24 +48,10 @@ module _ (t : List ℕ) (n : ℕ) where
   unfolding block_at
   instructions_length = refl
 
-  pub instruction_of : (i : ℕ) → i < max_instructions → get_or (block_at t n).instructions i no_instruction ≡ instruction_at t (block_offset n) i
-  unfolding block_at
-  instruction_of i h = get_or-map-up_from (instruction_at t (block_offset n)) max_instructions i no_instruction h
+-- ---- eight instructions, each decoded
 
--- ---- eight instructions, decoded one after another
-
-module _ (f : ℕ → Instruction) (l : List Instruction) where
-  pub one_more : (i : ℕ) → i < length l → ((j : ℕ) → j < i → get_or l j no_instruction ≡ f j)
-      → (j : ℕ) → j < i + 1 → get_or (set l i (f i)) j no_instruction ≡ f j
-  one_more i h k j b = go (eqb j i) refl
-    where
-      go : (t : Bool) → eqb j i ≡ t → get_or (set l i (f i)) j no_instruction ≡ f j
-      go true e = let p = eqb-true j i e in rw p (get_or-set_same l i (f i) no_instruction h)
-      go false e =
-          let p = eqb-false j i e in
-          get_or-set_other l i j (f i) no_instruction p ∙ k j (omega arith)
-
-  pub all_decoded : length l ≡ max_instructions → ((j : ℕ) → j < max_instructions → get_or l j no_instruction ≡ f j) → l ≡ map f (up_from 0 max_instructions)
-  all_decoded h k =
-      ext_get_or no_instruction l (map f (up_from 0 max_instructions)) h
-      (λ i b. k i (omega arith) ∙ sym (get_or-map-up_from f max_instructions i no_instruction (omega arith)))
+pub all_decoded : (f : ℕ → Instruction) (l : List Instruction) → length l ≡ max_instructions
+    → ((j : ℕ) → j < max_instructions → get_or l j no_instruction ≡ f j) → l ≡ map f (up_from 0 max_instructions)
+all_decoded f l h k =
+    ext_get_or no_instruction l (map f (up_from 0 max_instructions)) h
+    (λ i b. k i (omega arith) ∙ sym (get_or-map-up_from f max_instructions i no_instruction (omega arith)))

@@ -1,71 +1,54 @@
--- Marks at the starters of a run with words, and refusal 11. Assumes nothing.
-use Prim.Native.Nat.{ℕ, ◌≤◌}
+-- Marks at the starters of a run with words, and starters that do not fit. Assumes nothing.
+use Prim.Native.Nat.{ℕ, suc, ◌+◌, ◌≤◌, ◌<◌}
 use native.Mathlib.Omega.{arith}
-use mathlib.Core.Bool.{Bool, true, false, ◌&&◌}
-use mathlib.Core.List.{List, []}
-use mathlib.Core.Path.{◌≡◌, refl, ap, ◌∙◌, fun_ext}
+use mathlib.Core.Bool.{Bool, true, false, ◌&&◌, ◌||◌, or-true}
+use mathlib.Core.List.{List, [], ◌∷◌}
+use mathlib.Core.Path.{◌≡◌, refl, ap, fun_ext}
 use lib.Dec.{eqb, ltb}
-use lib.ListN.{get_or, replicate, length-replicate, get_or-replicate, get_or-eq_default}
-use borrow.Author.Tests.{lt-ltb, ltb-true, ltb-false}
-use Rattle.word.specs.Word.{choose}
+use lib.ListN.{length, get_or, set, drop, replicate, length-replicate, get_or-replicate, get_or-eq_default}
+use lib.Seq.{drop-cons, get_or-set_same, get_or-set_other}
+use borrow.Author.Tests.{lt-ltb, ltb-true, ltb-false, eqb-true, eqb-false, eq-eqb}
+use native.Mathlib.Numerals.{add-one}
+use Rattle.std.specs.List.{list_all}
 use Rattle.runs.specs.Lists.{mem, every}
-use Rattle.runs.specs.Runs.{start_at, Supply, Runner, answer, registers_after}
-use Rattle.runs.proofs.SupplyLaws.{Alike, answer_alike, registers_alike}
 use Rattle.runs.proofs.ListLaws.{every_at, every_all}
 use Rattle.cfg.specs.Layout.{max_blocks}
 use Rattle.cfg.specs.Graph.{CFG, block_of, run_block, graph_runner}
-use Rattle.cfg.specs.Run.{starters_fit}
 use Rattle.cfg.specs.Steps.{marked_runner, Marks}
 
--- ---- marks
-
--- no mark
-unmarked : (n b : ℕ) → ◌≡◌ {A = ℕ} (get_or (replicate n 0) b 0) 0
-unmarked n b = go (ltb b n) refl
-  where
-    go : (t : Bool) → ltb b n ≡ t → ◌≡◌ {A = ℕ} (get_or (replicate n 0) b 0) 0
-    go true e = get_or-replicate n b 0 0 (ltb-true b n e)
-    go false e = get_or-eq_default (replicate n 0) 0 {n = b} (rw (length-replicate {A = ℕ} n 0) (ltb-false b n e))
-
--- mark 1 says whether a block is a starter
-module _ (starters marks : List ℕ) (m : Marks (replicate max_blocks 0) starters marks) where
-  pub marked_is : (b : ℕ) → eqb (get_or marks b 0) 1 ≡ mem b starters
-  marked_is b = rw (m.each b, unmarked max_blocks b) (go (mem b starters))
-    where
-      go : (t : Bool) → eqb (choose t 1 0) 1 ≡ t
-      go true = refl
-      go false = refl
-
-  marked_runner_lem : (g : CFG) → marked_runner g marks ≡ graph_runner g starters
-  marked_runner_lem g =
-      ap (λ (f : ℕ → Bool). record { unit = λ sampled n rs. run_block sampled (block_of g n) rs; arrives = f }) (fun_ext marked_is)
-
-  -- a run by the marks is one by the starters, on supplies that agree as far as the budget goes
-  module _ (g : CFG) (a b : Supply) (budget : ℕ) (alike : Alike budget a b) (n : ℕ) (rs : List ℕ) where
-    pub marked_answer : answer (marked_runner g marks) a budget (start_at n rs) ≡ answer (graph_runner g starters) b budget (start_at n rs)
-    marked_answer =
-        ap (λ (r : Runner). answer r a budget (start_at n rs)) (marked_runner_lem g) ∙ answer_alike (graph_runner g starters) a b budget alike n rs
-
-    pub marked_registers : registers_after (marked_runner g marks) a budget (start_at n rs) ≡ registers_after (graph_runner g starters) b budget (start_at n rs)
-    marked_registers =
-        ap (λ (r : Runner). registers_after r a budget (start_at n rs)) (marked_runner_lem g) ∙ registers_alike (graph_runner g starters) a b budget alike n rs
+-- a run by the marks is one by the starters
+pub marked_runner_lem : (starters : List ℕ) (marks : List Bool) → Marks starters marks → (g : CFG) → marked_runner g marks ≡ graph_runner g starters
+marked_runner_lem starters marks m g =
+    ap (λ (f : ℕ → Bool). record { unit = λ sampled n rs. run_block sampled (block_of g n) rs; arrives = f }) (fun_ext m)
 
 -- no block is a starter
-pub unmarked_marks : Marks (replicate max_blocks 0) [] (replicate max_blocks 0)
-unmarked_marks = record { same_length = refl; each = λ b. refl }
+pub unmarked_marks : Marks [] (replicate max_blocks false)
+unmarked_marks b = go (ltb b max_blocks) refl
+  where
+    go : (t : Bool) → ltb b max_blocks ≡ t → get_or (replicate max_blocks false) b false ≡ false
+    go true e = get_or-replicate max_blocks b false false (ltb-true b max_blocks e)
+    go false e = get_or-eq_default (replicate max_blocks false) false {n = b} (rw (length-replicate {A = Bool} max_blocks false) (ltb-false b max_blocks e))
 
 -- starters below the number of blocks have room among the marks
 pub below_more : (n m : ℕ) (l : List ℕ) → n ≤ m → every (λ s. ltb s n) l ≡ true → every (λ s. ltb s m) l ≡ true
 below_more n m l h e =
     every_all (λ s. ltb s m) l 0 (λ i k. lt-ltb (get_or l i 0) m (omega (arith, ltb-true (get_or l i 0) n (every_at (λ s. ltb s n) l e i 0 k))))
 
--- ---- the starters of refusal 11
+-- std's word for a test of all
+pub every_is : {A : Type 0} (p : A → Bool) (l : List A) → list_all p l ≡ every p l
+every_is p [] = refl
+every_is p (x ∷ l) = ap (λ (b : Bool). p x && b) (every_is p l)
 
-module _ (blocks start : ℕ) (starters : List ℕ) where
-  pub fit_below : every (λ s. ltb s blocks) starters ≡ true → starters_fit blocks start starters ≡ mem 0 starters && mem start starters
-  fit_below h = rw h (go (mem 0 starters) (mem start starters))
-    where
-      go : (a b : Bool) → (a && b && true) ≡ a && b
-      go true true = refl
-      go true false = refl
-      go false b = refl
+-- ---- marks so far: a block is marked, or among the starters that are left
+
+pub none_marked : (starters : List ℕ) (b : ℕ) → (get_or (replicate max_blocks false) b false || mem b (drop 0 starters)) ≡ mem b starters
+none_marked starters b = rw (unmarked_marks b)
+
+pub marked_next : (marks : List Bool) (starters : List ℕ) (i : ℕ) → i < length starters → get_or starters i 0 < length marks → (b : ℕ)
+    → (get_or (set marks (get_or starters i 0) true) b false || mem b (drop (i + 1) starters)) ≡ (get_or marks b false || mem b (drop i starters))
+marked_next marks starters i l m b = rw (drop-cons starters i 0 l, add-one) (go (eqb b (get_or starters i 0)) refl)
+  where
+    go : (t : Bool) → eqb b (get_or starters i 0) ≡ t
+        → (get_or (set marks (get_or starters i 0) true) b false || mem b (drop (suc i) starters)) ≡ (get_or marks b false || (eqb b (get_or starters i 0) || mem b (drop (suc i) starters)))
+    go true e = rw (eqb-true b (get_or starters i 0) e, get_or-set_same marks (get_or starters i 0) true false m, eq-eqb (get_or starters i 0) (get_or starters i 0) refl, or-true (get_or marks (get_or starters i 0) false))
+    go false e = rw (get_or-set_other marks (get_or starters i 0) b true false (eqb-false b (get_or starters i 0) e), e)

@@ -7,6 +7,9 @@ use mathlib.Core.Path.{◌≡◌, refl, sym, ap, ap₂, ◌∙◌}
 use lib.Dec.{leb, ltb}
 use lib.ListN.{length, get_or, length-append}
 use borrow.Author.Tests.{leb-true, leb-false, le-ltb}
+use Rattle.std.specs.Prelude.{Option, Some, None}
+use Rattle.refusal.specs.declared.Refusal.{Refusal}
+use Rattle.refusal.specs.declared.Refusal.TheVariants.{NoWords, NoStart}
 use Rattle.word.specs.Word.{choose}
 use Rattle.runs.specs.Lists.{up_from, same}
 use Rattle.runs.specs.Runs.{listed, unread}
@@ -76,7 +79,7 @@ module _ {t t' : List ℕ} (f : SameFront graph_words t t') where
 
 -- the tests that are left where the table is admitted
 last_tests : (t rs : List ℕ) (start : ℕ) → graph_words ≤ length t → max_registers ≤ length rs → admitted_graph t ≡ true
-    → graph_refusal t rs start ≡ choose (not (wordless_graph (graph_of t))) 12 (choose (not (ltb start (get_or t 0 0))) 9 0)
+    → graph_refusal t rs start ≡ choose (not (wordless_graph (graph_of t))) (Some NoWords) (choose (not (ltb start (get_or t 0 0))) (Some NoStart) None)
 unfolding graph_refusal
 last_tests t rs start whole long good = rw (le-ltb (length t) graph_words whole, le-ltb (length rs) max_registers long, good)
 
@@ -106,7 +109,7 @@ module _ (t u : List ℕ) (whole : graph_words ≤ length t) where
         go false e = not_admitted (t ++ u) (rs ++ v) start past_whole past_long (past_admitted ∙ e) ∙ sym (not_admitted t rs start whole long e)
         go true e =
             last_tests (t ++ u) (rs ++ v) start past_whole past_long (past_admitted ∙ e)
-            ∙ ap₂ {C = ℕ} (λ (g : CFG) (n : ℕ). choose (not (wordless_graph g)) 12 (choose (not (ltb start n)) 9 0)) (past_graph e) (front.word 0 (omega arith))
+            ∙ ap₂ {C = Option Refusal} (λ (g : CFG) (n : ℕ). choose (not (wordless_graph g)) (Some NoWords) (choose (not (ltb start n)) (Some NoStart) None)) (past_graph e) (front.word 0 (omega arith))
             ∙ sym (last_tests t rs start whole long e)
 
     past_words_refusal : (starters : List ℕ) → graph_words_refusal (t ++ u) (rs ++ v) start starters ≡ graph_words_refusal t rs start starters

@@ -3,12 +3,16 @@ use Prim.Native.Nat.{ℕ, suc, ◌+◌, ◌%◌, ◌≤◌, ◌<◌}
 use native.Mathlib.Numerals.{add-one}
 use native.Mathlib.Omega.{arith}
 use mathlib.Core.Path.{◌≡◌, refl, sym, ap, subst, ◌∙◌}
-use mathlib.Core.Bool.{Bool, true, false, ◌||◌, or_assoc, or-false}
+use mathlib.Core.Bool.{Bool, true, false, not, ◌||◌, or_assoc, or-false, or-true}
 use mathlib.Core.List.{List, [], ◌∷◌}
-use lib.Dec.{eqb}
+use lib.Dec.{eqb, ltb}
 use lib.ListN.{length, get_or, drop, set, drop_of_length-le}
-use lib.Seq.{drop-cons, get_or-take, length-take-le}
+use lib.Seq.{drop-cons, length-take-le}
 use borrow.Author.Tests.{eqb-true, eqb-false, eq-eqb, lt-ltb, le-ltb}
+use Rattle.std.specs.Prelude.{Option, Some, None}
+use Rattle.std.proofs.Common.{rules}
+use Rattle.refusal.specs.declared.Refusal.{Refusal}
+use Rattle.refusal.specs.declared.Refusal.TheVariants.{ShortBuffer, BadGraph, NoWords, NoStart, BadStarters}
 use Rattle.word.specs.Word.{choose, eval_of, over_of, arity}
 use Rattle.word.proofs.OverLaws.{over_other}
 use Rattle.runs.specs.Runs.{Place, standing, Contents, Configuration, stands_at, Supply, Runner, arrivals_at, moved, step}
@@ -20,6 +24,7 @@ use Rattle.cfg.specs.declared.Block.{Block}
 use Rattle.cfg.specs.Layout.{max_registers, graph_words}
 use Rattle.cfg.specs.Graph.{no_instruction, instructions_of, execute, execute_all, instruction_over, instructions_over, holds, leave, run_block, wordless_graph}
 use Rattle.cfg.specs.Table.{block_at, graph_of, admitted_graph}
+use Rattle.cfg.specs.Admission.{table_refusal, wordless_table_refusal}
 use Rattle.cfg.specs.Run.{starters_fit, graph_refusal, graph_words_refusal}
 use Rattle.cfg.specs.Steps.{Within, EndingWithin, BlockWithin, compared_of, leave_by, marked_runner}
 use Rattle.cfg.proofs.Blocks.{instructions_length}
@@ -94,11 +99,10 @@ over_cons s i is rs = refl
 
 module _ (k : Block) (fits : k.count ≤ length k.instructions) where
   -- the instructions from one on: it, and those after it
-  from_next : (i : ℕ) → i < k.count → drop i (instructions_of k) ≡ get_or k.instructions i no_instruction ∷ drop (i + 1) (instructions_of k)
+  from_next : (i : ℕ) → i < k.count → drop i (instructions_of k) ≡ get_or (instructions_of k) i no_instruction ∷ drop (i + 1) (instructions_of k)
   from_next i h =
       let n = length-take-le k.count k.instructions fits in
-      let e = get_or-take k.count k.instructions i no_instruction h in
-      drop-cons (instructions_of k) i no_instruction (omega arith) ∙ rw (e, add-one)
+      drop-cons (instructions_of k) i no_instruction (omega arith) ∙ rw add-one
 
   none_left : (i : ℕ) → k.count ≤ i → drop i (instructions_of k) ≡ []
   none_left i h =
@@ -107,10 +111,10 @@ module _ (k : Block) (fits : k.count ≤ length k.instructions) where
 
 module _ (s : ℕ) (k : Block) (fits : k.count ≤ length k.instructions) where
   pub code_next : (i : ℕ) (rs : List ℕ) → i < k.count
-      → execute_all s (drop i (instructions_of k)) rs ≡ execute_all s (drop (i + 1) (instructions_of k)) (execute s (get_or k.instructions i no_instruction) rs)
+      → execute_all s (drop i (instructions_of k)) rs ≡ execute_all s (drop (i + 1) (instructions_of k)) (execute s (get_or (instructions_of k) i no_instruction) rs)
   code_next i rs h =
       ap (λ (l : List Instruction). execute_all s l rs) (from_next k fits i h)
-      ∙ execute_cons s (get_or k.instructions i no_instruction) (drop (i + 1) (instructions_of k)) rs
+      ∙ execute_cons s (get_or (instructions_of k) i no_instruction) (drop (i + 1) (instructions_of k)) rs
 
   pub code_done : (i : ℕ) (rs : List ℕ) → k.count ≤ i → execute_all s (drop i (instructions_of k)) rs ≡ rs
   code_done i rs h = ap (λ (l : List Instruction). execute_all s l rs) (none_left k fits i h) ∙ execute_nil s rs
@@ -118,9 +122,9 @@ module _ (s : ℕ) (k : Block) (fits : k.count ≤ length k.instructions) where
   -- the flag that they leave, where it was f
   pub flag_next : (i : ℕ) (rs : List ℕ) (f : Bool) → i < k.count
       → (f || instructions_over s (drop i (instructions_of k)) rs)
-      ≡ ((f || instruction_over (get_or k.instructions i no_instruction) rs) || instructions_over s (drop (i + 1) (instructions_of k)) (execute s (get_or k.instructions i no_instruction) rs))
+      ≡ ((f || instruction_over (get_or (instructions_of k) i no_instruction) rs) || instructions_over s (drop (i + 1) (instructions_of k)) (execute s (get_or (instructions_of k) i no_instruction) rs))
   flag_next i rs f h =
-      let j = get_or k.instructions i no_instruction in
+      let j = get_or (instructions_of k) i no_instruction in
       let later = drop (i + 1) (instructions_of k) in
       ap (λ (l : List Instruction). f || instructions_over s l rs) (from_next k fits i h)
       ∙ ap (λ (b : Bool). f || b) (over_cons s j later rs)
@@ -212,13 +216,13 @@ unfolding run_block
 run_is w k rs = refl
 
 -- a turn of the loop, from arrival k, for which there is a word
-pub turn : (t marks : List ℕ) (ws : Supply) (budget : ℕ) (c₀ : Configuration) (count k n : ℕ) (before after : Contents) (p : Place)
+pub turn : (t : List ℕ) (marks : List Bool) (ws : Supply) (budget : ℕ) (c₀ : Configuration) (count k n : ℕ) (before after : Contents) (p : Place)
     → n < get_or t 0 0 → count < budget → ws.lasts k ≡ true
     → Reached (marked_runner (graph_of t) marks) ws budget c₀ count (stands_at k n before)
     → after.registers ≡ execute_all (ws.word k) (instructions_of (block_at t n)) before.registers
     → after.flag ≡ (before.flag || instructions_over (ws.word k) (instructions_of (block_at t n)) before.registers)
     → p ≡ leave (block_at t n).ending after.registers
-    → Reached (marked_runner (graph_of t) marks) ws budget c₀ (count + 1) (record { place = p; contents = after; arrivals = arrivals_at (λ b. eqb (get_or marks b 0) 1) p k })
+    → Reached (marked_runner (graph_of t) marks) ws budget c₀ (count + 1) (record { place = p; contents = after; arrivals = arrivals_at (λ b. get_or marks b false) p k })
 turn t marks ws budget c₀ count k n before after p l h w r e f q =
     let g = marked_runner (graph_of t) marks in
     let c = stands_at k n before in
@@ -240,61 +244,71 @@ stands_at_lem r ws budget c₀ count k x now m h =
 
 -- ---- refusals
 
+-- a test that refuses does so whatever tests follow
+first_of : (b : Bool) (x e : Refusal) (y z : Option Refusal) → (y ≡ Some e → z ≡ Some e) → choose b (Some x) y ≡ Some e → choose b (Some x) z ≡ Some e
+first_of true x e y z k h = h
+first_of false x e y z k h = k h
+
+never : (e : Refusal) (z : Option Refusal) → ◌≡◌ {A = Option Refusal} None (Some e) → z ≡ Some e
+never e z h = absurd (search (h, rules))
+
 module _ (t rs : List ℕ) (start : ℕ) where
-  pub short_table : length t < graph_words → graph_refusal t rs start ≡ 7
+  pub short_registers_lem : length rs < max_registers → graph_refusal t rs start ≡ Some ShortBuffer
   unfolding graph_refusal
-  short_table h = rw (lt-ltb (length t) graph_words h)
+  short_registers_lem h = rw (lt-ltb (length rs) max_registers h, or-true (ltb (length t) graph_words))
 
-  module _ (l : graph_words ≤ length t) where
-    pub short_registers_lem : length rs < max_registers → graph_refusal t rs start ≡ 7
+  pub table_refused : max_registers ≤ length rs → (e : Refusal) → wordless_table_refusal t ≡ Some e → graph_refusal t rs start ≡ Some e
+  unfolding graph_refusal
+  table_refused m e h =
+      let start_test = choose (not (ltb start (get_or t 0 0))) (Some NoStart) None in
+      let words_test : Option Refusal → Option Refusal = λ rest. choose (not (wordless_graph (graph_of t))) (Some NoWords) rest in
+      let graph_test : Option Refusal → Option Refusal = λ rest. choose (not (admitted_graph t)) (Some BadGraph) rest in
+      rw (le-ltb (length rs) max_registers m, or-false (ltb (length t) graph_words))
+      (first_of (ltb (length t) graph_words) ShortBuffer e (graph_test (words_test None)) (graph_test (words_test start_test))
+      (first_of (not (admitted_graph t)) BadGraph e (words_test None) (words_test start_test)
+      (first_of (not (wordless_graph (graph_of t))) NoWords e None start_test (never e start_test)))
+      h)
+
+  module _ (l : graph_words ≤ length t) (m : max_registers ≤ length rs) where
+    pub not_admitted : admitted_graph t ≡ false → graph_refusal t rs start ≡ Some BadGraph
     unfolding graph_refusal
-    short_registers_lem h = rw (le-ltb (length t) graph_words l, lt-ltb (length rs) max_registers h)
+    not_admitted h = rw (le-ltb (length t) graph_words l, le-ltb (length rs) max_registers m, h)
 
-    module _ (m : max_registers ≤ length rs) where
-      pub not_admitted : admitted_graph t ≡ false → graph_refusal t rs start ≡ 6
+    module _ (ok : admitted_graph t ≡ true) (w : wordless_graph (graph_of t) ≡ true) where
+      pub no_start : get_or t 0 0 ≤ start → graph_refusal t rs start ≡ Some NoStart
       unfolding graph_refusal
-      not_admitted h = rw (le-ltb (length t) graph_words l, le-ltb (length rs) max_registers m, h)
+      no_start h = rw (le-ltb (length t) graph_words l, le-ltb (length rs) max_registers m, ok, w, le-ltb start (get_or t 0 0) h)
 
-      module _ (ok : admitted_graph t ≡ true) where
-        pub words_needed : wordless_graph (graph_of t) ≡ false → graph_refusal t rs start ≡ 12
-        unfolding graph_refusal
-        words_needed h = rw (le-ltb (length t) graph_words l, le-ltb (length rs) max_registers m, ok, h)
-
-        module _ (w : wordless_graph (graph_of t) ≡ true) where
-          pub no_start : get_or t 0 0 ≤ start → graph_refusal t rs start ≡ 9
-          unfolding graph_refusal
-          no_start h = rw (le-ltb (length t) graph_words l, le-ltb (length rs) max_registers m, ok, w, le-ltb start (get_or t 0 0) h)
-
-          pub none_refused : start < get_or t 0 0 → graph_refusal t rs start ≡ 0
-          unfolding graph_refusal
-          none_refused h = rw (le-ltb (length t) graph_words l, le-ltb (length rs) max_registers m, ok, w, lt-ltb start (get_or t 0 0) h)
+      pub none_refused : start < get_or t 0 0 → graph_refusal t rs start ≡ None
+      unfolding graph_refusal
+      none_refused h = rw (le-ltb (length t) graph_words l, le-ltb (length rs) max_registers m, ok, w, lt-ltb start (get_or t 0 0) h)
 
 -- with words
 module _ (t rs : List ℕ) (start : ℕ) (starters : List ℕ) where
-  pub words_short_table : length t < graph_words → graph_words_refusal t rs start starters ≡ 7
+  pub words_short_registers : length rs < max_registers → graph_words_refusal t rs start starters ≡ Some ShortBuffer
   unfolding graph_words_refusal
-  words_short_table h = rw (lt-ltb (length t) graph_words h)
+  words_short_registers h = rw (lt-ltb (length rs) max_registers h, or-true (ltb (length t) graph_words))
 
-  module _ (l : graph_words ≤ length t) where
-    pub words_short_registers : length rs < max_registers → graph_words_refusal t rs start starters ≡ 7
+  pub words_table_refused : max_registers ≤ length rs → (e : Refusal) → table_refusal t ≡ Some e → graph_words_refusal t rs start starters ≡ Some e
+  unfolding graph_words_refusal
+  words_table_refused m e h =
+      let rest = choose (not (ltb start (get_or t 0 0))) (Some NoStart) (choose (not (starters_fit (get_or t 0 0) start starters)) (Some BadStarters) None) in
+      let graph_test : Option Refusal → Option Refusal = λ z. choose (not (admitted_graph t)) (Some BadGraph) z in
+      rw (le-ltb (length rs) max_registers m, or-false (ltb (length t) graph_words))
+      (first_of (ltb (length t) graph_words) ShortBuffer e (graph_test None) (graph_test rest)
+      (first_of (not (admitted_graph t)) BadGraph e None rest (never e rest))
+      h)
+
+  module _ (l : graph_words ≤ length t) (m : max_registers ≤ length rs) (ok : admitted_graph t ≡ true) where
+    pub words_no_start : get_or t 0 0 ≤ start → graph_words_refusal t rs start starters ≡ Some NoStart
     unfolding graph_words_refusal
-    words_short_registers h = rw (le-ltb (length t) graph_words l, lt-ltb (length rs) max_registers h)
+    words_no_start h = rw (le-ltb (length t) graph_words l, le-ltb (length rs) max_registers m, ok, le-ltb start (get_or t 0 0) h)
 
-    module _ (m : max_registers ≤ length rs) where
-      pub words_not_admitted : admitted_graph t ≡ false → graph_words_refusal t rs start starters ≡ 6
+    module _ (h : start < get_or t 0 0) where
+      pub words_unfit : starters_fit (get_or t 0 0) start starters ≡ false → graph_words_refusal t rs start starters ≡ Some BadStarters
       unfolding graph_words_refusal
-      words_not_admitted h = rw (le-ltb (length t) graph_words l, le-ltb (length rs) max_registers m, h)
+      words_unfit f = rw (le-ltb (length t) graph_words l, le-ltb (length rs) max_registers m, ok, lt-ltb start (get_or t 0 0) h, f)
 
-      module _ (ok : admitted_graph t ≡ true) where
-        pub words_no_start : get_or t 0 0 ≤ start → graph_words_refusal t rs start starters ≡ 9
-        unfolding graph_words_refusal
-        words_no_start h = rw (le-ltb (length t) graph_words l, le-ltb (length rs) max_registers m, ok, le-ltb start (get_or t 0 0) h)
-
-        module _ (h : start < get_or t 0 0) where
-          pub words_unfit : starters_fit (get_or t 0 0) start starters ≡ false → graph_words_refusal t rs start starters ≡ 11
-          unfolding graph_words_refusal
-          words_unfit f = rw (le-ltb (length t) graph_words l, le-ltb (length rs) max_registers m, ok, lt-ltb start (get_or t 0 0) h, f)
-
-          pub words_none_refused : starters_fit (get_or t 0 0) start starters ≡ true → graph_words_refusal t rs start starters ≡ 0
-          unfolding graph_words_refusal
-          words_none_refused f = rw (le-ltb (length t) graph_words l, le-ltb (length rs) max_registers m, ok, lt-ltb start (get_or t 0 0) h, f)
+      pub words_none_refused : starters_fit (get_or t 0 0) start starters ≡ true → graph_words_refusal t rs start starters ≡ None
+      unfolding graph_words_refusal
+      words_none_refused f = rw (le-ltb (length t) graph_words l, le-ltb (length rs) max_registers m, ok, lt-ltb start (get_or t 0 0) h, f)

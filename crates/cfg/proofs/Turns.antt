@@ -1,17 +1,16 @@
 -- A turn of the loop that runs a graph's blocks: what holds once a block has run and its ending is told. Assumes nothing.
 use Prim.Native.Nat.{ℕ, ◌+◌, ◌%◌, ◌≤◌, ◌<◌}
-use mathlib.Core.Bool.{Bool, true, ◌||◌}
+use mathlib.Core.Bool.{Bool, true, false, ◌||◌}
 use mathlib.Core.List.{List}
 use mathlib.Core.Path.{◌≡◌, sym, ap, subst, ◌∙◌}
-use lib.Dec.{eqb}
 use lib.ListN.{get_or, drop}
 use borrow.Author.Tests.{lt-ltb}
+use Rattle.std.specs.Prelude.{Option}
 use Rattle.word.specs.Word.{choose}
 use Rattle.runs.proofs.RunLaws.{Reached}
-use Rattle.runs.specs.Runs.{Place, standing, Contents, stands_at, start_at, up_to, arrivals_at}
+use Rattle.runs.specs.Runs.{Place, standing, halted, Contents, stands_at, start_at, up_to, arrivals_at}
 use Rattle.cfg.specs.declared.Condition.{Condition}
 use Rattle.cfg.specs.declared.Block.{Block}
-use Rattle.cfg.specs.declared.run.Next.{Next}
 use Rattle.cfg.specs.Layout.{max_registers}
 use Rattle.cfg.specs.Steps.{EndingWithin, BlockWithin, compared_of, leave_by, place_of, marked_runner}
 use Rattle.cfg.specs.Table.{block_count, block_at, graph_of, admitted_graph}
@@ -24,7 +23,7 @@ pub inside : (t : List ℕ) → admitted_graph t ≡ true → (n : ℕ) → n < 
 inside t good n below b e = subst BlockWithin (sym e) (block_within t (admitted_facts t good) n below)
 
 -- the run after `count` blocks: before the block at which it stands
-pub record Before (t marks words : List ℕ) (limit budget start : ℕ) (file : List ℕ) (at count arrivals : ℕ) (before : List ℕ) (flag : Bool) : Type 0 where
+pub record Before (t : List ℕ) (marks : List Bool) (words : List ℕ) (limit budget start : ℕ) (file : List ℕ) (at count arrivals : ℕ) (before : List ℕ) (flag : Bool) : Type 0 where
   pub good : admitted_graph t ≡ true
   pub below : at < block_count t
   pub reached : Reached (marked_runner (graph_of t) marks) (up_to limit words) budget (start_at start file) count (stands_at arrivals at (record { registers = before; flag = flag }))
@@ -32,7 +31,7 @@ pub record Before (t marks words : List ℕ) (limit budget start : ℕ) (file : 
   pub some : arrivals < limit
 
 -- the block was run, on the sampled word, and its ending leads to `next`
-pub record After (t : List ℕ) (word : ℕ) (at : ℕ) (before : List ℕ) (flag : Bool) (after : List ℕ) (raised : Bool) (next : Next) : Type 0 where
+pub record After (t : List ℕ) (word : ℕ) (at : ℕ) (before : List ℕ) (flag : Bool) (after : List ℕ) (raised : Bool) (next : Option ℕ) : Type 0 where
   pub block : Block
   pub block_is : block ≡ block_at t at
   pub sampled : ℕ
@@ -45,8 +44,17 @@ pub record After (t : List ℕ) (word : ℕ) (at : ℕ) (before : List ℕ) (fla
   pub condition_is : condition ≡ compared_of block.ending
   pub leads : place_of next ≡ leave_by block.ending (get_or after (condition.a % max_registers) 0) (get_or after (condition.b % max_registers) 0)
 
-module _ (t marks words : List ℕ) (limit budget start : ℕ) (file : List ℕ) (at count arrivals : ℕ) (before : List ℕ) (flag : Bool)
-    (p : Before t marks words limit budget start file at count arrivals before flag) (after : List ℕ) (raised : Bool) (next : Next)
+-- what follows: it halts, or goes on at a block, and coming to a marked one is an arrival
+pub record Turned (t : List ℕ) (marks : List Bool) (words : List ℕ) (limit budget start : ℕ) (file : List ℕ) (count arrivals : ℕ) (after : List ℕ) (raised : Bool) (next : Option ℕ) : Type 0 where
+  pub halts : place_of next ≡ halted
+      → Reached (marked_runner (graph_of t) marks) (up_to limit words) budget (start_at start file) (count + 1)
+      (record { place = halted; contents = record { registers = after; flag = raised }; arrivals = arrivals })
+  pub next_is : (x : ℕ) → place_of next ≡ standing x → x < block_count t
+  pub stands : (x : ℕ) (m : Bool) → place_of next ≡ standing x → get_or marks x false ≡ m
+      → Reached (marked_runner (graph_of t) marks) (up_to limit words) budget (start_at start file) (count + 1) (stands_at (choose m (arrivals + 1) arrivals) x (record { registers = after; flag = raised }))
+
+module _ (t : List ℕ) (marks : List Bool) (words : List ℕ) (limit budget start : ℕ) (file : List ℕ) (at count arrivals : ℕ) (before : List ℕ) (flag : Bool)
+    (p : Before t marks words limit budget start file at count arrivals before flag) (after : List ℕ) (raised : Bool) (next : Option ℕ)
     (q : After t (get_or words arrivals 0) at before flag after raised next) where
   abbrev old : Contents
   old = record { registers = before; flag = flag }
@@ -80,17 +88,16 @@ module _ (t marks words : List ℕ) (limit budget start : ℕ) (file : List ℕ)
       ∙ leave_is q.block.ending after (subst (λ (x : Block). EndingWithin x.ending) (sym q.block_is) h)
       ∙ ap (λ (x : Block). leave x.ending after) q.block_is
 
-  pub runs_on : (m : Place) → place_of next ≡ m
+  runs_on : (m : Place) → place_of next ≡ m
       → Reached (marked_runner (graph_of t) marks) (up_to limit words) budget (start_at start file) (count + 1)
-      (record { place = m; contents = new; arrivals = arrivals_at (λ n. eqb (get_or marks n 0) 1) m arrivals })
+      (record { place = m; contents = new; arrivals = arrivals_at (λ n. get_or marks n false) m arrivals })
   runs_on m e =
       turn t marks (up_to limit words) budget (start_at start file) count arrivals at old new m p.below p.left (lt-ltb arrivals limit p.some) p.reached ran told (leads m e)
 
-  -- the next block is one, and standing there is an arrival where its mark is 1
-  pub next_is : (x : ℕ) → place_of next ≡ standing x → x < block_count t
-  next_is x e = next_below t (admitted_facts t p.good) at p.below after x (sym (leads (standing x) e))
-
-  pub stands : (x : ℕ) (m : Bool) → place_of next ≡ standing x → eqb (get_or marks x 0) 1 ≡ m
-      → Reached (marked_runner (graph_of t) marks) (up_to limit words) budget (start_at start file) (count + 1) (stands_at (choose m (arrivals + 1) arrivals) x new)
-  stands x m e h =
-      stands_at_lem (marked_runner (graph_of t) marks) (up_to limit words) budget (start_at start file) (count + 1) arrivals x new m h (runs_on (standing x) e)
+  pub turned : Turned t marks words limit budget start file count arrivals after raised next
+  turned = record {
+    halts = runs_on halted;
+    next_is = λ x e. next_below t (admitted_facts t p.good) at p.below after x (sym (leads (standing x) e));
+    stands = λ x m e h.
+        stands_at_lem (marked_runner (graph_of t) marks) (up_to limit words) budget (start_at start file) (count + 1) arrivals x new m h (runs_on (standing x) e);
+  }

@@ -6,9 +6,9 @@ use mathlib.Core.Path.{◌≡◌, refl, sym, ap, ◌∙◌}
 use mathlib.Core.Bool.{Bool, true, false, ◌&&◌, and_assoc, and_comm, and-true}
 use mathlib.Core.List.{List, [], ◌∷◌, ◌++◌, map, append_assoc}
 use lib.Dec.{eqb, leb, ltb}
-use lib.ListN.{length, get_or, take, drop, replicate, length-drop, length-append}
+use lib.ListN.{length, get_or, take, drop, replicate, length-drop, length-append, get_or-eq_default}
 use lib.Seq.{drop-cons, take-add, drop-drop, length-take-le}
-use borrow.Author.Tests.{eq-eqb, ne_eqb, lt-leb, le-leb}
+use borrow.Author.Tests.{eq-eqb, ne_eqb, lt-leb, le-leb, leb-true, leb-false}
 use Rattle.word.specs.declared.Comparison.TheVariants.{Eq, Ne, Lt, Ge, Ltu, Geu}
 use Rattle.word.specs.Word.{comparison_at, comparison_code}
 use Rattle.runs.specs.Lists.{up_from, same, every, padded, concat_map}
@@ -32,16 +32,6 @@ take_word t p n h = rw (drop-cons t p 0 h, add-one)
 
 pub take_words : (t : List ℕ) (p m n : ℕ) → take (m + n) (drop p t) ≡ take m (drop p t) ++ take n (drop (p + m) t)
 take_words t p m n = rw (take-add m n (drop p t), drop-drop m p t)
-
--- words that are 0, one after another
-module _ (t : List ℕ) (i e : ℕ) where
-  pub zero_go : i < e → e ≤ length t → get_or t i 0 ≡ 0 → zeros t i (e - i) ≡ zeros t (i + 1) (e - (i + 1))
-  zero_go h l z = let n : e - i ≡ suc (e - (i + 1)) = omega arith in rw (n, take_word t i (e - (i + 1)) (omega arith), z)
-
-  pub zero_stop : i < e → e ≤ length t → (get_or t i 0 ≡ 0 → ⊥) → zeros t i (e - i) ≡ false
-  zero_stop h l z =
-      let n : e - i ≡ suc (e - (i + 1)) = omega arith in
-      rw (n, take_word t i (e - (i + 1)) (omega arith), ne_eqb (get_or t i 0) 0 z)
 
 -- ---- the instructions' words
 
@@ -97,6 +87,40 @@ block_words_lem t n h =
     let z : o + code_offset + instruction_words * 0 ≡ o + code_offset = omega arith in
     rw (words_of_lem (block_at t n), count_at t n, ending_of t n, instructions_are t n, code_words_lem t o 0 max_instructions (omega arith), z, block_list t o h, eq-eqb (get_or t o 0) (get_or t o 0) refl, same_front (take code_words (drop (o + code_offset) t)) (ending_words_of (ending_at t (o + ending_offset)) ++ (0 ∷ [])) (take ending_words (drop (o + ending_offset) t) ++ (get_or t (o + last_offset) 0 ∷ [])), same_append (ending_words_of (ending_at t (o + ending_offset))) (0 ∷ []) (take ending_words (drop (o + ending_offset) t)) (get_or t (o + last_offset) 0 ∷ []) (ending_length (ending_at t (o + ending_offset)) ∙ sym (length-take-le ending_words (drop (o + ending_offset) t) (rw length-drop (omega arith)))), eqb_sym 0 (get_or t (o + last_offset) 0), and-true (eqb (get_or t (o + last_offset) 0) 0))
 
+-- ---- the comparisons' codes are 12 to 17
+
+module _ (c : ℕ) where
+  code_at : (m : ℕ) → c ≡ 12 + m → m ≤ 5 → comparison_code (get_or (Eq ∷ Ne ∷ Lt ∷ Ge ∷ Ltu ∷ Geu ∷ []) m Eq) ≡ c
+  code_at zero e h = sym e
+  code_at (suc zero) e h = sym e
+  code_at (suc (suc zero)) e h = sym e
+  code_at (suc (suc (suc zero))) e h = sym e
+  code_at (suc (suc (suc (suc zero)))) e h = sym e
+  code_at (suc (suc (suc (suc (suc zero))))) e h = sym e
+  code_at (suc (suc (suc (suc (suc (suc m)))))) e h = absurd (omega arith)
+
+  code_mid : 12 ≤ c → c ≤ 17 → eqb (comparison_code (comparison_at c)) c ≡ true
+  code_mid h k = eq-eqb (comparison_code (comparison_at c)) c (code_at (c - 12) (omega arith) (omega arith))
+
+  pub code_range : eqb (comparison_code (comparison_at c)) c ≡ leb 12 c && leb c 17
+  code_range = low (leb 12 c) refl
+    where
+      first : get_or (Eq ∷ Ne ∷ Lt ∷ Ge ∷ Ltu ∷ Geu ∷ []) (c - 12) Eq ≡ Eq → (c ≡ 12 → ⊥) → eqb (comparison_code (comparison_at c)) c ≡ false
+      first e h = rw e (ne_eqb 12 c (λ z. h (sym z)))
+
+      high : (x : Bool) → leb c 17 ≡ x → 12 ≤ c → eqb (comparison_code (comparison_at c)) c ≡ x
+      high true e l = code_mid l (leb-true c 17 e)
+      high false e l =
+          let m = leb-false c 17 e in
+          first (get_or-eq_default (Eq ∷ Ne ∷ Lt ∷ Ge ∷ Ltu ∷ Geu ∷ []) Eq {n = c - 12} (omega arith)) (λ z. omega arith)
+
+      low : (x : Bool) → leb 12 c ≡ x → eqb (comparison_code (comparison_at c)) c ≡ x && leb c 17
+      low true e = high (leb c 17) refl (leb-true 12 c e)
+      low false e =
+          let m = leb-false 12 c e in
+          let z : c - 12 ≡ 0 = omega arith in
+          first (rw z) (λ q. omega arith)
+
 -- ---- an ending fits
 
 fits_ending : (b r : ℕ) (t : List ℕ) (o : ℕ) → ending_fits b r t o ≡ valid_ending b r (ending_at t o) && same (ending_words_of (ending_at t o)) (take ending_words (drop o t))
@@ -143,16 +167,23 @@ module _ (b r : ℕ) (t : List ℕ) (o : ℕ) (l : o + ending_words ≤ length t
       ∙ rw (ending_goto t o h, six_words t o l, same_goto (get_or t o 0) (get_or t (o + 1) 0) (get_or t (o + 2) 0) (get_or t (o + 3) 0) (get_or t (o + 4) 0) (get_or t (o + 5) 0) h)
       (target_last (ltb (get_or t (o + 4) 0) b) (eqb (get_or t (o + 1) 0) 0) (eqb (get_or t (o + 2) 0) 0) (eqb (get_or t (o + 3) 0) 0) (eqb (get_or t (o + 5) 0) 0))
 
-  pub ite_fits : get_or t o 0 ≡ 2
+  ite_parts : get_or t o 0 ≡ 2
       → ending_fits b r t o
       ≡ eqb (comparison_code (comparison_at (get_or t (o + 1) 0))) (get_or t (o + 1) 0)
       && valid_ending b r (Ite (record { comparison = comparison_at (get_or t (o + 1) 0); a = get_or t (o + 2) 0; b = get_or t (o + 3) 0 }) (get_or t (o + 4) 0) (get_or t (o + 5) 0))
-  ite_fits h =
+  ite_parts h =
       fits_ending b r t o
       ∙ rw (ending_ite t o h, six_words t o l, same_ite (get_or t o 0) (get_or t (o + 1) 0) (get_or t (o + 2) 0) (get_or t (o + 3) 0) (get_or t (o + 4) 0) (get_or t (o + 5) 0) (comparison_code (comparison_at (get_or t (o + 1) 0))) h)
       (and_comm
       (valid_ending b r (Ite (record { comparison = comparison_at (get_or t (o + 1) 0); a = get_or t (o + 2) 0; b = get_or t (o + 3) 0 }) (get_or t (o + 4) 0) (get_or t (o + 5) 0)))
       (eqb (comparison_code (comparison_at (get_or t (o + 1) 0))) (get_or t (o + 1) 0)))
+
+  pub ite_fits : get_or t o 0 ≡ 2
+      → ending_fits b r t o
+      ≡ leb 12 (get_or t (o + 1) 0)
+      && (leb (get_or t (o + 1) 0) 17 && (ltb (get_or t (o + 2) 0) r && (ltb (get_or t (o + 3) 0) r && (ltb (get_or t (o + 4) 0) b && ltb (get_or t (o + 5) 0) b))))
+  unfolding valid_ending
+  ite_fits h = ite_parts h ∙ rw (code_range (get_or t (o + 1) 0)) (simp and_assoc)
 
   pub halt_fits : get_or t o 0 ≡ 3
       → ending_fits b r t o
@@ -314,18 +345,3 @@ module _ (t : List ℕ) where
       let valid : ℕ → Bool = λ j. valid_block b r (block_at t j) in
       by_head
       ∙ rw (le-leb 1 b h₁, le-leb b max_blocks h₂, le-leb 1 r h₃, le-leb r max_registers h₄, table_words t l h₂, every_map (block_at t) (valid_block b r) (up_from 0 b), ← and_assoc (every valid (up_from 0 b)) (every (own t) (up_from 0 b)) (zeros t (block_offset b) (all_block_words - block_words * b)), every_and valid (own t) (up_from 0 b), all_fit b r t (up_from 0 b))
-
--- ---- the comparisons' codes are 12 to 17
-
-module _ (c : ℕ) where
-  code_at : (m : ℕ) → c ≡ 12 + m → m ≤ 5 → comparison_code (get_or (Eq ∷ Ne ∷ Lt ∷ Ge ∷ Ltu ∷ Geu ∷ []) m Eq) ≡ c
-  code_at zero e h = sym e
-  code_at (suc zero) e h = sym e
-  code_at (suc (suc zero)) e h = sym e
-  code_at (suc (suc (suc zero))) e h = sym e
-  code_at (suc (suc (suc (suc zero)))) e h = sym e
-  code_at (suc (suc (suc (suc (suc zero))))) e h = sym e
-  code_at (suc (suc (suc (suc (suc (suc m)))))) e h = absurd (omega arith)
-
-  pub code_mid : 12 ≤ c → c ≤ 17 → eqb (comparison_code (comparison_at c)) c ≡ true
-  code_mid h k = eq-eqb (comparison_code (comparison_at c)) c (code_at (c - 12) (omega arith) (omega arith))

@@ -4,3 +4,4 @@ pub mod Table
 pub mod Run
 pub mod Fits
 pub mod Steps
+pub mod Admission

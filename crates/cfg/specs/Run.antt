@@ -1,10 +1,12 @@
 -- "Run graph" of paper 01, and with words as R-1 of paper 02 adds it: answers, and registers left, on all inputs. Assumes nothing.
-use Rattle.std.specs.Prelude.{ℕ, Bool, not, ◌&&◌, ◌||◌, List, [], length, ltb}
+use Rattle.std.specs.Prelude.{ℕ, Bool, not, ◌&&◌, ◌||◌, List, [], length, ltb, Option, Some, None, Result}
 use Rattle.word.specs.Word.{choose}
 use Rattle.runs.specs.Lists.{mem, every}
 use Rattle.runs.specs.Runs.{listed, unread}
 use Rattle.runs.specs.Operations.{answered, registers_left}
-use Rattle.runs.specs.declared.RunAnswer.{RunAnswer}
+use Rattle.runs.specs.declared.RunEnd.{RunEnd}
+use Rattle.refusal.specs.declared.Refusal.{Refusal}
+use Rattle.refusal.specs.declared.Refusal.TheVariants.{ShortBuffer, BadGraph, NoWords, NoStart, BadStarters}
 use Rattle.cfg.specs.Layout.{max_registers, graph_words}
 use Rattle.cfg.specs.Graph.{wordless_graph, graph_runner}
 use Rattle.cfg.specs.Table.{block_count, graph_of, admitted_graph}
@@ -14,16 +16,16 @@ graph_short t rs = ltb (length t) graph_words || ltb (length rs) max_registers
 
 -- ---- without words
 
--- the refusal's number, or 0: 7 a short table or register buffer, 6 a table that is not admitted, 12 one with code 20, 9 a start that is no block
-unfoldable pub graph_refusal : List ℕ → List ℕ → ℕ → ℕ
+-- a short table or register buffer, a table that is not admitted, one with code 20, or a start that is no block
+unfoldable pub graph_refusal : List ℕ → List ℕ → ℕ → Option Refusal
 unfolding admitted_graph wordless_graph graph_of
 graph_refusal t rs start =
-    choose (graph_short t rs) 7
-    (choose (not (admitted_graph t)) 6
-    (choose (not (wordless_graph (graph_of t))) 12
-    (choose (not (ltb start (block_count t))) 9 0)))
+    choose (graph_short t rs) (Some ShortBuffer)
+    (choose (not (admitted_graph t)) (Some BadGraph)
+    (choose (not (wordless_graph (graph_of t))) (Some NoWords)
+    (choose (not (ltb start (block_count t))) (Some NoStart) None)))
 
-abbrev pub graph_answer : List ℕ → List ℕ → ℕ → ℕ → RunAnswer
+abbrev pub graph_answer : List ℕ → List ℕ → ℕ → ℕ → Result RunEnd Refusal
 graph_answer t rs start budget = answered (graph_refusal t rs start) (graph_runner (graph_of t) []) unread rs start budget
 
 abbrev pub graph_registers : List ℕ → List ℕ → ℕ → ℕ → List ℕ
@@ -35,16 +37,16 @@ graph_registers t rs start budget = registers_left (graph_refusal t rs start) (g
 abbrev pub starters_fit : ℕ → ℕ → List ℕ → Bool
 starters_fit b start starters = mem 0 starters && mem start starters && every (λ s. ltb s b) starters
 
--- 7, 6 and 9 as above, then 11: starters that do not fit
-unfoldable pub graph_words_refusal : List ℕ → List ℕ → ℕ → List ℕ → ℕ
+-- the same but for code 20, then starters that do not fit
+unfoldable pub graph_words_refusal : List ℕ → List ℕ → ℕ → List ℕ → Option Refusal
 unfolding admitted_graph
 graph_words_refusal t rs start starters =
-    choose (graph_short t rs) 7
-    (choose (not (admitted_graph t)) 6
-    (choose (not (ltb start (block_count t))) 9
-    (choose (not (starters_fit (block_count t) start starters)) 11 0)))
+    choose (graph_short t rs) (Some ShortBuffer)
+    (choose (not (admitted_graph t)) (Some BadGraph)
+    (choose (not (ltb start (block_count t))) (Some NoStart)
+    (choose (not (starters_fit (block_count t) start starters)) (Some BadStarters) None)))
 
-abbrev pub graph_words_answer : List ℕ → List ℕ → ℕ → ℕ → List ℕ → List ℕ → RunAnswer
+abbrev pub graph_words_answer : List ℕ → List ℕ → ℕ → ℕ → List ℕ → List ℕ → Result RunEnd Refusal
 graph_words_answer t rs start budget words starters =
     answered (graph_words_refusal t rs start starters) (graph_runner (graph_of t) starters) (listed words) rs start budget
 

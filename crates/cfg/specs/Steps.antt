@@ -1,5 +1,5 @@
 -- What the parts of a graph's run give: cited by inner functions alone. Assumes nothing.
-use Rattle.std.specs.Prelude.{ℕ, ◌≤◌, ◌<◌, ◌≡◌, length, get_or, List, eqb}
+use Rattle.std.specs.Prelude.{ℕ, ◌≤◌, ◌<◌, ◌≡◌, Bool, false, length, get_or, List, Option, Some, None}
 use Rattle.word.specs.Word.{choose, set_code, compare_of}
 use Rattle.word.specs.declared.Comparison.TheVariants.{Eq}
 use Rattle.runs.specs.Lists.{mem}
@@ -9,8 +9,6 @@ use Rattle.cfg.specs.declared.Condition.{Condition}
 use Rattle.cfg.specs.declared.Ending.{Ending}
 use Rattle.cfg.specs.declared.Ending.TheVariants.{Goto, Ite, Halt}
 use Rattle.cfg.specs.declared.Block.{Block}
-use Rattle.cfg.specs.declared.run.Next.{Next}
-use Rattle.cfg.specs.declared.run.Next.TheVariants.{To, Nowhere}
 use Rattle.cfg.specs.Layout.{max_registers, max_instructions}
 use Rattle.cfg.specs.Graph.{CFG, no_instruction, block_of, run_block}
 
@@ -45,15 +43,15 @@ leave_by (Goto t) x y = standing t
 leave_by (Ite c t f) x y = standing (choose (compare_of c.comparison x y) t f)
 leave_by Halt x y = halted
 
-abbrev pub place_of : Next → Place
-place_of (To t) = standing t
-place_of Nowhere = halted
+-- the place of the next block, or of none
+abbrev pub place_of : Option ℕ → Place
+place_of (Some t) = standing t
+place_of None = halted
 
--- a graph whose starters are the blocks with mark 1
-abbrev pub marked_runner : CFG → List ℕ → Runner
-marked_runner g marks = record { unit = λ sampled n rs. run_block sampled (block_of g n) rs; arrives = λ n. eqb (get_or marks n 0) 1 }
+-- a graph whose starters are the marked blocks
+abbrev pub marked_runner : CFG → List Bool → Runner
+marked_runner g marks = record { unit = λ sampled n rs. run_block sampled (block_of g n) rs; arrives = λ n. get_or marks n false }
 
--- marks after 1 was put at every starter
-pub record Marks (before starters after : List ℕ) : Type 0 where
-  pub same_length : length after ≡ length before
-  pub each : (b : ℕ) → get_or after b 0 ≡ choose (mem b starters) 1 (get_or before b 0)
+-- the marked blocks are the starters
+abbrev pub Marks : List ℕ → List Bool → Type 0
+Marks starters marks = (b : ℕ) → get_or marks b false ≡ mem b starters

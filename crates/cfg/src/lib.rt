@@ -4,16 +4,17 @@
 ghost use Rattle.std.specs.Prelude.{◌≡◌};
 ghost use Rattle.cfg.specs.Graph.{no_instruction, empty_block};
 
-use runs::RunAnswer;
+use runs::RunEnd;
 use word::{Comparison, Registers};
 
 pub mod decode; // decode.rt: a table's words as blocks
 pub mod admission; // admission.rt: which tables are admitted
+pub mod graph; // graph.rt: an admitted table as a type
 pub mod starters; // starters.rt: the starters of a run with words
 pub mod run; // run.rt: a graph's run with a budget
 
 // The head of a graph table: how many blocks and registers the graph has.
-#[derive(Clone, Copy)]
+#[derive(Clone, Copy, Debug, PartialEq, Eq)]
 pub struct GraphTable {
     pub blocks: u32,
     pub registers: u32,
@@ -21,7 +22,7 @@ pub struct GraphTable {
 
 impl GraphTable {
     // Limits, the bytes of a text among them.
-    pub const BLOCKS: usize = RunAnswer::PLACES;
+    pub const BLOCKS: usize = RunEnd::PLACES;
 
     pub const REGISTERS: usize = Registers::COUNT;
 
@@ -36,8 +37,9 @@ impl GraphTable {
     pub const WORDS: usize = GraphTable::HEAD + GraphTable::BLOCKS * Block::WORDS;
 }
 
-// Code, written register, first and second operand; of a set the first operand is the literal.
-#[derive(Clone, Copy)]
+// Code, written register, first and second operand; of a set the first operand is the literal. The code is a word and no enum: C lends
+// the table, and any word may stand there until it is admitted.
+#[derive(Clone, Copy, Debug, PartialEq, Eq)]
 pub struct Instruction {
     pub code: u32,
     pub d: u32,
@@ -69,14 +71,14 @@ impl Instruction {
 }
 
 // Two registers compared.
-#[derive(Clone, Copy)]
+#[derive(Clone, Copy, Debug, PartialEq, Eq)]
 pub struct Condition {
     pub comparison: Comparison,
     pub a: u32,
     pub b: u32,
 }
 
-#[derive(Clone, Copy)]
+#[derive(Clone, Copy, Debug, PartialEq, Eq)]
 pub enum Ending {
     // The target.
     Goto(u32),
@@ -86,7 +88,7 @@ pub enum Ending {
 }
 
 impl Ending {
-    // The kinds, an ending's first word.
+    // The kinds, an ending's first word. Words and no enum: C lends the table, and any word may stand there until it is admitted.
     pub const GOTO: u32 = 1;
 
     pub const ITE: u32 = 2;
@@ -106,8 +108,8 @@ impl Ending {
     pub const WORDS: usize = Ending::FALSE + 1;
 }
 
-// The first `count` instructions are the block's.
-#[derive(Clone, Copy)]
+// The first `count` instructions are the block's. A count beside them and no list: the words of a table that is not admitted may count more.
+#[derive(Clone, Copy, Debug, PartialEq, Eq)]
 pub struct Block {
     pub count: u32,
     pub instructions: [Instruction; Block::INSTRUCTIONS],

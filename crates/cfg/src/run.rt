@@ -2,37 +2,34 @@
 ghost use Rattle.std.specs.Prelude.{true, ◌++◌, ◌≡◌, ◌≤◌, ◌<◌, eqb, length, take, drop};
 ghost use Rattle.word.specs.Word.{choose, eval_of, set_code};
 ghost use Rattle.runs.specs.Runs.{start_at, up_to, answer, registers_after};
-ghost use Rattle.cfg.specs.Layout.{max_blocks, max_registers};
-ghost use Rattle.cfg.specs.Table.{block_count, graph_of, admitted_graph};
+ghost use Rattle.cfg.specs.Layout.{max_registers};
+ghost use Rattle.cfg.specs.Table.{block_count, graph_of};
 ghost use Rattle.cfg.specs.Steps.{compared_of, leave_by, place_of, marked_runner};
 ghost use Rattle.cfg.specs.Run.{graph_answer, graph_registers, graph_words_answer, graph_words_registers};
 
-use crate::{Condition, Ending, GraphTable, Instruction, admission, decode, starters};
-use runs::RunAnswer;
+use crate::graph::AdmittedGraph;
+use crate::{Condition, Ending, GraphTable, Instruction, starters};
+use refusal::Refusal;
+use runs::RunEnd;
 use word::{Code, Comparison, Registers};
 
-// The block that comes next.
+// A run's end, and the registers that it leaves.
 #[derive(Clone, Copy)]
-pub enum Next {
-    To(u32),
-    Nowhere,
-}
-
-// A run's answer, and the registers that it leaves.
-#[derive(Clone, Copy)]
-pub struct Ran {
-    pub answer: RunAnswer,
-    pub registers: Registers,
+struct Ran {
+    end: RunEnd,
+    registers: Registers,
 }
 
 // What the instruction writes, of the words in the registers that its operands name.
+#[tactic(auto, using(crate::proofs::Running::value_set))]
 fn value_of(sampled: u32, i: Instruction, x: u32, y: u32) -> u32
     ensures { result ≡ eval_of sampled i.code (choose (eqb i.code set_code) i.a x) y 0 }
 {
     if i.code == Code::SET {
-        return i.a;
+        i.a
+    } else {
+        word::eval(sampled, i.code, x, y, 0)
     }
-    word::eval(sampled, i.code, x, y, 0)
 }
 
 // The registers that an ending compares; register 0 twice where it compares none.
@@ -40,13 +37,8 @@ fn compared(ending: Ending) -> Condition
     ensures { result ≡ compared_of ending }
 {
     match ending {
-        Ending::Goto(_) => Condition {
-            comparison: Comparison::Eq,
-            a: 0,
-            b: 0,
-        },
         Ending::Ite(c, _, _) => c,
-        Ending::Halt => Condition {
+        Ending::Goto(_) | Ending::Halt => Condition {
             comparison: Comparison::Eq,
             a: 0,
             b: 0,
@@ -54,136 +46,119 @@ fn compared(ending: Ending) -> Condition
     }
 }
 
-// Where the ending leads, of the words in the registers that it compares.
-fn next_of(ending: Ending, x: u32, y: u32) -> Next
+// The block to which the ending leads, of the words in the registers that it compares; none after a halt.
+fn next_of(ending: Ending, x: u32, y: u32) -> Option<u32>
     ensures { place_of result ≡ leave_by ending x y }
 {
     match ending {
-        Ending::Goto(t) => Next::To(t),
-        Ending::Ite(c, t, f) => {
-            let comparison = c.comparison;
-            if word::compare(comparison, x, y) {
-                Next::To(t)
-            } else {
-                Next::To(f)
-            }
-        }
-        Ending::Halt => Next::Nowhere,
+        Ending::Goto(t) => Some(t),
+        Ending::Ite(c, t, f) => Some(if word::compare(c.comparison, x, y) {
+            t
+        } else {
+            f
+        }),
+        Ending::Halt => None,
     }
 }
 
-// A run's end.
-fn ended(answer: RunAnswer, registers: Registers) -> Ran
-    ensures { (result.answer ≡ answer) × (result.registers ≡ registers) }
-{
-    Ran { answer, registers }
-}
-
-// The table is checked before: nothing of admission is done here. There is a word for each of the first `limit` arrivals; a move to a
-// block with mark 1 makes the next one. A block's instructions run in order, each seeing the one before, in a loop of the same function:
-// to hand the register file to another and back took up to a third of the time. One that goes over raises the flag, which stays; `|`
-// takes no jump for it.
+// There is a word for each of the first `limit` arrivals; a move to a marked block makes the next one. A block's instructions run in
+// order, each seeing the one before, in a loop of the same function: to hand the register file to another and back took up to a third
+// of the time. One that goes over raises the flag, which stays; `|` takes no jump for it.
+// Seven parameters and no struct: the clauses set each of them into `answer`, and would take a struct apart again.
 fn run_blocks(
-    table: &[u32],
+    graph: AdmittedGraph,
     start: u32,
     budget: u32,
     file: Registers,
     words: &[u32],
     limit: u32,
-    marks: &[u32],
+    marks: &[bool; GraphTable::BLOCKS],
 ) -> Ran
-    requires { (admitted_graph table.now ≡ true) × (start < block_count table.now) × (length marks.now ≡ max_blocks) }
-    ensures { (result.answer ≡ answer (marked_runner (graph_of table.now) marks.now) (up_to limit words.now) budget (start_at start file.words)) × (result.registers.words ≡ registers_after (marked_runner (graph_of table.now) marks.now) (up_to limit words.now) budget (start_at start file.words)) }
+    requires { start < block_count graph.words.now }
+    ensures end { result.end ≡ answer (marked_runner (graph_of graph.entry.words.now) marks.now) (up_to limit words.now) budget (start_at start file.words) }
+    ensures registers { result.registers.words ≡ registers_after (marked_runner (graph_of graph.entry.words.now) marks.now) (up_to limit words.now) budget (start_at start file.words) }
 {
     let mut at = start;
-    let mut current = file;
+    let mut registers = file;
     let mut flag = false;
-    let mut count = 0;
     let mut arrivals = 0;
-    while count < budget {
+    for count in 0..budget {
         if limit <= arrivals {
-            return ended(RunAnswer::Dry(count, at, flag), current);
+            let end = RunEnd::Dry(count, at, flag);
+            return Ran { end, registers };
         }
-        let block = decode::block_at(table, at as usize);
+        let block = graph.block(at as usize);
         let sampled = runs::sampled(words, arrivals);
-        let used = block.count as usize;
-        let mut i = 0;
-        while i < used {
-            let next = block.instructions[i];
+        for next in &block.instructions[..block.count as usize] {
             // A set's literal names no register: whatever is read there is not used.
-            let a = next.a as usize % Registers::COUNT;
-            let b = next.b as usize % Registers::COUNT;
-            let x = current.words[a];
-            let y = current.words[b];
+            let x = registers.words[next.a as usize % Registers::COUNT];
+            let y = registers.words[next.b as usize % Registers::COUNT];
             flag = flag | word::over(next.code, x, y);
-            let value = value_of(sampled, next, x, y);
-            let after = current.put(next.d as usize, value);
-            current = after;
-            i += 1;
+            let value = value_of(sampled, *next, x, y);
+            registers = registers.put(next.d as usize, value);
         }
-        count += 1;
-        let ending = block.ending;
-        let c = compared(ending);
-        let a = c.a as usize % Registers::COUNT;
-        let b = c.b as usize % Registers::COUNT;
-        let Next::To(t) = next_of(ending, current.words[a], current.words[b]) else {
-            return ended(RunAnswer::Halted(count, flag), current);
+        let c = compared(block.ending);
+        let x = registers.words[c.a as usize % Registers::COUNT];
+        let y = registers.words[c.b as usize % Registers::COUNT];
+        let Some(t) = next_of(block.ending, x, y) else {
+            let end = RunEnd::Halted(count + 1, flag);
+            return Ran { end, registers };
         };
-        if marks[t as usize] == 1 {
+        if marks[t as usize] {
             arrivals += 1;
         }
         at = t;
     }
-    ended(RunAnswer::Spent(count, at, flag), current)
+    let end = RunEnd::Spent(budget, at, flag);
+    Ran { end, registers }
 }
 
 // A run on the registers of a buffer; its words from 16 up stay.
+// Seven parameters and no struct: the clauses set each of them into `answer`, and would take a struct apart again.
 fn run_from(
-    table: &[u32],
+    graph: AdmittedGraph,
     registers: &mut [u32],
     start: u32,
     budget: u32,
     words: &[u32],
     limit: u32,
-    marks: &[u32],
-) -> RunAnswer
-    requires table_value { (admitted_graph table.now ≡ true) × (start < block_count table.now) × (length marks.now ≡ max_blocks) }
+    marks: &[bool; GraphTable::BLOCKS],
+) -> RunEnd
+    requires start_in_bounds { start < block_count graph.words.now }
     requires max_registers_in_bounds { max_registers ≤ length registers.old }
-    ensures value { result ≡ answer (marked_runner (graph_of table.now) marks.now) (up_to limit words.now) budget (start_at start (take max_registers registers.old)) }
-    ensures registers_after { registers.new ≡ registers_after (marked_runner (graph_of table.now) marks.now) (up_to limit words.now) budget (start_at start (take max_registers registers.old)) ++ drop max_registers registers.old }
+    ensures value { result ≡ answer (marked_runner (graph_of graph.entry.words.now) marks.now) (up_to limit words.now) budget (start_at start (take max_registers registers.old)) }
+    ensures registers_after { registers.new ≡ registers_after (marked_runner (graph_of graph.entry.words.now) marks.now) (up_to limit words.now) budget (start_at start (take max_registers registers.old)) ++ drop max_registers registers.old }
 {
     let file = runs::load(registers);
-    let ran = run_blocks(table, start, budget, file, words, limit, marks);
+    let ran = run_blocks(graph, start, budget, file, words, limit, marks);
     runs::store(registers, ran.registers);
-    ran.answer
+    ran.end
 }
 
+// Two operations, as C has them; what they share is `run_from`.
 // "Run graph": from a start block, with a budget of blocks. Every arrival has a word, which nothing reads.
-pub fn run_graph(table: &[u32], registers: &mut [u32], start: u32, budget: u32) -> RunAnswer
+pub fn run_graph(
+    table: &[u32],
+    registers: &mut [u32],
+    start: u32,
+    budget: u32,
+) -> Result<RunEnd, Refusal>
     ensures value { result ≡ graph_answer table.now registers.old start budget }
     ensures registers_after { registers.new ≡ graph_registers table.now registers.old start budget }
 {
-    if table.len() < GraphTable::WORDS {
-        return RunAnswer::Refused(7);
-    }
     if registers.len() < GraphTable::REGISTERS {
-        return RunAnswer::Refused(7);
+        return Err(Refusal::ShortBuffer);
     }
-    if !admission::passes_with(table, false) {
-        // Which of the two is looked at again, so that a table that passes is read once.
-        if admission::is_admitted(table) {
-            return RunAnswer::Refused(12);
-        }
-        return RunAnswer::Refused(6);
+    let graph = AdmittedGraph::admit_wordless(table)?;
+    if graph.blocks() <= start {
+        return Err(Refusal::NoStart);
     }
-    if table[GraphTable::BLOCK_COUNT] <= start {
-        return RunAnswer::Refused(9);
-    }
-    let marks = [0u32; GraphTable::BLOCKS];
-    run_from(table, registers, start, budget, &[], budget, &marks)
+    let marks = [false; GraphTable::BLOCKS];
+    Ok(run_from(graph, registers, start, budget, &[], budget, &marks))
 }
 
 // "Run graph" with words: each coming to a starter is an arrival.
+// Six parameters and not a struct: the C function `gutkavu_run_graph_with_words` has each, and this one's clauses name them.
 pub fn run_graph_with_words(
     table: &[u32],
     registers: &mut [u32],
@@ -191,27 +166,19 @@ pub fn run_graph_with_words(
     budget: u32,
     words: &[u32],
     starters: &[u32],
-) -> RunAnswer
+) -> Result<RunEnd, Refusal>
     ensures value { result ≡ graph_words_answer table.now registers.old start budget words.now starters.now }
     ensures registers_after { registers.new ≡ graph_words_registers table.now registers.old start budget words.now starters.now }
 {
-    if table.len() < GraphTable::WORDS {
-        return RunAnswer::Refused(7);
-    }
     if registers.len() < GraphTable::REGISTERS {
-        return RunAnswer::Refused(7);
+        return Err(Refusal::ShortBuffer);
     }
-    if !admission::is_admitted(table) {
-        return RunAnswer::Refused(6);
-    }
-    let blocks = table[GraphTable::BLOCK_COUNT];
+    let graph = AdmittedGraph::admit(table)?;
+    let blocks = graph.blocks();
     if blocks <= start {
-        return RunAnswer::Refused(9);
+        return Err(Refusal::NoStart);
     }
-    let mut marks = [0u32; GraphTable::BLOCKS];
-    if !starters::marked(&mut marks, starters, blocks, start) {
-        return RunAnswer::Refused(11);
-    }
+    let marks = starters::marked(starters, blocks, start)?;
     let limit = runs::lasting(words, budget);
-    run_from(table, registers, start, budget, words, limit, &marks)
+    Ok(run_from(graph, registers, start, budget, words, limit, &marks))
 }

@@ -1,4 +1,5 @@
 pub mod Forms
+pub mod Lines
 pub mod Literals
 pub mod Packing
 pub mod Names

@@ -3,11 +3,11 @@ use mathlib.Core.Path.{◌≡◌, refl}
 use mathlib.Core.List.{[]}
 use Rattle.cfg_line.specs.declared.Keyword.{Keyword}
 use Rattle.cfg_line.specs.declared.Keyword.TheVariants as keyword
-use Rattle.cfg_line.specs.declared.Line.TheVariants as line
+use Rattle.std.specs.Prelude.{None}
 use Rattle.cfg_line.specs.Form.{form_of}
 
 -- only a halt has its name alone
-pub not_halt : (w : Keyword) → (w ≡ keyword.Halt → ⊥) → form_of w [] ≡ line.NoForm
+pub not_halt : (w : Keyword) → (w ≡ keyword.Halt → ⊥) → form_of w [] ≡ None
 unfolding form_of
 not_halt keyword.Graph h = refl
 not_halt keyword.Block h = refl
@@ -18,4 +18,3 @@ not_halt keyword.Set h = refl
 not_halt keyword.In h = refl
 not_halt (keyword.Unary k) h = refl
 not_halt (keyword.Binary k) h = refl
-not_halt keyword.Nothing h = refl

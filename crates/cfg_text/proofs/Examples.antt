@@ -7,7 +7,9 @@ use lib.Dec.{T}
 use Rattle.runs.specs.Lists.{every, same, concat_map}
 use Rattle.cfg.specs.Graph.{valid_graph}
 use Rattle.delimited.specs.Parts.{bytes}
-use Rattle.cfg_text.specs.Walk.{Reading, refused, read}
+use Rattle.std.specs.Prelude.{Ok, Err}
+use Rattle.refusal.specs.Refusal.{number}
+use Rattle.cfg_text.specs.Walk.{Reading}
 use Rattle.cfg_text.specs.Read.{read_text}
 
 -- lines, each with its line feed
@@ -15,12 +17,12 @@ abbrev lines : List String → List ℕ
 lines = concat_map (λ (l : String). bytes l ++ (10 ∷ []))
 
 abbrev refused_at : ℕ → ℕ → Reading → Bool
-refused_at k n (refused i m) = same (i ∷ m ∷ []) (k ∷ n ∷ [])
-refused_at k n (read g) = false
+refused_at k n (Err e) = same (number e.refusal ∷ e.line ∷ []) (k ∷ n ∷ [])
+refused_at k n (Ok g) = false
 
 abbrev accepted : Reading → Bool
-accepted (refused i m) = false
-accepted (read g) = valid_graph g
+accepted (Err e) = false
+accepted (Ok g) = valid_graph g
 
 unfoldable pub examples : List Bool
 unfolding read_text concat_map valid_graph

@@ -8,7 +8,8 @@ use lib.Seq.{drop-append-le}
 use borrow.Author.Tests.{le-ltb}
 use Rattle.cfg.specs.Layout.{graph_words}
 use Rattle.cfg.specs.Table.{graph_table_of}
-use Rattle.cfg_text.specs.Walk.{Reading, refused, read}
+use Rattle.std.specs.Prelude.{Ok, Err}
+use Rattle.cfg_text.specs.Walk.{Reading}
 use Rattle.cfg_text.specs.Read.{reading, reading_answer, words_after, read_answer, read_words}
 
 module _ (text t u : List ℕ) (whole : graph_words ≤ length t) where
@@ -20,8 +21,8 @@ module _ (text t u : List ℕ) (whole : graph_words ≤ length t) where
   past_reading = rw (le-ltb (length (t ++ u)) graph_words past_whole, le-ltb (length t) graph_words whole)
 
   past_words : (r : Reading) → words_after r (t ++ u) ≡ words_after r t ++ u
-  past_words (refused k n) = refl
-  past_words (read g) = ap (λ (l : List ℕ). graph_table_of g ++ l) (drop-append-le graph_words t u whole) ∙ sym (append_assoc (graph_table_of g) (drop graph_words t) u)
+  past_words (Err e) = refl
+  past_words (Ok g) = ap (λ (l : List ℕ). graph_table_of g ++ l) (drop-append-le graph_words t u whole) ∙ sym (append_assoc (graph_table_of g) (drop graph_words t) u)
 
   pub past_read_answer : read_answer text (t ++ u) ≡ read_answer text t
   unfolding read_answer

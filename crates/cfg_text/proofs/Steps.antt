@@ -1,173 +1,148 @@
 -- What each step of reading does is what the definition does. Assumes nothing.
-use mathlib.Core.Path.{◌≡◌, ◌∙◌, refl, sym, ap}
-use mathlib.Core.List.{List, [], ◌∷◌, ◌++◌}
-use mathlib.Core.Bool.{true, false}
-use Prim.Native.Nat.{ℕ, ◌+◌, ◌*◌, ◌≤◌, ◌<◌}
-use native.Mathlib.Omega.{arith}
-use lib.ListN.{length, length-append}
-use lib.Seq.{sets}
-use borrow.Author.Tests.{eq-eqb, ne_eqb, lt-ltb, le-ltb}
+use Rattle.std.proofs.Common.{◌≡◌, ℕ, ◌+◌, ◌-◌, ◌*◌, ◌≤◌, ◌<◌, Bool, true, false, List, [], ◌∷◌, ◌++◌, take, drop, drop-drop, length, length-append, append_assoc, sym, refl, ap, ◌∙◌, arith, eq-eqb, ne_eqb, le-ltb}
+use Rattle.std.specs.Prelude.{Ok, Err, Result}
+use borrow.Author.Tests.{lt-ltb}
+use lib.Seq.{sets, sets-eq}
+use borrow.Rule.Slice.PartMut.{put_mid}
+use Rattle.refusal.specs.declared.Refusal.{Refusal}
+use Rattle.refusal.specs.declared.Refusal.TheVariants.{NotDue, NoRegister, NoTarget}
 use Rattle.runs.proofs.ListLaws.{every_snoc, length_padded}
 use Rattle.runs.specs.Lists.{padded}
-use Rattle.cfg.specs.Layout.{max_instructions, block_offset, code_offset, instruction_words}
+use Rattle.word.specs.Word.{choose}
+use Rattle.cfg.specs.Layout.{max_instructions, block_offset, code_offset, instruction_words, ending_words}
 use Rattle.cfg.specs.Graph.{CFG, no_instruction, targets}
 use Rattle.cfg.specs.Table.{instruction_words_of, ending_words_of, graph_table_of}
 use Rattle.cfg.specs.declared.Instruction.{Instruction}
 use Rattle.cfg.specs.declared.Ending.{Ending}
+use Rattle.cfg.specs.declared.Ending.TheVariants as ending
 use Rattle.cfg.specs.declared.Block.{Block}
-use Rattle.cfg_text.specs.declared.Due.TheVariants as due
-use Rattle.cfg_text.specs.declared.ReadState.{ReadState}
-use Rattle.cfg_text.specs.declared.LineStep.{LineStep}
-use Rattle.cfg_text.specs.declared.LineStep.TheVariants.{Go, Stop}
-use Rattle.cfg_text.specs.declared.ReadAnswer.TheVariants.{Refused, Read}
-use Rattle.cfg_text.specs.Walk.{Progress, start, between, inside, Reading, refused, read, all_below, instruction_registers, ending_registers, opened, joined, closed, block_with, finish}
-use Rattle.cfg_text.specs.ReadSteps.{read_state_of, sized, StandsAfter, Advances, AnswersReading, ended_at, after_block}
+use Rattle.cfg_text.specs.declared.state.BlocksRead.{BlocksRead}
+use Rattle.cfg_text.specs.declared.state.OpenBlock.{OpenBlock}
+use Rattle.cfg_text.specs.declared.state.ReadState.TheVariants as state
+use Rattle.cfg_text.specs.Walk.{Progress, start, between, inside, Reading, refused, all_below, instruction_registers, ending_registers, opened, joined, closed, block_with, finish}
+use Rattle.cfg_text.specs.ReadSteps.{sized, StandsAfter, Advances, AnswersReading, ending_check, ended_at}
 use Rattle.cfg_text.proofs.Stores.{opened_words, joined_words, closed_words, table_words}
 
 -- ---- the code's place is of one kind only
 
-clash : {X : Type 0} → due.Graph ≡ due.Block → X
-clash e =
-    let z : ◌≡◌ {A = ℕ} 0 1 = cc in
-    absurd (omega arith)
+pub only_between :
+    (P : Progress → Type 0) {w : List ℕ} {p : BlocksRead} (q : Progress) → StandsAfter (state.Between p) w q
+    → ((b r : ℕ) (bs : List Block) → StandsAfter (state.Between p) w (between b r bs) → P (between b r bs)) → P q
+only_between P start s k = absurd s.place
+only_between P (between b r bs) s k = k b r bs s
+only_between P (inside b r bs is) s k = absurd s.place
 
-clash_2 : {X : Type 0} → due.Graph ≡ due.Inside → X
-clash_2 e =
-    let z : ◌≡◌ {A = ℕ} 0 1 = cc in
-    absurd (omega arith)
+-- ---- words stored one behind another
 
-clash_3 : {X : Type 0} → due.Block ≡ due.Inside → X
-clash_3 e =
-    let z : ◌≡◌ {A = ℕ} 0 1 = cc in
-    absurd (omega arith)
+pub stored : (w vs : List ℕ) (at e : ℕ) {ys : List ℕ} → e ≡ at + length vs → e ≤ length w → ys ≡ vs → put_mid at (e - at) w ys ≡ sets w at vs
+stored w vs at e g h y =
+    let n : e - at ≡ length vs = omega arith in
+    rw (y, n)
+    (ap (λ (l : List ℕ). take at w ++ (vs ++ l)) (drop-drop (length vs) at w)
+    ∙ sym (append_assoc (take at w) vs (drop (at + length vs) w))
+    ∙ sym (sets-eq vs w at (omega arith)))
 
-module _ (P : Progress → Type 0) {p : ReadState} {w : List ℕ} where
-  due_is : {q : Progress} → StandsAfter p w q → p.due ≡ (read_state_of q).due
-  due_is s = ap (λ (x : ReadState). x.due) s.place
-
-  pub only_start : (q : Progress) → p.due ≡ due.Graph → StandsAfter p w q → (StandsAfter p w start → P start) → P q
-  only_start start e s k = k s
-  only_start (between b r bs) e s k = clash (sym e ∙ due_is s)
-  only_start (inside b r bs is) e s k = clash_2 (sym e ∙ due_is s)
-
-  pub only_between : (q : Progress) → p.due ≡ due.Block → StandsAfter p w q
-      → ((b r : ℕ) (bs : List Block) → StandsAfter p w (between b r bs) → P (between b r bs)) → P q
-  only_between start e s k = clash (sym (due_is s) ∙ e)
-  only_between (between b r bs) e s k = k b r bs s
-  only_between (inside b r bs is) e s k = clash_3 (sym e ∙ due_is s)
-
-  pub only_inside : (q : Progress) → p.due ≡ due.Inside → StandsAfter p w q
-      → ((b r : ℕ) (bs : List Block) (is : List Instruction) → StandsAfter p w (inside b r bs is) → P (inside b r bs is)) → P q
-  only_inside start e s k = clash_2 (sym (due_is s) ∙ e)
-  only_inside (between b r bs) e s k = clash_3 (sym (due_is s) ∙ e)
-  only_inside (inside b r bs is) e s k = k b r bs is s
+pub ending_length : (e : Ending) → length (ending_words_of e) ≡ ending_words
+ending_length (ending.Goto t) = refl
+ending_length (ending.Ite c t f) = refl
+ending_length ending.Halt = refl
 
 -- ---- a block begins
-
-module _ (p : ReadState) (w : List ℕ) (b r : ℕ) (bs : List Block) (s : StandsAfter p w (between b r bs)) (n m : ℕ) where
-  done_is : p.done ≡ length bs
-  done_is = ap (λ (x : ReadState). x.done) s.place
-
-  blocks_is : p.blocks ≡ b
-  blocks_is = ap (λ (x : ReadState). x.blocks) s.place
-
-  pub not_next : (n ≡ p.done → ⊥) → Advances m (Stop (Refused 3 m)) w (opened n b r bs)
-  not_next h = rw (ne_eqb n (length bs) (λ e. h (e ∙ sym done_is))) refl
-
-  pub past_last : n ≡ p.done → p.blocks ≤ n → Advances m (Stop (Refused 3 m)) w (opened n b r bs)
-  past_last e l = rw (eq-eqb n (length bs) (e ∙ done_is), le-ltb n b (rw blocks_is at l)) refl
-
-  pub begins : n ≡ p.done → n < p.blocks
-      → Advances m (Go (record { due = due.Inside; blocks = p.blocks; registers = p.registers; done = p.done; count = 0 })) w (opened n b r bs)
-  begins e l =
-      rw (eq-eqb n (length bs) (e ∙ done_is), lt-ltb n b (rw blocks_is at l))
-      (record {
-        place = ap (λ (x : ReadState). record { due = due.Inside; blocks = x.blocks; registers = x.registers; done = x.done; count = 0 }) s.place;
-        words = s.words ∙ opened_words b r bs s.whole;
-        whole = s.whole;
-        few = omega arith;
-      })
-
--- ---- in a block
 
 one_more : {A : Type 0} (xs : List A) (y : A) → length xs + 1 ≡ length (xs ++ (y ∷ []))
 one_more xs y = rw length-append (omega arith)
 
-module _ (p : ReadState) (w : List ℕ) (b r : ℕ) (bs : List Block) (is : List Instruction) (s : StandsAfter p w (inside b r bs is)) (m : ℕ) where
-  pub in_blocks : p.blocks ≡ b
-  in_blocks = ap (λ (x : ReadState). x.blocks) s.place
+module _ (p : BlocksRead) (w : List ℕ) (b r : ℕ) (bs : List Block) (s : StandsAfter (state.Between p) w (between b r bs)) where
+  pub begins : (k : OpenBlock) → k.before ≡ p → k.count ≡ 0 → p.done < p.blocks → Advances (Ok (state.Inside k)) w (opened p.done b r bs)
+  begins k e c l =
+      rw (eq-eqb p.done (length bs) s.place.2, lt-ltb p.done b (rw s.place.0 at l))
+      (record { place = (rw e s.place, c); words = s.words ∙ opened_words b r bs s.whole; whole = s.whole; few = omega arith })
 
-  pub in_registers : p.registers ≡ r
-  in_registers = ap (λ (x : ReadState). x.registers) s.place
+  pub other_block : (n : ℕ) → (n ≡ p.done → ⊥) → opened n b r bs ≡ Err NotDue
+  other_block n h = rw (ne_eqb n (length bs) (λ e. h (e ∙ sym s.place.2)))
 
-  in_done : p.done ≡ length bs
-  in_done = ap (λ (x : ReadState). x.done) s.place
+  pub past_block : (n : ℕ) → n ≡ p.done → p.blocks ≤ n → opened n b r bs ≡ Err NotDue
+  past_block n e l = rw (eq-eqb n (length bs) (e ∙ s.place.2), le-ltb n b (rw s.place.0 at l))
 
-  in_count : p.count ≡ length is
-  in_count = ap (λ (x : ReadState). x.count) s.place
+-- ---- in a block
 
-  pub ninth : (i : Instruction) → 8 ≤ p.count → Advances m (Stop (Refused 3 m)) w (joined i b r bs is)
-  ninth i h = rw (le-ltb (length is) 8 (rw in_count at h)) refl
+module _ (k : OpenBlock) (w : List ℕ) (b r : ℕ) (bs : List Block) (is : List Instruction) (s : StandsAfter (state.Inside k) w (inside b r bs is)) where
+  in_blocks : k.before.blocks ≡ b
+  in_blocks = s.place.0.0
 
-  pub bad_register : (i : Instruction) (v : List ℕ) → p.count < 8 → all_below p.registers (instruction_registers i) ≡ false → Advances m (Stop (Refused 4 m)) v (joined i b r bs is)
-  bad_register i v h e = rw (lt-ltb (length is) 8 (rw in_count at h), ap (λ (n : ℕ). all_below n (instruction_registers i)) (sym in_registers) ∙ e) refl
+  in_registers : k.before.registers ≡ r
+  in_registers = s.place.0.1
 
-  pub joins : (i : Instruction) (v : List ℕ) → p.count < 8 → all_below p.registers (instruction_registers i) ≡ true
-      → v ≡ sets w (block_offset p.done + code_offset + instruction_words * p.count) (instruction_words_of i)
-      → Advances m (Go (record { due = due.Inside; blocks = p.blocks; registers = p.registers; done = p.done; count = p.count + 1 })) v (joined i b r bs is)
-  joins i v h e ev =
+  in_done : k.before.done ≡ length bs
+  in_done = s.place.0.2
+
+  in_count : k.count ≡ length is
+  in_count = s.place.1
+
+  pub ninth : (i : Instruction) → 8 ≤ k.count → joined i b r bs is ≡ Err NotDue
+  ninth i h = rw (le-ltb (length is) 8 (rw in_count at h))
+
+  pub joins : (i : Instruction) (v : List ℕ) (j : OpenBlock) → k.count < 8 → all_below k.before.registers (instruction_registers i) ≡ true
+      → j.before ≡ k.before → j.count ≡ k.count + 1
+      → v ≡ sets w (block_offset k.before.done + code_offset + instruction_words * k.count) (instruction_words_of i)
+      → Advances (Ok (state.Inside j)) v (joined i b r bs is)
+  joins i v j h e same more ev =
       rw (lt-ltb (length is) 8 (rw in_count at h), ap (λ (n : ℕ). all_below n (instruction_registers i)) (sym in_registers) ∙ e)
       (record {
-        place = ap (λ (x : ReadState). record { due = due.Inside; blocks = x.blocks; registers = x.registers; done = x.done; count = x.count + 1 }) s.place
-            ∙ ap (λ (n : ℕ). record { due = due.Inside; blocks = b; registers = r; done = length bs; count = n }) (one_more is i);
+        place = (rw same s.place.0, more ∙ ap (λ (n : ℕ). n + 1) in_count ∙ one_more is i);
         words = ev ∙ rw (s.words, in_done, in_count) (joined_words b r bs s.whole is i);
         whole = s.whole;
-        few = omega arith;
+        few = let l : length is < 8 = rw in_count at h in omega (arith, length-append is (i ∷ []));
       })
 
   module _ (e : Ending) where
-    pub bad_ending_register : (v : List ℕ) → all_below r (ending_registers e) ≡ false → Advances m (Stop (Refused 4 m)) v (closed e b r bs is)
-    bad_ending_register v h = rw h refl
+    -- what the check says of the code's B and R it says of the definition's
+    checked : {c : Result Unit Refusal} → ending_check k.before.blocks k.before.registers e ≡ c → ending_check b r e ≡ c
+    checked h = rw (in_blocks, in_registers) at h
 
-    pub bad_target : (v : List ℕ) → all_below r (ending_registers e) ≡ true → all_below b (targets e) ≡ false → Advances m (Stop (Refused 5 m)) v (closed e b r bs is)
-    bad_target v h g = rw (h, g) refl
+    pub not_closed : {d : Refusal} → ending_check k.before.blocks k.before.registers e ≡ Err d → closed e b r bs is ≡ Err d
+    not_closed {d} h = go (all_below r (ending_registers e)) (all_below b (targets e)) (checked h)
+      where
+        go :
+            (s t : Bool) → choose s (choose t (Ok (tt {0})) (Err NoTarget)) (Err NoRegister) ≡ Err d
+            → choose s (choose t (Ok (between b r (bs ++ (block_with is e ∷ [])))) (Err NoTarget)) (Err NoRegister) ≡ Err d
+        go true true g = absurd (cc)
+        go true false g = let z : NoTarget ≡ d = cc in ap (λ (x : Refusal). Err x) z
+        go false t g = let z : NoRegister ≡ d = cc in ap (λ (x : Refusal). Err x) z
 
-    pub ends : (o : LineStep) (v : List ℕ) → all_below r (ending_registers e) ≡ true → all_below b (targets e) ≡ true
-        → o ≡ Go (after_block p) → v ≡ ended_at w p.done p.count (ending_words_of e) → Advances m o v (closed e b r bs is)
-    ends o v h g em ev =
-        rw (em, h, g)
-        (record {
-          place = ap after_block s.place
-              ∙ ap (λ (n : ℕ). record { due = due.Block; blocks = b; registers = r; done = n; count = 0 }) (one_more bs (block_with is e));
-          words = ev ∙ rw (s.words, in_done, in_count) (closed_words b r bs s.whole is e (rw in_count at s.few));
-          whole = every_snoc sized bs (block_with is e) s.whole (eq-eqb (length (padded max_instructions no_instruction is)) max_instructions (length_padded max_instructions no_instruction is));
-          few = omega arith;
-        })
+    pub closes : (v : List ℕ) (p : BlocksRead) {u : Unit} → ending_check k.before.blocks k.before.registers e ≡ Ok u
+        → p.blocks ≡ k.before.blocks → p.registers ≡ k.before.registers → p.done ≡ k.before.done + 1
+        → v ≡ ended_at w k.before.done k.count (ending_words_of e)
+        → Advances (Ok (state.Between p)) v (closed e b r bs is)
+    closes v p {u} h eb er ed ev = go (all_below r (ending_registers e)) (all_below b (targets e)) (checked h)
+      where
+        stands : StandsAfter (state.Between p) v (between b r (bs ++ (block_with is e ∷ [])))
+        stands =
+            record {
+              place = (eb ∙ in_blocks, er ∙ in_registers, ed ∙ ap (λ (n : ℕ). n + 1) in_done ∙ one_more bs (block_with is e));
+              words = ev ∙ rw (s.words, in_done, in_count) (closed_words b r bs s.whole is e s.few);
+              whole = every_snoc sized bs (block_with is e) s.whole (eq-eqb (length (padded max_instructions no_instruction is)) max_instructions (length_padded max_instructions no_instruction is));
+              few = omega arith;
+            }
+
+        go :
+            (s t : Bool) → choose s (choose t (Ok (tt {0})) (Err NoTarget)) (Err NoRegister) ≡ Ok u
+            → Advances (Ok (state.Between p)) v (choose s (choose t (Ok (between b r (bs ++ (block_with is e ∷ [])))) (Err NoTarget)) (Err NoRegister))
+        go true true g = stands
+        go true false g = absurd (cc)
+        go false t g = absurd (cc)
 
 -- ---- the end of the text
 
-no_read : {X : Type 0} {k n : ℕ} {g : CFG} → refused k n ≡ read g → X
-no_read e =
-    let z : ◌≡◌ {A = ℕ} 0 1 = cc in
-    absurd (omega arith)
+pub refusal : (k : Refusal) (n : ℕ) (w : List ℕ) {x : Reading} → x ≡ refused k n → AnswersReading (Err (record { refusal = k; line = n })) w x
+refusal k n w e = rw e (record { answer = refl; words = λ g h. absurd (cc) })
 
-same_graph : {f g : CFG} → read f ≡ read g → f ≡ g
-same_graph e = cc
-
-pub refusal : (k n : ℕ) (w : List ℕ) {x : Reading} → x ≡ refused k n → AnswersReading (Refused k n) w x
-refusal k n w e = rw e (record { answer = refl; words = λ g h. no_read h })
-
-pub unfinished : (p : ReadState) (w : List ℕ) (q : Progress) (n : ℕ) → (p.due ≡ due.Block → ⊥) → StandsAfter p w q → AnswersReading (Refused 3 n) w (finish q n)
-unfinished p w start n h s = refusal 3 n w refl
-unfinished p w (between b r bs) n h s = absurd (h (ap (λ (x : ReadState). x.due) s.place))
-unfinished p w (inside b r bs is) n h s = refusal 3 n w refl
-
-module _ (p : ReadState) (w : List ℕ) (b r : ℕ) (bs : List Block) (n : ℕ) (s : StandsAfter p w (between b r bs)) where
-  pub missing : (p.done ≡ p.blocks → ⊥) → AnswersReading (Refused 3 n) w (finish (between b r bs) n)
-  missing h = refusal 3 n w (rw (ne_eqb (length bs) b (λ e. h (done_is p w b r bs s n n ∙ e ∙ sym (blocks_is p w b r bs s n n)))))
-
-  pub finished : p.done ≡ p.blocks → AnswersReading Read w (finish (between b r bs) n)
-  finished h =
-      let e : length bs ≡ b = sym (done_is p w b r bs s n n) ∙ h ∙ blocks_is p w b r bs s n n in
-      rw (eq-eqb (length bs) b e)
-      (record { answer = refl; words = λ g x. s.words ∙ table_words b r bs s.whole e ∙ ap graph_table_of (same_graph x) })
+pub finished : (p : BlocksRead) (w : List ℕ) (b r : ℕ) (bs : List Block) (n : ℕ) → StandsAfter (state.Between p) w (between b r bs) → p.done ≡ p.blocks
+    → AnswersReading (Ok tt) w (finish (between b r bs) n)
+finished p w b r bs n s h =
+    let e : length bs ≡ b = sym s.place.2 ∙ h ∙ s.place.0 in
+    rw (eq-eqb (length bs) b e)
+    (record { answer = refl; words = λ g x. s.words ∙ table_words b r bs s.whole e ∙ ap graph_table_of (same_graph x) })
+  where
+    same_graph : {f g : CFG} → ◌≡◌ {A = Reading} (Ok f) (Ok g) → f ≡ g
+    same_graph x = cc

@@ -7,7 +7,7 @@ use native.Mathlib.Omega.{arith}
 use lib.ListN.{length, set, replicate, length-append, length-replicate}
 use lib.Seq.{sets}
 use borrow.Author.Tests.{eqb-true}
-use Rattle.runs.proofs.ListLaws.{padded_append, length_padded, concat_one}
+use Rattle.runs.proofs.ListLaws.{padded_append, concat_one}
 use Rattle.runs.proofs.Tests.{and_true as both}
 use Rattle.runs.specs.Lists.{every, padded, concat_map}
 use Rattle.cfg.proofs.Lengths.{code_length, block_length}
@@ -17,7 +17,7 @@ use Rattle.cfg.specs.Table.{instruction_words_of, ending_words_of, block_words_o
 use Rattle.cfg.specs.declared.Instruction.{Instruction}
 use Rattle.cfg.specs.declared.Ending.{Ending}
 use Rattle.cfg.specs.declared.Block.{Block}
-use Rattle.cfg_text.specs.Walk.{Progress, start, between, inside, block_with}
+use Rattle.cfg_text.specs.Walk.{start, between, inside, block_with}
 use Rattle.cfg_text.specs.ReadSteps.{words_so_far, filled, sized, ended_at}
 use Rattle.cfg_text.proofs.Padding.{padded_more, set_at, sets_next}
 
@@ -136,7 +136,3 @@ module _ (b r : ℕ) (bs : List Block) (whole : every sized bs ≡ true) where
 pub graph_words_lem : (b r : ℕ) → set (set (filled start) 0 b) 1 r ≡ filled (between b r [])
 unfolding filled words_so_far concat_map
 graph_words_lem b r = sets_next 0 graph_words [] (b ∷ r ∷ [])
-
-pub filled_length : (q : Progress) → length (filled q) ≡ graph_words
-unfolding filled
-filled_length q = length_padded graph_words 0 (words_so_far q)

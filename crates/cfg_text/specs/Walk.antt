@@ -1,5 +1,7 @@
 -- Which line is due where, and what the lines make ("Text" and "Read text into graph table" of paper 01). Assumes nothing.
-use Rattle.std.specs.Prelude.{ℕ, suc, Bool, ◌&&◌, List, [], ◌∷◌, ◌++◌, length, take, eqb, ltb}
+use Rattle.std.specs.Prelude.{ℕ, suc, Bool, ◌&&◌, List, [], ◌∷◌, ◌++◌, length, take, eqb, ltb, Option, Some, None, Result, Ok, Err}
+use Rattle.refusal.specs.declared.Refusal.{Refusal}
+use Rattle.refusal.specs.declared.Refusal.TheVariants.{NoForm, NotDue, NoRegister, NoTarget}
 use Rattle.word.specs.Word.{choose, arity, set_code}
 use Rattle.runs.specs.Lists.{every, padded}
 use Rattle.cfg.specs.Layout.{max_instructions}
@@ -11,6 +13,7 @@ use Rattle.cfg.specs.declared.Block.{Block}
 use Rattle.cfg_line.specs.declared.Line.{Line}
 use Rattle.cfg_line.specs.declared.Line.TheVariants as line
 use Rattle.cfg_line.specs.Form.{line_form}
+use Rattle.cfg_text.specs.declared.ReadError.{ReadError}
 
 -- where reading stands: the graph line is due; B, R and the blocks read so far, the next block line being due while there are
 -- fewer than B; in a block, with its instructions so far
@@ -19,31 +22,32 @@ pub data Progress : Type 0 where
   between : ℕ → ℕ → List Block → Progress
   inside : ℕ → ℕ → List Block → List Instruction → Progress
 
--- on from a line, or the number of its refusal
-pub data Next : Type 0 where
-  go : Progress → Next
-  refuse : ℕ → Next
+-- on from a line, or why it is refused
+abbrev pub Next : Type 0
+Next = Result Progress Refusal
 
--- the text's graph, or a refusal's number and line
-pub data Reading : Type 0 where
-  refused : ℕ → ℕ → Reading
-  read : CFG → Reading
+-- the text's graph, or why it is refused and at which line
+abbrev pub Reading : Type 0
+Reading = Result CFG ReadError
 
--- ---- a form that is not due is 3
+abbrev pub refused : Refusal → ℕ → Reading
+refused e n = Err (record { refusal = e; line = n })
+
+-- ---- a form that is not due
 
 abbrev pub at_start : Progress → Next → Next
 at_start start x = x
-at_start (between b r bs) x = refuse 3
-at_start (inside b r bs is) x = refuse 3
+at_start (between b r bs) x = Err NotDue
+at_start (inside b r bs is) x = Err NotDue
 
 abbrev pub at_block : Progress → (ℕ → ℕ → List Block → Next) → Next
-at_block start k = refuse 3
+at_block start k = Err NotDue
 at_block (between b r bs) k = k b r bs
-at_block (inside b r bs is) k = refuse 3
+at_block (inside b r bs is) k = Err NotDue
 
 abbrev pub in_block : Progress → (ℕ → ℕ → List Block → List Instruction → Next) → Next
-in_block start k = refuse 3
-in_block (between b r bs) k = refuse 3
+in_block start k = Err NotDue
+in_block (between b r bs) k = Err NotDue
 in_block (inside b r bs is) k = k b r bs is
 
 -- ---- each form
@@ -62,14 +66,14 @@ ending_registers ending.Halt = []
 
 -- the next block begins
 abbrev pub opened : ℕ → ℕ → ℕ → List Block → Next
-opened n b r bs = choose (eqb n (length bs) && ltb n b) (go (inside b r bs [])) (refuse 3)
+opened n b r bs = choose (eqb n (length bs) && ltb n b) (Ok (inside b r bs [])) (Err NotDue)
 
 -- an instruction joins the block, which has room for eight
 abbrev pub joined : Instruction → ℕ → ℕ → List Block → List Instruction → Next
 joined i b r bs is =
     choose (ltb (length is) max_instructions)
-    (choose (all_below r (instruction_registers i)) (go (inside b r bs (is ++ (i ∷ [])))) (refuse 4))
-    (refuse 3)
+    (choose (all_below r (instruction_registers i)) (Ok (inside b r bs (is ++ (i ∷ [])))) (Err NoRegister))
+    (Err NotDue)
 
 abbrev pub block_with : List Instruction → Ending → Block
 block_with is e = record { count = length is; instructions = padded max_instructions no_instruction is; ending = e }
@@ -78,14 +82,13 @@ block_with is e = record { count = length is; instructions = padded max_instruct
 abbrev pub closed : Ending → ℕ → ℕ → List Block → List Instruction → Next
 closed e b r bs is =
     choose (all_below r (ending_registers e))
-    (choose (all_below b (targets e)) (go (between b r (bs ++ (block_with is e ∷ [])))) (refuse 5))
-    (refuse 4)
+    (choose (all_below b (targets e)) (Ok (between b r (bs ++ (block_with is e ∷ [])))) (Err NoTarget))
+    (Err NoRegister)
 
--- 2 no line form; 3 a form not due here; 4 register not below R; 5 target not below B
+-- a form not due here, or a register not below R, or a target not below B, is refused
 unfoldable pub next : Progress → Line → Next
 unfolding arity
-next p line.NoForm = refuse 2
-next p (line.Graph b r) = at_start p (go (between b r []))
+next p (line.Graph b r) = at_start p (Ok (between b r []))
 next p (line.Block n) = at_block p (opened n)
 next p (line.Instruction i) = in_block p (joined i)
 next p (line.Goto t) = in_block p (closed (ending.Goto t))
@@ -94,20 +97,25 @@ next p line.Halt = in_block p (closed ending.Halt)
 
 -- ---- the lines of a text
 
--- the text has ended before line n: 3, unless every block is read
+-- the text has ended before line n: refused, unless every block is read
 abbrev pub finish : Progress → ℕ → Reading
-finish start n = refused 3 n
-finish (between b r bs) n = choose (eqb (length bs) b) (read (record { registers = r; blocks = bs })) (refused 3 n)
-finish (inside b r bs is) n = refused 3 n
+finish start n = refused NotDue n
+finish (between b r bs) n = choose (eqb (length bs) b) (Ok (record { registers = r; blocks = bs })) (refused NotDue n)
+finish (inside b r bs is) n = refused NotDue n
+
+-- a line has a form
+abbrev pub formed : Option Line → (Line → Next) → Next
+formed None k = Err NoForm
+formed (Some l) k = k l
 
 abbrev pub proceed : Next → ℕ → (Progress → Reading) → Reading
-proceed (go p) n k = k p
-proceed (refuse m) n k = refused m n
+proceed (Ok p) n k = k p
+proceed (Err e) n k = refused e n
 
--- the lines from number n on; the last part is what stands behind the last line feed, and 2 if there is anything
+-- the lines from number n on; the last part is what stands behind the last line feed, and no line form if there is anything
 -- (a text has at least that part: the first clause is never used)
 unfoldable pub walk : Progress → ℕ → List (List ℕ) → Reading
 unfolding next line_form
-walk p n [] = refused 3 n
-walk p n (l ∷ []) = choose (eqb (length l) 0) (finish p n) (refused 2 n)
-walk p n (l ∷ m ∷ ms) = proceed (next p (line_form l)) n (λ q. walk q (suc n) (m ∷ ms))
+walk p n [] = refused NotDue n
+walk p n (l ∷ []) = choose (eqb (length l) 0) (finish p n) (refused NoForm n)
+walk p n (l ∷ m ∷ ms) = proceed (formed (line_form l) (next p)) n (λ q. walk q (suc n) (m ∷ ms))

@@ -1,70 +1,25 @@
 // Reading a graph's text into its table. The text is read from front to back into a local table, which is copied at the end.
 #![tactic(auto)]
 
-ghost use Rattle.std.specs.Prelude.{◌≡◌, List, [], ◌∷◌, ℕ, ◌+◌, ◌*◌, ◌≤◌, ◌<◌, length, take, set};
-ghost use Rattle.std.proofs.lemmas.List.Edits.{sets};
-ghost use Rattle.word.specs.Word.{comparison_code};
-ghost use Rattle.cfg.specs.Layout.{max_blocks, max_instructions, head_words, graph_words, block_offset, code_offset, ending_offset, instruction_words};
-ghost use Rattle.cfg.specs.Table.{instruction_words_of};
-ghost use Rattle.cfg_text.specs.Walk.{Progress, start, between, inside, all_below, instruction_registers, next, finish};
+ghost use Rattle.std.specs.Prelude.{◌≡◌, List, ℕ, ◌≤◌, length};
+ghost use Rattle.cfg.specs.Table.{ending_words_of};
+ghost use Rattle.cfg_text.specs.Walk.{Progress, start, between, inside, all_below, instruction_registers, closed, joined, next, finish};
 ghost use Rattle.cfg_text.specs.Read.{max_text, read_text, read_answer, read_words};
-ghost use Rattle.cfg_text.specs.ReadSteps.{filled, StandsAfter, Advances, AnswersReading, misfit_of, ended_at, after_block, Room};
+ghost use Rattle.cfg_text.specs.ReadSteps.{filled, StandsAfter, Advances, AnswersReading, ending_check, FewBlocks};
 
-use cfg::{Block, Condition, Ending, GraphTable, Instruction};
+use cfg::{Block, Ending, GraphTable, Instruction};
 use cfg_line::Line;
+use refusal::Refusal;
+use state::{BlocksRead, OpenBlock, ReadState};
 use word::Code;
 
-#[derive(Clone, Copy)]
-pub enum ReadAnswer {
-    // The refusal's number and line; the line is 0 where no line is at fault.
-    Refused(u32, u32),
-    Read,
-}
+pub mod state; // state.rt: where reading stands
 
-#[derive(Clone, Copy)]
-pub enum Due {
-    Graph,
-    // A block line, or nothing where all blocks are read.
-    Block,
-    // An instruction or an ending.
-    Inside,
-}
-
-// What is due, B and R, how many blocks are read, how many instructions of the block.
-#[derive(Clone, Copy)]
-pub struct ReadState {
-    pub due: Due,
-    pub blocks: u32,
-    pub registers: u32,
-    pub done: u32,
-    pub count: u32,
-}
-
-#[derive(Clone, Copy)]
-pub enum LineStep {
-    Go(ReadState),
-    // The refusal, with its line.
-    Stop(ReadAnswer),
-}
-
-// The refusal of a line that is not due.
-fn misfit(l: Line) -> u32
-    ensures { result ≡ misfit_of l }
-{
-    let Line::NoForm = l else {
-        return 3;
-    };
-    2
-}
-
-fn put_four(words: &mut [u32], at: usize, a: u32, b: u32, c: u32, d: u32)
-    requires { at + 4 ≤ length words.old }
-    ensures { words.new ≡ sets words.old at (a ∷ b ∷ c ∷ d ∷ []) }
-{
-    words[at] = a;
-    words[at + 1] = b;
-    words[at + 2] = c;
-    words[at + 3] = d;
+// Why a text is refused, and the line at fault: 0 where no line is, as C is given it (gutkavu_read).
+#[derive(Clone, Copy, Debug, PartialEq, Eq)]
+pub struct ReadError {
+    pub refusal: Refusal,
+    pub line: u32,
 }
 
 // Its registers are below `registers`; the first operand of a set is a literal.
@@ -77,244 +32,219 @@ fn registers_below(i: Instruction, registers: u32) -> bool
     if i.code == Code::SET {
         return true;
     }
-    let operands = word::arity(i.code);
-    if operands == 0 {
-        return true;
+    // How many operands the code reads: a count, and no kind.
+    match word::arity(i.code) {
+        0 => true,
+        1 => i.a < registers,
+        _ => i.a < registers && i.b < registers,
     }
-    if registers <= i.a {
-        return false;
-    }
-    if operands == 1 {
-        return true;
-    }
-    i.b < registers
 }
 
-// Line n, where the graph line is due.
-fn at_start(l: Line, words: &mut [u32], n: u32) -> LineStep
-    requires { head_words ≤ length words.old }
-    ensures { words.old ≡ filled start → Advances n result words.new (next start l) }
+// Where the graph line is due.
+#[tactic(auto, using(crate::proofs::Stores::graph_words_lem, crate::proofs::Otherwise::not_graph), unfolding(crate::specs::Walk::next))]
+fn at_start(line: Line, words: &mut [u32; GraphTable::WORDS]) -> Result<ReadState, Refusal>
+    requires { FewBlocks line }
+    ensures { words.old ≡ filled start → Advances result words.new (next start line) }
 {
-    let Line::Graph(b, r) = l else {
-        return LineStep::Stop(ReadAnswer::Refused(misfit(l), n));
+    let Line::Graph(blocks, registers) = line else {
+        return Err(Refusal::NotDue);
     };
-    words[GraphTable::BLOCK_COUNT] = b;
-    words[GraphTable::REGISTER_COUNT] = r;
-    LineStep::Go(ReadState {
-        due: Due::Block,
-        blocks: b,
-        registers: r,
+    words[GraphTable::BLOCK_COUNT] = blocks;
+    words[GraphTable::REGISTER_COUNT] = registers;
+    Ok(ReadState::Between(BlocksRead {
+        blocks,
+        registers,
         done: 0,
-        count: 0,
-    })
+    }))
 }
 
-// Line n, where a block line is due, that of the next block below B.
-fn at_block(p: ReadState, l: Line, n: u32) -> LineStep
-    ensures { (b r : ℕ) (bs : List Block) (w : List ℕ) → StandsAfter p w (between b r bs) → Advances n result w (next (between b r bs) l) }
+// Where a block line is due, that of the next block below B.
+#[tactic(auto, using(crate::proofs::Otherwise::not_block, crate::proofs::Steps::other_block, crate::proofs::Steps::past_block), unfolding(crate::specs::Walk::next))]
+fn at_block(before: BlocksRead, line: Line) -> Result<ReadState, Refusal>
+    ensures { (b r : ℕ) (bs : List Block) (w : List ℕ)
+        → StandsAfter (ReadState.Between before) w (between b r bs)
+        → Advances result w (next (between b r bs) line) }
 {
-    let Line::Block(k) = l else {
-        return LineStep::Stop(ReadAnswer::Refused(misfit(l), n));
+    let Line::Block(k) = line else {
+        return Err(Refusal::NotDue);
     };
-    if k != p.done {
-        return LineStep::Stop(ReadAnswer::Refused(3, n));
+    if k != before.done || before.blocks <= k {
+        return Err(Refusal::NotDue);
     }
-    if p.blocks <= k {
-        return LineStep::Stop(ReadAnswer::Refused(3, n));
-    }
-    LineStep::Go(ReadState {
-        due: Due::Inside,
-        blocks: p.blocks,
-        registers: p.registers,
-        done: p.done,
-        count: 0,
-    })
-}
-
-// The block's count and its ending: kind, comparison, a, b, t, f. The next block line is due.
-fn end_block(
-    p: ReadState,
-    words: &mut [u32],
-    kind: u32,
-    c: u32,
-    a: u32,
-    b: u32,
-    t: u32,
-    f: u32,
-) -> LineStep
-    requires { (p.done < max_blocks) × (length words.old ≡ graph_words) }
-    ensures { (result ≡ LineStep.Go (after_block p))
-        × (words.new ≡ ended_at words.old p.done p.count (kind ∷ c ∷ a ∷ b ∷ t ∷ f ∷ [])) }
-{
-    let start = GraphTable::HEAD + Block::WORDS * (p.done as usize);
-    words[start] = p.count;
-    let at = start + Block::ENDING;
-    put_four(words, at, kind, c, a, b);
-    words[at + Ending::TRUE] = t;
-    words[at + Ending::FALSE] = f;
-    LineStep::Go(ReadState {
-        due: Due::Block,
-        blocks: p.blocks,
-        registers: p.registers,
-        done: p.done + 1,
-        count: 0,
-    })
+    let count = 0;
+    Ok(ReadState::Inside(OpenBlock { before, count }))
 }
 
 // An instruction joins the block, which has room for eight.
-#[tactic(auto, using(crate::proofs::Steps::ninth), unfolding(crate::specs::Walk::next))]
-fn join(p: ReadState, i: Instruction, words: &mut [u32], n: u32) -> LineStep
-    requires { (p.done < max_blocks) × (length words.old ≡ graph_words) }
+fn join(
+    block: OpenBlock,
+    i: Instruction,
+    words: &mut [u32; GraphTable::WORDS],
+) -> Result<ReadState, Refusal>
     ensures { (b r : ℕ) (bs : List Block) (is : List Instruction)
-        → StandsAfter p words.old (inside b r bs is)
-        → Advances n result words.new (next (inside b r bs is) (Line.Instruction i)) }
+        → StandsAfter (ReadState.Inside block) words.old (inside b r bs is)
+        → Advances result words.new (joined i b r bs is) }
 {
-    if Block::INSTRUCTIONS <= (p.count as usize) {
-        return LineStep::Stop(ReadAnswer::Refused(3, n));
+    let OpenBlock { before, count } = block;
+    if Block::INSTRUCTIONS <= count as usize {
+        return Err(Refusal::NotDue);
     }
-    if registers_below(i, p.registers) {
-        let start = GraphTable::HEAD + Block::WORDS * (p.done as usize);
-        let at = start + Block::CODE + Instruction::WORDS * (p.count as usize);
-        put_four(words, at, i.code, i.d, i.a, i.b);
-        return LineStep::Go(ReadState {
-            due: Due::Inside,
-            blocks: p.blocks,
-            registers: p.registers,
-            done: p.done,
-            count: p.count + 1,
-        });
+    if !registers_below(i, before.registers) {
+        return Err(Refusal::NoRegister);
     }
-    LineStep::Stop(ReadAnswer::Refused(4, n))
+    let start = GraphTable::HEAD + Block::WORDS * before.done as usize;
+    let at = start + Block::CODE + Instruction::WORDS * count as usize;
+    words[at..at + Instruction::WORDS].copy_from_slice(&[i.code, i.d, i.a, i.b]);
+    let count = count + 1;
+    Ok(ReadState::Inside(OpenBlock { before, count }))
 }
 
-fn goto(p: ReadState, t: u32, words: &mut [u32], n: u32) -> LineStep
-    requires { (p.done < max_blocks) × (length words.old ≡ graph_words) }
+// An ending's registers are below R, and then its targets below B.
+fn check(before: BlocksRead, ending: Ending) -> Result<(), Refusal>
+    ensures { result ≡ ending_check before.blocks before.registers ending }
+{
+    match ending {
+        Ending::Goto(t) => {
+            if before.blocks <= t {
+                return Err(Refusal::NoTarget);
+            }
+        }
+        Ending::Ite(c, t, f) => {
+            if before.registers <= c.a || before.registers <= c.b {
+                return Err(Refusal::NoRegister);
+            }
+            if before.blocks <= t || before.blocks <= f {
+                return Err(Refusal::NoTarget);
+            }
+        }
+        Ending::Halt => {}
+    }
+    Ok(())
+}
+
+// Kind, comparison, a, b, t, f.
+fn ending_words(ending: Ending) -> [u32; Ending::WORDS]
+    ensures { result ≡ ending_words_of ending }
+{
+    match ending {
+        Ending::Goto(t) => [Ending::GOTO, 0, 0, 0, t, 0],
+        Ending::Ite(c, t, f) => [Ending::ITE, c.comparison.code(), c.a, c.b, t, f],
+        Ending::Halt => [Ending::HALT, 0, 0, 0, 0, 0],
+    }
+}
+
+// The block's count and its ending. The next block line is due.
+fn close(
+    block: OpenBlock,
+    ending: Ending,
+    words: &mut [u32; GraphTable::WORDS],
+) -> Result<ReadState, Refusal>
     ensures { (b r : ℕ) (bs : List Block) (is : List Instruction)
-        → StandsAfter p words.old (inside b r bs is)
-        → Advances n result words.new (next (inside b r bs is) (Line.Goto t)) }
+        → StandsAfter (ReadState.Inside block) words.old (inside b r bs is)
+        → Advances result words.new (closed ending b r bs is) }
 {
-    if p.blocks <= t {
-        return LineStep::Stop(ReadAnswer::Refused(5, n));
-    }
-    end_block(p, words, Ending::GOTO, 0, 0, 0, t, 0)
+    let OpenBlock { before, count } = block;
+    check(before, ending)?;
+    let start = GraphTable::HEAD + Block::WORDS * before.done as usize;
+    words[start] = count;
+    let at = start + Block::ENDING;
+    words[at..at + Ending::WORDS].copy_from_slice(&ending_words(ending));
+    Ok(ReadState::Between(BlocksRead {
+        blocks: before.blocks,
+        registers: before.registers,
+        done: before.done + 1,
+    }))
 }
 
-// Its registers, then its targets.
-fn ite(p: ReadState, c: Condition, t: u32, f: u32, words: &mut [u32], n: u32) -> LineStep
-    requires { (p.done < max_blocks) × (length words.old ≡ graph_words) }
+// Where an instruction or an ending is due.
+#[tactic(auto, unfolding(crate::specs::Walk::next))]
+fn in_block(
+    block: OpenBlock,
+    line: Line,
+    words: &mut [u32; GraphTable::WORDS],
+) -> Result<ReadState, Refusal>
     ensures { (b r : ℕ) (bs : List Block) (is : List Instruction)
-        → StandsAfter p words.old (inside b r bs is)
-        → Advances n result words.new (next (inside b r bs is) (Line.Ite c t f)) }
+        → StandsAfter (ReadState.Inside block) words.old (inside b r bs is)
+        → Advances result words.new (next (inside b r bs is) line) }
 {
-    if p.registers <= c.a {
-        return LineStep::Stop(ReadAnswer::Refused(4, n));
-    }
-    if p.registers <= c.b {
-        return LineStep::Stop(ReadAnswer::Refused(4, n));
-    }
-    if p.blocks <= t {
-        return LineStep::Stop(ReadAnswer::Refused(5, n));
-    }
-    if p.blocks <= f {
-        return LineStep::Stop(ReadAnswer::Refused(5, n));
-    }
-    let k = c.comparison;
-    end_block(p, words, Ending::ITE, k.code(), c.a, c.b, t, f)
-}
-
-// Line n, where an instruction or an ending is due.
-fn in_block(p: ReadState, l: Line, words: &mut [u32], n: u32) -> LineStep
-    requires { (p.done < max_blocks) × (length words.old ≡ graph_words) }
-    ensures { (b r : ℕ) (bs : List Block) (is : List Instruction)
-        → StandsAfter p words.old (inside b r bs is)
-        → Advances n result words.new (next (inside b r bs is) l) }
-{
-    match l {
-        Line::Instruction(i) => join(p, i, words, n),
-        Line::Goto(t) => goto(p, t, words, n),
-        Line::Ite(c, t, f) => ite(p, c, t, f, words, n),
-        Line::Halt => end_block(p, words, Ending::HALT, 0, 0, 0, 0, 0),
-        Line::Graph(_, _) => LineStep::Stop(ReadAnswer::Refused(3, n)),
-        Line::Block(_) => LineStep::Stop(ReadAnswer::Refused(3, n)),
-        Line::NoForm => LineStep::Stop(ReadAnswer::Refused(2, n)),
+    match line {
+        Line::Instruction(i) => join(block, i, words),
+        Line::Goto(t) => close(block, Ending::Goto(t), words),
+        Line::Ite(c, t, f) => close(block, Ending::Ite(c, t, f), words),
+        Line::Halt => close(block, Ending::Halt, words),
+        Line::Graph(_, _) | Line::Block(_) => Err(Refusal::NotDue),
     }
 }
 
-// Line n, where it is due.
-fn step(p: ReadState, l: Line, words: &mut [u32], n: u32) -> LineStep
-    requires { Room p words.old }
-    ensures { (q : Progress) → StandsAfter p words.old q → Advances n result words.new (next q l) }
+// A line, where it is due.
+fn step(
+    p: ReadState,
+    line: Line,
+    words: &mut [u32; GraphTable::WORDS],
+) -> Result<ReadState, Refusal>
+    requires { FewBlocks line }
+    ensures { (q : Progress) → StandsAfter p words.old q → Advances result words.new (next q line) }
 {
-    let due = p.due;
-    match due {
-        Due::Graph => at_start(l, words, n),
-        Due::Block => at_block(p, l, n),
-        Due::Inside => in_block(p, l, words, n),
+    match p {
+        ReadState::Start => at_start(line, words),
+        ReadState::Between(before) => at_block(before, line),
+        ReadState::Inside(block) => in_block(block, line, words),
     }
 }
 
-// The text has ended before line n.
-fn at_end(p: ReadState, n: u32) -> ReadAnswer
-    ensures { (q : Progress) (w : List ℕ) → StandsAfter p w q → AnswersReading result w (finish q n) }
+// The text has ended before this line.
+fn at_end(p: ReadState, line: u32) -> Result<(), ReadError>
+    ensures { (q : Progress) (w : List ℕ) → StandsAfter p w q → AnswersReading result w (finish q line) }
 {
-    let due = p.due;
-    let Due::Block = due else {
-        return ReadAnswer::Refused(3, n);
-    };
-    if p.done == p.blocks {
-        return ReadAnswer::Read;
+    match p {
+        ReadState::Between(before) if before.done == before.blocks => Ok(()),
+        _ => Err(ReadError {
+            refusal: Refusal::NotDue,
+            line,
+        }),
     }
-    ReadAnswer::Refused(3, n)
 }
 
 // The lines in order, each stored.
-fn read_lines(text: &[u8], words: &mut [u32]) -> ReadAnswer
+fn read_lines(text: &[u8], words: &mut [u32; GraphTable::WORDS]) -> Result<(), ReadError>
     requires { (length text.now ≤ max_text) × (words.old ≡ filled start) }
     ensures { AnswersReading result words.new (read_text text.now) }
 {
-    let mut p = ReadState {
-        due: Due::Graph,
-        blocks: 0,
-        registers: 0,
-        done: 0,
-        count: 0,
-    };
+    let mut p = ReadState::Start;
     let mut at = 0;
-    let mut n: u32 = 1;
+    let mut line: u32 = 1;
+    // A `while`: where a line begins is known once the one before is read.
     while at < text.len() {
-        let parsed = cfg_line::parse_line(text, at);
-        let l = parsed.line;
-        let moved = step(p, l, words, n);
-        match moved {
-            LineStep::Go(q) => {
-                p = q;
-            }
-            LineStep::Stop(refusal) => {
-                return refusal;
-            }
-        }
+        let Some(parsed) = cfg_line::parse_line(text, at) else {
+            let refusal = Refusal::NoForm;
+            return Err(ReadError { refusal, line });
+        };
+        p = step(p, parsed.line, words).map_err(|refusal| ReadError { refusal, line })?;
         at = parsed.next;
-        n += 1;
+        line += 1;
     }
-    at_end(p, n)
+    at_end(p, line)
 }
 
 // On a refusal the table holds what it held; words past its length are neither read nor changed.
-pub fn read_text(text: &[u8], table: &mut [u32]) -> ReadAnswer
+pub fn read_text(text: &[u8], table: &mut [u32]) -> Result<(), ReadError>
     ensures value { result ≡ read_answer text.now table.old }
     ensures table_after { table.new ≡ read_words text.now table.old }
 {
     if GraphTable::TEXT < text.len() {
-        return ReadAnswer::Refused(1, 0);
+        return Err(ReadError {
+            refusal: Refusal::LongText,
+            line: 0,
+        });
     }
     if table.len() < GraphTable::WORDS {
-        return ReadAnswer::Refused(7, 0);
+        return Err(ReadError {
+            refusal: Refusal::ShortBuffer,
+            line: 0,
+        });
     }
-    let mut words = [0u32; GraphTable::WORDS];
-    let answer = read_lines(text, &mut words);
-    let ReadAnswer::Read = answer else {
-        return answer;
-    };
-    buffers::copy_words(table, 0, &words);
-    ReadAnswer::Read
+    let mut words = [0; GraphTable::WORDS];
+    read_lines(text, &mut words)?;
+    table[..GraphTable::WORDS].copy_from_slice(&words);
+    Ok(())
 }

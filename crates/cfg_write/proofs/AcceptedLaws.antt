@@ -23,20 +23,24 @@ use Rattle.cfg_line.specs.declared.Line.{Line}
 use Rattle.cfg_line.specs.declared.Line.TheVariants as line
 use Rattle.cfg_line.specs.Form.{line_form}
 use Rattle.cfg_text.proofs.LineSteps.{chosen}
-use Rattle.cfg_text.specs.Walk.{Progress, start, between, inside, Next, go, refuse, refused, read, all_below, instruction_registers, ending_registers, opened, joined, block_with, closed, next, finish, proceed, walk}
+use Rattle.std.specs.Prelude.{Option, Some, None, Ok, Err}
+use Rattle.refusal.specs.declared.Refusal.{Refusal}
+use Rattle.refusal.specs.declared.Refusal.TheVariants.{NoForm, NotDue, NoRegister, NoTarget}
+use Rattle.cfg_text.specs.declared.ReadError.{ReadError}
+use Rattle.cfg_text.specs.Walk.{Progress, start, between, inside, Next, Reading, refused, all_below, instruction_registers, ending_registers, opened, joined, block_with, closed, next, finish, formed, proceed, walk}
 use Rattle.cfg_write.specs.Write.{ending_line, block_lines, lines_from, lines_of}
 use Rattle.cfg_write.proofs.NameLaws.{KnownCode, Shape, literal, nothing, one, two, shape}
 use Rattle.cfg_write.proofs.LineLaws.{Formed, FormedInstruction, FormedGraph, first_small}
-use Rattle.cfg_write.proofs.TextLaws.{line_bytes, LineWritten, line_written}
+use Rattle.cfg_write.proofs.TextLaws.{line_bytes, line_written}
 use Rattle.cfg_write.proofs.Whole.{proper}
 
 -- ---- refusals lead nowhere
 
-refuse_go : {Y : Type 0} (k : ℕ) (q : Progress) → refuse k ≡ go q → Y
-refuse_go k q e = absurd (let z : ◌≡◌ {A = ℕ} 0 1 = cc in omega arith)
+refuse_go : {Y : Type 0} {k : Refusal} {q : Progress} → ◌≡◌ {A = Next} (Err k) (Ok q) → Y
+refuse_go e = absurd (cc)
 
-refused_read : {Y : Type 0} (k n : ℕ) (g : CFG) → refused k n ≡ read g → Y
-refused_read k n g e = absurd (let z : ◌≡◌ {A = ℕ} 0 1 = cc in omega arith)
+refused_read : {Y : Type 0} {e : ReadError} {g : CFG} → ◌≡◌ {A = Reading} (Err e) (Ok g) → Y
+refused_read e = absurd (cc)
 
 -- ---- the lines that led to where reading stands, and what is known there
 
@@ -171,10 +175,10 @@ record Step (p : Progress) (l : Line) (q : Progress) : Type 0 where
   lines : so_far q ≡ so_far p ++ (l ∷ [])
   known : Known q
 
-went : (p q : Progress) → go p ≡ go q → p ≡ q
+went : (p q : Progress) → ◌≡◌ {A = Next} (Ok p) (Ok q) → p ≡ q
 went p q e = cc
 
-step_to : (p m q : Progress) (l : Line) → go m ≡ go q → Step p l m → Step p l q
+step_to : (p m q : Progress) (l : Line) → ◌≡◌ {A = Next} (Ok m) (Ok q) → Step p l m → Step p l q
 step_to p m q l e s = rw (went m q e) at s
 
 -- a block's ending
@@ -198,18 +202,18 @@ module _ (e : Ending) (b r : ℕ) (bs : List Block) (is : List Instruction) (h :
         properly = every_snoc proper bs (block_with is e) h.outer.properly (proper_from is e h.few h.words);
       }
 
-  close_back : (q : Progress) → closed e b r bs is ≡ go q → Step (inside b r bs is) (ending_line e) q
+  close_back : (q : Progress) → closed e b r bs is ≡ Ok q → Step (inside b r bs is) (ending_line e) q
   close_back q g =
-      let after = go (between b r (bs ++ (block_with is e ∷ []))) in
-      let c = chosen (all_below r (ending_registers e)) (choose (all_below b (targets e)) after (refuse 5)) 4 q g in
-      let d = chosen (all_below b (targets e)) after 5 q c.1 in
+      let after : Next = Ok (between b r (bs ++ (block_with is e ∷ []))) in
+      let c = chosen (all_below r (ending_registers e)) (choose (all_below b (targets e)) after (Err NoTarget)) NoRegister q g in
+      let d = chosen (all_below b (targets e)) after NoTarget q c.1 in
       step_to (inside b r bs is) (between b r (bs ++ (block_with is e ∷ []))) q (ending_line e) d.1
       (record { lines = closed_lines; known = closed_known c.0 d.0 })
 
 -- a block line
-open_back : (n b r : ℕ) (bs : List Block) (q : Progress) → Between b r bs → opened n b r bs ≡ go q → Step (between b r bs) (line.Block n) q
+open_back : (n b r : ℕ) (bs : List Block) (q : Progress) → Between b r bs → opened n b r bs ≡ Ok q → Step (between b r bs) (line.Block n) q
 open_back n b r bs q h g =
-    let c = chosen (eqb n (length bs) && ltb n b) (go (inside b r bs [])) 3 q g in
+    let c = chosen (eqb n (length bs) && ltb n b) (Ok (inside b r bs [])) NotDue q g in
     let e = eqb-true n (length bs) (and_left (eqb n (length bs)) (ltb n b) c.0) in
     let l = ltb-true n b (and_right (eqb n (length bs)) (ltb n b) c.0) in
     step_to (between b r bs) (inside b r bs []) q (line.Block n) c.1
@@ -218,11 +222,11 @@ open_back n b r bs q h g =
 -- an instruction's line
 join_back :
     (i : Instruction) (b r : ℕ) (bs : List Block) (is : List Instruction) (q : Progress) → FormedInstruction i → Inside b r bs is
-    → joined i b r bs is ≡ go q → Step (inside b r bs is) (line.Instruction i) q
+    → joined i b r bs is ≡ Ok q → Step (inside b r bs is) (line.Instruction i) q
 join_back i b r bs is q f h g =
-    let after = go (inside b r bs (is ++ (i ∷ []))) in
-    let c = chosen (ltb (length is) max_instructions) (choose (all_below r (instruction_registers i)) after (refuse 4)) 3 q g in
-    let d = chosen (all_below r (instruction_registers i)) after 4 q c.1 in
+    let after : Next = Ok (inside b r bs (is ++ (i ∷ []))) in
+    let c = chosen (ltb (length is) max_instructions) (choose (all_below r (instruction_registers i)) after (Err NoRegister)) NotDue q g in
+    let d = chosen (all_below r (instruction_registers i)) after NoRegister q c.1 in
     let l = ltb-true (length is) max_instructions c.0 in
     let n = length-append is (i ∷ []) in
     step_to (inside b r bs is) (inside b r bs (is ++ (i ∷ []))) q (line.Instruction i) d.1
@@ -240,28 +244,27 @@ join_back i b r bs is q f h g =
           };
     }
 
-step_back : (p : Progress) (l : Line) (q : Progress) → Formed l → Known p → next p l ≡ go q → Step p l q
+step_back : (p : Progress) (l : Line) (q : Progress) → Formed l → Known p → next p l ≡ Ok q → Step p l q
 unfolding next lines_from
-step_back p line.NoForm q f h g = refuse_go 2 q g
 step_back start (line.Graph b r) q f h g =
     step_to start (between b r []) q (line.Graph b r) g
     (record { lines = refl; known = record { head = f; few = omega arith; valid = refl; properly = refl } })
-step_back (between b r bs) (line.Graph c s) q f h g = refuse_go 3 q g
-step_back (inside b r bs is) (line.Graph c s) q f h g = refuse_go 3 q g
-step_back start (line.Block n) q f h g = refuse_go 3 q g
+step_back (between b r bs) (line.Graph c s) q f h g = refuse_go g
+step_back (inside b r bs is) (line.Graph c s) q f h g = refuse_go g
+step_back start (line.Block n) q f h g = refuse_go g
 step_back (between b r bs) (line.Block n) q f h g = open_back n b r bs q h g
-step_back (inside b r bs is) (line.Block n) q f h g = refuse_go 3 q g
-step_back start (line.Instruction i) q f h g = refuse_go 3 q g
-step_back (between b r bs) (line.Instruction i) q f h g = refuse_go 3 q g
+step_back (inside b r bs is) (line.Block n) q f h g = refuse_go g
+step_back start (line.Instruction i) q f h g = refuse_go g
+step_back (between b r bs) (line.Instruction i) q f h g = refuse_go g
 step_back (inside b r bs is) (line.Instruction i) q f h g = join_back i b r bs is q f h g
-step_back start (line.Goto t) q f h g = refuse_go 3 q g
-step_back (between b r bs) (line.Goto t) q f h g = refuse_go 3 q g
+step_back start (line.Goto t) q f h g = refuse_go g
+step_back (between b r bs) (line.Goto t) q f h g = refuse_go g
 step_back (inside b r bs is) (line.Goto t) q f h g = close_back (ending.Goto t) b r bs is h q g
-step_back start (line.Ite c t e) q f h g = refuse_go 3 q g
-step_back (between b r bs) (line.Ite c t e) q f h g = refuse_go 3 q g
+step_back start (line.Ite c t e) q f h g = refuse_go g
+step_back (between b r bs) (line.Ite c t e) q f h g = refuse_go g
 step_back (inside b r bs is) (line.Ite c t e) q f h g = close_back (ending.Ite c t e) b r bs is h q g
-step_back start line.Halt q f h g = refuse_go 3 q g
-step_back (between b r bs) line.Halt q f h g = refuse_go 3 q g
+step_back start line.Halt q f h g = refuse_go g
+step_back (between b r bs) line.Halt q f h g = refuse_go g
 step_back (inside b r bs is) line.Halt q f h g = close_back ending.Halt b r bs is h q g
 
 -- ---- the whole text
@@ -294,9 +297,9 @@ graph_from b r bs e h =
     (le-leb r max_registers h.head.few_registers))
     (rw e h.valid)
 
-finish_back : (p : Progress) (n : ℕ) (g : CFG) (l : List ℕ) → Known p → finish p n ≡ read g → l ≡ [] → Accepted g (so_far p) (l ∷ [])
-finish_back start n g l h e z = refused_read 3 n g e
-finish_back (inside b r bs is) n g l h e z = refused_read 3 n g e
+finish_back : (p : Progress) (n : ℕ) (g : CFG) (l : List ℕ) → Known p → finish p n ≡ Ok g → l ≡ [] → Accepted g (so_far p) (l ∷ [])
+finish_back start n g l h e z = refused_read e
+finish_back (inside b r bs is) n g l h e z = refused_read e
 finish_back (between b r bs) n g l h e z = by (eqb (length bs) b) refl e
   where
     here : CFG
@@ -315,41 +318,44 @@ finish_back (between b r bs) n g l h e z = by (eqb (length bs) b) refl e
         } in
         rw q at a
 
-    by : (t : Bool) → eqb (length bs) b ≡ t → choose t (read here) (refused 3 n) ≡ read g → Accepted g (so_far (between b r bs)) (l ∷ [])
+    by : (t : Bool) → eqb (length bs) b ≡ t → choose t (Ok here) (refused NotDue n) ≡ Ok g → Accepted g (so_far (between b r bs)) (l ∷ [])
     by true t x = made t (cc)
-    by false t x = refused_read 3 n g x
+    by false t x = refused_read x
 
--- a line that led on has a form
-formed_line : (p q : Progress) (s : List ℕ) → next p (line_form s) ≡ go q → LineWritten s (line_form s)
-unfolding next
-formed_line p q s e = line_written s (λ n. refuse_go 2 q (sym (ap (next p) n) ∙ e))
-
-walk_back : (p : Progress) (n : ℕ) (parts : List (List ℕ)) (g : CFG) → Known p → walk p n parts ≡ read g → Accepted g (so_far p) parts
+walk_back : (p : Progress) (n : ℕ) (parts : List (List ℕ)) (g : CFG) → Known p → walk p n parts ≡ Ok g → Accepted g (so_far p) parts
 unfolding walk
-walk_back p n [] g h e = refused_read 3 n g e
+walk_back p n [] g h e = refused_read e
 walk_back p n (l ∷ []) g h e = by (eqb (length l) 0) refl e
   where
-    by : (t : Bool) → eqb (length l) 0 ≡ t → choose t (finish p n) (refused 2 n) ≡ read g → Accepted g (so_far p) (l ∷ [])
+    by : (t : Bool) → eqb (length l) 0 ≡ t → choose t (finish p n) (refused NoForm n) ≡ Ok g → Accepted g (so_far p) (l ∷ [])
     by true t x = finish_back p n g l h x (no_bytes l t)
-    by false t x = refused_read 2 n g x
-walk_back p n (l ∷ m ∷ ms) g h e = by (next p (line_form l)) refl (λ q. walk_back q (suc n) (m ∷ ms) g) e
+    by false t x = refused_read x
+walk_back p n (l ∷ m ∷ ms) g h e = by (line_form l) refl (λ q. walk_back q (suc n) (m ∷ ms) g) e
   where
-    by :
-        (x : Next) → next p (line_form l) ≡ x
-        → ((q : Progress) → Known q → walk q (suc n) (m ∷ ms) ≡ read g → Accepted g (so_far q) (m ∷ ms))
-        → proceed x n (λ q. walk q (suc n) (m ∷ ms)) ≡ read g → Accepted g (so_far p) (l ∷ m ∷ ms)
-    by (refuse k) t ih x = refused_read k n g x
-    by (go q) t ih x =
-        let w = formed_line p q l t in
-        let s = step_back p (line_form l) q w.formed h t in
+    on :
+        (y : Line) → line_form l ≡ Some y → (x : Next) → next p y ≡ x
+        → ((q : Progress) → Known q → walk q (suc n) (m ∷ ms) ≡ Ok g → Accepted g (so_far q) (m ∷ ms))
+        → proceed x n (λ q. walk q (suc n) (m ∷ ms)) ≡ Ok g → Accepted g (so_far p) (l ∷ m ∷ ms)
+    on y f (Err k) t ih x = refused_read x
+    on y f (Ok q) t ih x =
+        let w = line_written l f in
+        let s = step_back p y q w.formed h t in
         let a = ih q s.known x in
         record {
-          rest = line_form l ∷ a.rest;
+          rest = y ∷ a.rest;
           text = ap₂ (λ (k : List ℕ) (ks : List (List ℕ)). k ∷ ks) w.text a.text;
-          lines = a.lines ∙ (ap (λ (ls : List Line). ls ++ a.rest) s.lines ∙ append_assoc (so_far p) (line_form l ∷ []) a.rest);
+          lines = a.lines ∙ (ap (λ (ls : List Line). ls ++ a.rest) s.lines ∙ append_assoc (so_far p) (y ∷ []) a.rest);
           valid = a.valid;
           properly = a.properly;
         }
 
-pub accepted : (n : ℕ) (parts : List (List ℕ)) (g : CFG) → walk start n parts ≡ read g → Accepted g [] parts
+    -- a line that led on has a form
+    by :
+        (o : Option Line) → line_form l ≡ o
+        → ((q : Progress) → Known q → walk q (suc n) (m ∷ ms) ≡ Ok g → Accepted g (so_far q) (m ∷ ms))
+        → proceed (formed o (next p)) n (λ q. walk q (suc n) (m ∷ ms)) ≡ Ok g → Accepted g (so_far p) (l ∷ m ∷ ms)
+    by None f ih x = refused_read x
+    by (Some y) f ih x = on y f (next p y) refl ih x
+
+pub accepted : (n : ℕ) (parts : List (List ℕ)) (g : CFG) → walk start n parts ≡ Ok g → Accepted g [] parts
 accepted n parts g e = walk_back start n parts g tt e

@@ -18,11 +18,12 @@ use Rattle.cfg.specs.declared.Instruction.{Instruction}
 use Rattle.cfg.specs.Graph.{CFG, valid_graph}
 use Rattle.cfg.specs.Table.{graph_table_of, instruction_at, block_at, graph_of, admitted_graph}
 use Rattle.cfg.proofs.Admitted.{valid_graph_lem, admitted_halves}
-use Rattle.cfg_text.specs.Walk.{Reading, refused, read}
+use Rattle.std.specs.Prelude.{Result, Ok, Err}
+use Rattle.refusal.specs.declared.Refusal.TheVariants.{LongText, ShortBuffer, BadGraph, ShortOutput}
+use Rattle.cfg_text.specs.Walk.{Reading, refused}
 use Rattle.cfg_text.specs.Read.{max_text, read_text, reading, reading_answer, words_after, read_answer, read_words}
-use Rattle.cfg_text.specs.declared.ReadAnswer.TheVariants.{Refused, Read}
 use Rattle.cfg_write.specs.Write.{text_of, bytes_after, write_answer, write_bytes}
-use Rattle.cfg_write.specs.declared.WriteAnswer.TheVariants as write
+use Rattle.cfg_write.specs.declared.WriteError.{WriteError}
 use Rattle.cfg_write.proofs.Whole.{all_words, proper, Whole}
 use Rattle.cfg_write.proofs.TableLaws.{table_read}
 
@@ -85,26 +86,23 @@ pub record Took (text table : List ℕ) : Type 0 where
   pub graph : CFG
   pub short : length text ≤ max_text
   pub long : graph_words ≤ length table
-  pub took : read_text text ≡ read graph
+  pub took : read_text text ≡ Ok graph
 
-not_refused : {Y : Type 0} (k n : ℕ) → Refused k n ≡ Read → Y
-not_refused k n e = absurd (let z : ◌≡◌ {A = ℕ} 0 1 = cc in omega arith)
-
-pub took_of : (text table : List ℕ) → read_answer text table ≡ Read → Took text table
+pub took_of : (text table : List ℕ) → read_answer text table ≡ Ok tt → Took text table
 unfolding read_answer reading
 took_of text table h = by (ltb max_text (length text)) refl (ltb (length table) graph_words) refl (read_text text) refl h
   where
     by :
         (p : Bool) → ltb max_text (length text) ≡ p → (q : Bool) → ltb (length table) graph_words ≡ q → (x : Reading) → read_text text ≡ x
-        → reading_answer (choose p (refused 1 0) (choose q (refused 7 0) x)) ≡ Read → Took text table
-    by true e q d x c h = not_refused 1 0 h
-    by false e true d x c h = not_refused 7 0 h
-    by false e false d (refused k n) c h = not_refused k n h
-    by false e false d (read g) c h =
+        → reading_answer (choose p (refused LongText 0) (choose q (refused ShortBuffer 0) x)) ≡ Ok tt → Took text table
+    by true e q d x c h = absurd (cc)
+    by false e true d x c h = absurd (cc)
+    by false e false d (Err k) c h = absurd (cc)
+    by false e false d (Ok g) c h =
         record { graph = g; short = ltb-false max_text (length text) e; long = ltb-false (length table) graph_words d; took = c }
 
-module _ (text table : List ℕ) (g : CFG) (short : length text ≤ max_text) (long : graph_words ≤ length table) (e : read_text text ≡ read g) where
-  pub answer_read_lem : read_answer text table ≡ Read
+module _ (text table : List ℕ) (g : CFG) (short : length text ≤ max_text) (long : graph_words ≤ length table) (e : read_text text ≡ Ok g) where
+  pub answer_read_lem : read_answer text table ≡ Ok tt
   unfolding read_answer
   answer_read_lem = ap reading_answer (reading_is text table short long ∙ e)
 
@@ -117,9 +115,9 @@ module _ (text table : List ℕ) (g : CFG) (short : length text ≤ max_text) (l
 pub answer_is :
     (table out : List ℕ)
     → write_answer table out
-    ≡ choose (ltb (length table) graph_words) (write.Refused 7 0)
-    (choose (not (admitted_graph table)) (write.Refused 6 0)
-    (choose (ltb (length out) (length (text_of (graph_of table)))) (write.Refused 8 (length (text_of (graph_of table)))) (write.Written (length (text_of (graph_of table))))))
+    ≡ choose (ltb (length table) graph_words) (Err (record { refusal = ShortBuffer; length = 0 }))
+    (choose (not (admitted_graph table)) (Err (record { refusal = BadGraph; length = 0 }))
+    (choose (ltb (length out) (length (text_of (graph_of table)))) (Err (record { refusal = ShortOutput; length = length (text_of (graph_of table)) })) (Ok (length (text_of (graph_of table))))))
 unfolding write_answer
 answer_is table out = refl
 
@@ -128,7 +126,7 @@ unfolding write_bytes
 bytes_are table out = refl
 
 module _ (g : CFG) (s out : List ℕ) (w : Whole g) (room : length (text_of g) ≤ length out) where
-  pub answer_written : write_answer (graph_table_of g ++ s) out ≡ write.Written (length (text_of g))
+  pub answer_written : write_answer (graph_table_of g ++ s) out ≡ Ok (length (text_of g))
   answer_written =
       answer_is (graph_table_of g ++ s) out
       ∙ rw (le-ltb (length (graph_table_of g ++ s)) graph_words (begins_long g s w), begins_admitted g s w, begins_graph g s w, le-ltb (length out) (length (text_of g)) room)
@@ -142,23 +140,20 @@ pub record Wrote (table out : List ℕ) (n : ℕ) : Type 0 where
   pub fits : length (text_of (graph_of table)) ≤ length out
   pub size : n ≡ length (text_of (graph_of table))
 
-not_written : {Y : Type 0} (k m n : ℕ) → write.Refused k m ≡ write.Written n → Y
-not_written k m n e = absurd (let z : ◌≡◌ {A = ℕ} 0 1 = cc in omega arith)
-
-pub wrote_of : (table out : List ℕ) (n : ℕ) → write_answer table out ≡ write.Written n → Wrote table out n
+pub wrote_of : (table out : List ℕ) (n : ℕ) → write_answer table out ≡ Ok n → Wrote table out n
 wrote_of table out n h = by (ltb (length table) graph_words) (admitted_graph table) refl (ltb (length out) (length (text_of (graph_of table)))) refl (sym (answer_is table out) ∙ h)
   where
     by :
         (p : Bool) (q : Bool) → admitted_graph table ≡ q → (x : Bool) → ltb (length out) (length (text_of (graph_of table))) ≡ x
-        → choose p (write.Refused 7 0) (choose (not q) (write.Refused 6 0) (choose x (write.Refused 8 (length (text_of (graph_of table)))) (write.Written (length (text_of (graph_of table)))))) ≡ write.Written n
+        → choose {X = Result ℕ WriteError} p (Err (record { refusal = ShortBuffer; length = 0 })) (choose (not q) (Err (record { refusal = BadGraph; length = 0 })) (choose x (Err (record { refusal = ShortOutput; length = length (text_of (graph_of table)) })) (Ok (length (text_of (graph_of table)))))) ≡ Ok n
         → Wrote table out n
-    by true q e x d h = not_written 7 0 n h
-    by false false e x d h = not_written 6 0 n h
-    by false true e true d h = not_written 8 (length (text_of (graph_of table))) n h
+    by true q e x d h = absurd (cc)
+    by false false e x d h = absurd (cc)
+    by false true e true d h = absurd (cc)
     by false true e false d h =
         record { is_admitted = e; fits = ltb-false (length out) (length (text_of (graph_of table))) d; size = cc }
 
 pub took_bytes :
-    (table out : List ℕ) (n : ℕ) → write_answer table out ≡ write.Written n → n ≡ length (text_of (graph_of table))
+    (table out : List ℕ) (n : ℕ) → write_answer table out ≡ Ok n → n ≡ length (text_of (graph_of table))
     → take n (write_bytes table out) ≡ text_of (graph_of table)
 took_bytes table out n e s = rw (bytes_are table out, e) (take_at (text_of (graph_of table)) (drop n out) n (sym s))

@@ -14,7 +14,8 @@ use Rattle.cfg.specs.Graph.{CFG, valid_block, valid_graph}
 use Rattle.cfg.proofs.Admitted.{valid_graph_lem}
 use Rattle.delimited.specs.Parts.{split_at, parted}
 use Rattle.delimited.proofs.Split.{parted_split}
-use Rattle.cfg_text.specs.Walk.{read, start, between, next, walk}
+use Rattle.cfg_text.specs.Walk.{start, between, next, walk}
+use Rattle.std.specs.Prelude.{Ok}
 use Rattle.cfg_text.specs.Read.{max_text, read_text}
 use Rattle.cfg_write.specs.Write.{lines_of, line_text, text_of}
 use Rattle.cfg_write.proofs.Whole.{Whole}
@@ -41,7 +42,7 @@ module _ (g : CFG) (w : Whole g) where
   lines_go = step refl (blocks_go (length g.blocks) g.registers [] g.blocks (valid_blocks g w.valid) w.properly (omega arith))
 
   -- the text is read as that graph
-  pub graph_read : read_text (text_of g) ≡ read g
+  pub graph_read : read_text (text_of g) ≡ Ok g
   unfolding read_text text_of
   graph_read =
       ap (walk start 1) (lines_split (lines_of g) lines_formed)
@@ -59,7 +60,7 @@ module _ (g : CFG) (w : Whole g) where
 
 -- ---- texts
 
-module _ (text : List ℕ) (g : CFG) (e : read_text text ≡ read g) where
+module _ (text : List ℕ) (g : CFG) (e : read_text text ≡ Ok g) where
   -- what reading makes is a graph that a table can hold
   pub accepted_whole : Whole g
   unfolding read_text

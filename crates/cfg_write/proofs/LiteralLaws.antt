@@ -5,7 +5,7 @@ use native.Mathlib.Decide.{dec_lt}
 use mathlib.Core.Path.{◌≡◌, refl, ◌∙◌}
 use mathlib.Core.Bool.{Bool, true, false}
 use mathlib.Core.List.{List, [], ◌∷◌}
-use mathlib.Core.Option.{Option, none, some}
+use Rattle.std.specs.Prelude.{Option, Some, None, option_and_then}
 use lib.Dec.{eqb, leb}
 use lib.ListN.{length}
 use borrow.Author.Tests.{leb-true, eqb-true, eqb-false, ne_eqb, lt-ltb, le-ltb}
@@ -15,11 +15,11 @@ use Rattle.runs.proofs.ListLaws.{and_left}
 use Rattle.decimal.specs.Decimal.{decimal_of}
 use Rattle.decimal.proofs.Laws.{decimal_some, decimal_short}
 use Rattle.delimited.specs.Number.{digit, at_most}
-use Rattle.delimited.proofs.Written.{none_some, decimal_digits, number_read, number_written}
+use Rattle.delimited.proofs.Written.{decimal_digits, number_read, number_written}
 use Rattle.cfg_line.specs.Number.{negative, literal_of}
 use Rattle.cfg_write.specs.Write.{literal_text}
 
-pub literal_read : (w : ℕ) → w < 2 ^ 32 → literal_of (literal_text w) ≡ some w
+pub literal_read : (w : ℕ) → w < 2 ^ 32 → literal_of (literal_text w) ≡ Some w
 unfolding literal_of literal_text
 literal_read w h = go (dec_lt w (2 ^ 31))
   where
@@ -30,7 +30,7 @@ literal_read w h = go (dec_lt w (2 ^ 31))
         let low = leb-true 48 b (and_left (leb 48 b) (leb b 57) (and_left (digit b) (every digit bs) d)) in
         rw (ne_eqb b 45 (λ e. omega arith))
 
-    go : Dec (w < 2 ^ 31) → literal_of (literal_text w) ≡ some w
+    go : Dec (w < 2 ^ 31) → literal_of (literal_text w) ≡ Some w
     go (yes l) =
         rw (lt-ltb w (2 ^ 31) l) (plain (decimal_of w) (decimal_some w) (decimal_digits w) ∙ number_read (2 ^ 31 - 1) w (omega arith))
     go (no l) =
@@ -41,17 +41,17 @@ pub record WrittenLiteral (w : ℕ) (f : List ℕ) : Type 0 where
   pub field : f ≡ literal_text w
   pub word : w < 2 ^ 32
 
-pub literal_written : (w : ℕ) (f : List ℕ) → literal_of f ≡ some w → WrittenLiteral w f
+pub literal_written : (w : ℕ) (f : List ℕ) → literal_of f ≡ Some w → WrittenLiteral w f
 unfolding literal_of literal_text
-literal_written w [] h = none_some w h
+literal_written w [] h = absurd (cc)
 literal_written w (b ∷ bs) h = go (eqb b 45) refl h
   where
-    minus : b ≡ 45 → (o : Option ℕ) → at_most (2 ^ 31) bs ≡ o → negative o ≡ some w → WrittenLiteral w (b ∷ bs)
-    minus m none e h = none_some w h
-    minus m (some v) e h = by (eqb v 0) refl h
+    minus : b ≡ 45 → (o : Option ℕ) → at_most (2 ^ 31) bs ≡ o → option_and_then negative o ≡ Some w → WrittenLiteral w (b ∷ bs)
+    minus m None e h = absurd (cc)
+    minus m (Some v) e h = by (eqb v 0) refl h
       where
-        by : (z : Bool) → eqb v 0 ≡ z → choose z none (some (2 ^ 32 - v)) ≡ some w → WrittenLiteral w (b ∷ bs)
-        by true z h = none_some w h
+        by : (z : Bool) → eqb v 0 ≡ z → choose z None (Some (2 ^ 32 - v)) ≡ Some w → WrittenLiteral w (b ∷ bs)
+        by true z h = absurd (cc)
         by false z h =
             let n = number_written (2 ^ 31) v bs e in
             let s = n.small in
@@ -66,7 +66,7 @@ literal_written w (b ∷ bs) h = go (eqb b 45) refl h
             positive zero n = absurd (n refl)
             positive (suc v) n = omega arith
 
-    go : (t : Bool) → eqb b 45 ≡ t → choose t (negative (at_most (2 ^ 31) bs)) (at_most (2 ^ 31 - 1) (b ∷ bs)) ≡ some w → WrittenLiteral w (b ∷ bs)
+    go : (t : Bool) → eqb b 45 ≡ t → choose t (option_and_then negative (at_most (2 ^ 31) bs)) (at_most (2 ^ 31 - 1) (b ∷ bs)) ≡ Some w → WrittenLiteral w (b ∷ bs)
     go true e h = minus (eqb-true b 45 e) (at_most (2 ^ 31) bs) refl h
     go false e h =
         let n = number_written (2 ^ 31 - 1) w (b ∷ bs) h in

@@ -4,7 +4,7 @@ use native.Mathlib.Omega.{arith}
 use mathlib.Core.Path.{◌≡◌, refl, sym, ap, ◌∙◌}
 use mathlib.Core.Bool.{Bool, true, false}
 use mathlib.Core.List.{List, [], ◌∷◌}
-use mathlib.Core.Option.{Option, none, some}
+use Rattle.std.specs.Prelude.{Option, Some, None, option_map, IfSome}
 use mathlib.Core.Logic.{◌⊎◌, inl, inr}
 use lib.Dec.{eqb}
 use lib.ListN.{length, get_or, get_or-eq_default}
@@ -15,11 +15,10 @@ use Rattle.word.specs.Word.{choose, arity, comparison_at, comparison_code}
 use Rattle.runs.specs.Lists.{same, every, or_else}
 use Rattle.runs.proofs.ListLaws.{same_eq, every_at}
 use Rattle.cfg_line.specs.declared.Keyword.{Keyword}
-use Rattle.cfg_line.specs.declared.Keyword.TheVariants.{Graph, Block, Goto, Ite, Halt, Set, In, Unary, Binary, Nothing}
+use Rattle.cfg_line.specs.declared.Keyword.TheVariants.{Graph, Block, Goto, Ite, Halt, Set, In, Unary, Binary}
 use Rattle.delimited.specs.Parts.{bytes}
 use Rattle.cfg_line.specs.Name.{instruction_names, comparison_names, code_in, comparison_of, operation, keyword_of}
 use Rattle.cfg_write.specs.Write.{instruction_name, comparison_name}
-use Rattle.delimited.proofs.Written.{none_some}
 
 -- what is known of a field that names code j, the first name being that of code k
 record InNames (k : ℕ) (ns : List (List ℕ)) (f : List ℕ) (j : ℕ) : Type 0 where
@@ -27,11 +26,11 @@ record InNames (k : ℕ) (ns : List (List ℕ)) (f : List ℕ) (j : ℕ) : Type 
   low : k ≤ j
   high : j < k + length ns
 
-in_names : (k : ℕ) (ns : List (List ℕ)) (f : List ℕ) (j : ℕ) → code_in k ns f ≡ some j → InNames k ns f j
-in_names k [] f j h = none_some j h
+in_names : (k : ℕ) (ns : List (List ℕ)) (f : List ℕ) (j : ℕ) → code_in k ns f ≡ Some j → InNames k ns f j
+in_names k [] f j h = absurd (cc)
 in_names k (n ∷ ns) f j h = go (same f n) refl (in_names (suc k) ns f j) h
   where
-    go : (t : Bool) → same f n ≡ t → (code_in (suc k) ns f ≡ some j → InNames (suc k) ns f j) → or_else t k (code_in (suc k) ns f) ≡ some j → InNames k (n ∷ ns) f j
+    go : (t : Bool) → same f n ≡ t → (code_in (suc k) ns f ≡ Some j → InNames (suc k) ns f j) → or_else t k (code_in (suc k) ns f) ≡ Some j → InNames k (n ∷ ns) f j
     go true e ih h =
         let q : k ≡ j = cc in
         let z : j - k ≡ 0 = omega arith in
@@ -55,10 +54,10 @@ pub record Code (f : List ℕ) (k : ℕ) : Type 0 where
 
 -- how the name of code k is read, and what stands behind it and d: a literal, nothing, one operand, two
 pub data Shape (k : ℕ) : Type 0 where
-  literal : eqb k 1 ≡ true → arity k ≡ 1 → keyword_of (instruction_name k) ≡ Set → Shape k
-  nothing : k ≡ 20 → arity k ≡ 0 → keyword_of (instruction_name k) ≡ In → Shape k
-  one : eqb k 1 ≡ false → arity k ≡ 1 → keyword_of (instruction_name k) ≡ Unary k → Shape k
-  two : eqb k 1 ≡ false → arity k ≡ 2 → keyword_of (instruction_name k) ≡ Binary k → Shape k
+  literal : eqb k 1 ≡ true → arity k ≡ 1 → keyword_of (instruction_name k) ≡ Some Set → Shape k
+  nothing : k ≡ 20 → arity k ≡ 0 → keyword_of (instruction_name k) ≡ Some In → Shape k
+  one : eqb k 1 ≡ false → arity k ≡ 1 → keyword_of (instruction_name k) ≡ Some (Unary k) → Shape k
+  two : eqb k 1 ≡ false → arity k ≡ 2 → keyword_of (instruction_name k) ≡ Some (Binary k) → Shape k
 
 low_shape : (k : ℕ) → 1 ≤ k → k ≤ 11 → Shape k
 unfolding keyword_of instruction_name arity
@@ -109,16 +108,20 @@ Named f Set = Code f 1
 Named f In = Code f 20
 Named f (Unary k) = Code f k × (eqb k 1 ≡ false) × (arity k ≡ 1)
 Named f (Binary k) = Code f k × (eqb k 1 ≡ false) × (arity k ≡ 2)
-Named f Nothing = Unit {0}
 
 pick : (f : List ℕ) (t : Bool) (k rest : Keyword) → (t ≡ true → Named f k) → (t ≡ false → Named f rest) → Named f (choose t k rest)
 pick f true k rest a b = a refl
 pick f false k rest a b = b refl
 
-operation_named : (f : List ℕ) (o : Option ℕ) → code_in 1 instruction_names f ≡ o → Named f (operation o)
+-- the first that the field names, else the rest
+found : (f : List ℕ) (t : Bool) (k : Keyword) (rest : Option Keyword) → (t ≡ true → Named f k) → (t ≡ false → IfSome rest (Named f)) → IfSome (or_else t k rest) (Named f)
+found f true k rest a b = a refl
+found f false k rest a b = b refl
+
+operation_named : (f : List ℕ) (o : Option ℕ) → code_in 1 instruction_names f ≡ o → IfSome (option_map operation o) (Named f)
 unfolding instruction_names
-operation_named f none e = tt
-operation_named f (some k) e =
+operation_named f None e = tt
+operation_named f (Some k) e =
     let i = in_names 1 instruction_names f k e in
     let l = i.low in
     let u = i.high in
@@ -133,15 +136,15 @@ in_named : (f : List ℕ) → f ≡ bytes "in" → Code f 20
 unfolding instruction_name
 in_named f e = record { name = e; known = inr refl }
 
-pub keyword_named : (f : List ℕ) → Named f (keyword_of f)
+pub keyword_named : (f : List ℕ) → IfSome (keyword_of f) (Named f)
 unfolding keyword_of
 keyword_named f =
-    pick f (same f (bytes "graph")) Graph _ (same_eq f (bytes "graph"))
-    (λ e₁. pick f (same f (bytes "block")) Block _ (same_eq f (bytes "block"))
-    (λ e₂. pick f (same f (bytes "goto")) Goto _ (same_eq f (bytes "goto"))
-    (λ e₃. pick f (same f (bytes "ite")) Ite _ (same_eq f (bytes "ite"))
-    (λ e₄. pick f (same f (bytes "halt")) Halt _ (same_eq f (bytes "halt"))
-    (λ e₅. pick f (same f (bytes "in")) In _ (λ q. in_named f (same_eq f (bytes "in") q))
+    found f (same f (bytes "graph")) Graph _ (same_eq f (bytes "graph"))
+    (λ e₁. found f (same f (bytes "block")) Block _ (same_eq f (bytes "block"))
+    (λ e₂. found f (same f (bytes "goto")) Goto _ (same_eq f (bytes "goto"))
+    (λ e₃. found f (same f (bytes "ite")) Ite _ (same_eq f (bytes "ite"))
+    (λ e₄. found f (same f (bytes "halt")) Halt _ (same_eq f (bytes "halt"))
+    (λ e₅. found f (same f (bytes "in")) In _ (λ q. in_named f (same_eq f (bytes "in") q))
     (λ e₆. operation_named f (code_in 1 instruction_names f) refl))))))
 
 -- a test that holds of every name
@@ -165,7 +168,7 @@ no_name (suc k) h n =
 
 -- ---- comparisons
 
-pub comparison_read : (c : Comparison) → comparison_of (comparison_name c) ≡ some (comparison_code c)
+pub comparison_read : (c : Comparison) → comparison_of (comparison_name c) ≡ Some (comparison_code c)
 unfolding comparison_of comparison_name
 comparison_read Eq = refl
 comparison_read Ne = refl
@@ -194,7 +197,7 @@ at_place f (suc (suc (suc (suc zero)))) h e = e
 at_place f (suc (suc (suc (suc (suc zero))))) h e = e
 at_place f (suc (suc (suc (suc (suc (suc m)))))) h e = absurd (omega arith)
 
-pub comparison_written : (f : List ℕ) (k : ℕ) → comparison_of f ≡ some k → f ≡ comparison_name (comparison_at k)
+pub comparison_written : (f : List ℕ) (k : ℕ) → comparison_of f ≡ Some k → f ≡ comparison_name (comparison_at k)
 unfolding comparison_of comparison_names
 comparison_written f k h =
     let i = in_names 12 comparison_names f k h in

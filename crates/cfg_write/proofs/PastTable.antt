@@ -8,11 +8,12 @@ use borrow.Author.Tests.{le-ltb}
 use Rattle.cfg.specs.Layout.{graph_words}
 use Rattle.cfg.specs.Table.{admitted_graph}
 use Rattle.cfg.proofs.PastTable.{past_whole, past_admitted, past_graph}
-use Rattle.cfg_write.specs.declared.WriteAnswer.TheVariants.{Refused}
+use Rattle.std.specs.Prelude.{Err}
+use Rattle.refusal.specs.declared.Refusal.TheVariants.{BadGraph}
 use Rattle.cfg_write.specs.Write.{write_answer, write_bytes}
 use Rattle.cfg_write.proofs.AnswerLaws.{answer_is, bytes_are}
 
-not_admitted : (t out : List ℕ) → graph_words ≤ length t → admitted_graph t ≡ false → write_answer t out ≡ Refused 6 0
+not_admitted : (t out : List ℕ) → graph_words ≤ length t → admitted_graph t ≡ false → write_answer t out ≡ Err (record { refusal = BadGraph; length = 0 })
 not_admitted t out whole e = answer_is t out ∙ rw (le-ltb (length t) graph_words whole, e)
 
 module _ (t u out : List ℕ) (whole : graph_words ≤ length t) where

@@ -3,7 +3,7 @@ use Prim.Native.Nat.{ℕ, ◌+◌, ◌-◌, ◌≤◌, ◌<◌, ◌^◌}
 use native.Mathlib.Omega.{arith}
 use mathlib.Core.Path.{◌≡◌, refl, sym, ap, ◌∙◌}
 use mathlib.Core.List.{List, [], ◌∷◌, ◌++◌, append_assoc, append-nil}
-use lib.ListN.{length, set, length-append}
+use lib.ListN.{length, length-append}
 use borrow.Author.Tests.{eq-eqb, ne_eqb, lt-ltb, le-ltb}
 use Rattle.word.specs.Word.{arity}
 use Rattle.cfg.specs.declared.Instruction.{Instruction}
@@ -17,16 +17,14 @@ use Rattle.delimited.specs.Parts.{bytes, parted}
 use Rattle.cfg_line.specs.declared.Line.{Line}
 use Rattle.cfg_line.specs.declared.Line.TheVariants as line
 use Rattle.cfg_write.specs.Write.{instruction_name, comparison_name, literal_text, operands_of, fields_of, line_text}
-use Rattle.cfg_write.specs.Put.{Put, commas, numbered}
+use Rattle.cfg_write.specs.declared.line.Writer.{Writer}
+use Rattle.cfg_write.specs.Put.{Put, Wrote, commas, numbered}
 use Rattle.cfg_write.proofs.LineLaws.{operands_set, operands_none, operands_one, operands_two}
 
 pub put_none : (l : List ℕ) (at : ℕ) → Put 0 l l at [] at
 put_none l at = record { stored = refl; place = omega arith; near = omega arith }
 
--- what a stored byte and a stored number come to
-pub put_one : (l m : List ℕ) (at x r : ℕ) → r ≡ at + 1 → m ≡ set l at x → Put 1 l m at (x ∷ []) r
-put_one l m at x r p e = record { stored = e; place = p; near = omega arith }
-
+-- what a stored number comes to
 pub put_digits : (l m : List ℕ) (at n r : ℕ) → n < 2 ^ 32 → (m ≡ sets l at (decimal_of n)) × (r ≡ at + length (decimal_of n)) → Put 10 l m at (decimal_of n) r
 put_digits l m at n r h e =
     let w = decimal_word n h in
@@ -56,24 +54,17 @@ put_as n t h e u =
 pub put_length : {m at : ℕ} {a b : List ℕ} {s : List ℕ} {p : ℕ} → Put m a b at s p → length b ≡ length a
 put_length {at = at} {a = a} {s = s} u = ap length u.stored ∙ length-sets a at s
 
--- ---- in a loop: what is stored so far and what is left come to the whole
+-- ---- by a writer
 
-pub record Rest (before out : List ℕ) (start at : ℕ) (whole left : List ℕ) : Type 0 where
-  pub stored : sets out at left ≡ sets before start whole
-  pub place : at + length left ≡ start + length whole
+module _ {a b c : Writer} {s t : List ℕ} {m n : ℕ} where
+  pub wrote_then : Wrote m a b s → Wrote n b c t → Wrote (m + n) a c (s ++ t)
+  wrote_then u v = record { same_buffer = v.same_buffer ∙ u.same_buffer; put = put_then u.put v.put }
 
-module _ {before out : List ℕ} {start at : ℕ} {whole : List ℕ} where
-  pub rest_next :
-      {m : ℕ} {after s left : List ℕ} {r : ℕ} → Rest before out start at whole (s ++ left) → Put m out after at s r
-      → Rest before after start r whole left
-  rest_next {s = s} {left = left} h p =
-      let e = length-append s left in
-      let a = h.place in
-      let b = p.place in
-      record { stored = rw (p.stored, b) (sets_append out at s left ∙ h.stored); place = omega arith }
+pub wrote_as : {m : ℕ} {a b : Writer} {s : List ℕ} (n : ℕ) (t : List ℕ) → m ≤ n → s ≡ t → Wrote m a b s → Wrote n a b t
+wrote_as n t h e u = record { same_buffer = u.same_buffer; put = put_as n t h e u.put }
 
-  pub rest_none : (most : ℕ) → Rest before out start at whole [] → at ≤ start + most → Put most before out start whole at
-  rest_none most h l = let a = h.place in record { stored = h.stored; place = omega arith; near = l }
+pub wrote_none : (a : Writer) → Wrote 0 a a []
+wrote_none a = record { same_buffer = refl; put = put_none a.out.now a.at }
 
 -- ---- lines by their fields
 
@@ -121,9 +112,6 @@ module _ (i : Instruction) where
 
   pub none_text : (i.code ≡ 1 → ⊥) → arity i.code ≡ 0 → [] ≡ commas (operands_of i)
   none_text a b = rw (operands_none i (ne_eqb i.code 1 a) b, commas_none)
-
-  pub no_operands : (i.code ≡ 1 → ⊥) → arity i.code ≡ 0 → commas (operands_of i) ≡ []
-  no_operands a b = sym (none_text a b)
 
   pub one_text : (i.code ≡ 1 → ⊥) → arity i.code ≡ 1 → 44 ∷ decimal_of i.a ≡ commas (operands_of i)
   one_text a b = rw (operands_one i (ne_eqb i.code 1 a) b, commas_one (decimal_of i.a))

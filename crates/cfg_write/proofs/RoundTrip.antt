@@ -9,12 +9,10 @@ use Rattle.cfg.specs.Layout.{graph_words}
 use Rattle.cfg.specs.Graph.{CFG}
 use Rattle.cfg.specs.Table.{graph_table_of, graph_of, admitted_graph}
 use Rattle.cfg.proofs.Admitted.{admitted_halves, admitted_facts}
-use Rattle.cfg_text.specs.Walk.{read}
+use Rattle.std.specs.Prelude.{Ok}
 use Rattle.cfg_text.specs.Read.{max_text, read_text, read_answer, read_words, Readable}
-use Rattle.cfg_text.specs.declared.ReadAnswer.TheVariants.{Read}
 use Rattle.cfg_write.specs.Write.{text_of, write_answer, write_bytes}
 use Rattle.cfg_write.specs.RoundTrip.{ReadAgain, WrittenAgain}
-use Rattle.cfg_write.specs.declared.WriteAnswer.TheVariants as write
 use Rattle.cfg_write.proofs.Whole.{all_words, Whole}
 use Rattle.cfg_write.proofs.GraphLaws.{graph_read, graph_short_lem, accepted_whole, accepted_text}
 use Rattle.cfg_write.proofs.AnswerLaws.{admitted_whole, begins_graph, begins_admitted, took_of, answer_read_lem, words_are, answer_written, bytes_written, wrote_of, took_bytes}
@@ -22,7 +20,7 @@ use Rattle.cfg_write.proofs.AnswerLaws.{admitted_whole, begins_graph, begins_adm
 -- ---- graphs and texts
 
 -- the text of a graph is read as that graph
-pub text_read : (g : CFG) → Whole g → read_text (text_of g) ≡ read g
+pub text_read : (g : CFG) → Whole g → read_text (text_of g) ≡ Ok g
 text_read = graph_read
 
 -- and it is not too long
@@ -30,11 +28,11 @@ pub text_short : (g : CFG) → Whole g → length (text_of g) ≤ max_text
 text_short = graph_short_lem
 
 -- what reading makes of a text is a graph that a table can hold
-pub read_whole : (text : List ℕ) (g : CFG) → read_text text ≡ read g → Whole g
+pub read_whole : (text : List ℕ) (g : CFG) → read_text text ≡ Ok g → Whole g
 read_whole = accepted_whole
 
 -- and it is written as that text
-pub read_text_lem : (text : List ℕ) (g : CFG) → read_text text ≡ read g → text_of g ≡ text
+pub read_text_lem : (text : List ℕ) (g : CFG) → read_text text ≡ Ok g → text_of g ≡ text
 read_text_lem = accepted_text
 
 -- ---- graphs and tables
@@ -76,7 +74,7 @@ admitted_iff t h = (admitted_readable t h, readable_admitted t)
 
 -- a table that was written and is read again is the same table
 pub write_then_read :
-    (table out again : List ℕ) (n : ℕ) → all_words table ≡ true → graph_words ≤ length again → write_answer table out ≡ write.Written n
+    (table out again : List ℕ) (n : ℕ) → all_words table ≡ true → graph_words ≤ length again → write_answer table out ≡ Ok n
     → ReadAgain table again (take n (write_bytes table out))
 write_then_read table out again n h long e =
     let o = wrote_of table out n e in
@@ -92,7 +90,7 @@ write_then_read table out again n h long e =
 
 -- a text that was read and is written again is the same text
 pub read_then_write :
-    (text table out : List ℕ) → read_answer text table ≡ Read → length text ≤ length out → WrittenAgain text (read_words text table) out
+    (text table out : List ℕ) → read_answer text table ≡ Ok tt → length text ≤ length out → WrittenAgain text (read_words text table) out
 read_then_write text table out h room =
     let k = took_of text table h in
     let g = k.graph in

@@ -17,6 +17,7 @@ use Rattle.delimited.specs.Number.{digit}
 use Rattle.delimited.specs.Parts.{Fields, split_at, parted}
 use Rattle.delimited.proofs.Split.{apart, split_part, split_parted, parted_split, parted_more, apart_parted}
 use Rattle.delimited.proofs.Written.{decimal_digits}
+use Rattle.std.specs.Prelude.{Some}
 use Rattle.cfg_line.specs.declared.Line.{Line}
 use Rattle.cfg_line.specs.declared.Line.TheVariants as line
 use Rattle.cfg_line.specs.Name.{instruction_names, comparison_names}
@@ -24,7 +25,7 @@ use Rattle.cfg_line.specs.Form.{by_name, line_form}
 use Rattle.cfg_write.specs.Write.{instruction_name, comparison_name, literal_text, operands_of, fields_of, line_text}
 use Rattle.cfg_write.proofs.LiteralLaws.{number_length, literal_length}
 use Rattle.cfg_write.proofs.NameLaws.{Shape, literal, nothing, one, two, shape, not_one, name_test, comparison_test}
-use Rattle.cfg_write.proofs.LineLaws.{Formed, FormedInstruction, operands_set, operands_none, operands_one, operands_two, first_small, second_small, fields_read, fields_back}
+use Rattle.cfg_write.proofs.LineLaws.{Formed, FormedInstruction, operands_set, operands_none, operands_one, operands_two, first_small, second_small, Fielded, fields_read, fields_back}
 
 -- a line without its line feed
 abbrev pub line_bytes : Line → List ℕ
@@ -96,7 +97,6 @@ fields_above (line.Ite c t f) h =
     (two_above (decimal_of t) (decimal_of f ∷ []) (number_above t)
     (one_above (decimal_of f) (number_above f)))))
 fields_above line.Halt h = refl
-fields_above line.NoForm h = absurd h
 
 -- ---- one line
 
@@ -108,13 +108,12 @@ some_field (line.Instruction i) h = omega arith
 some_field (line.Goto t) h = omega arith
 some_field (line.Ite c t f) h = omega arith
 some_field line.Halt h = omega arith
-some_field line.NoForm h = absurd h
 
 split_fields : (c : ℕ) (fs : Fields) → 0 < length fs → every (apart c) fs ≡ true → split_at c (parted c fs) ≡ fs
 split_fields c [] s h = absurd (omega arith)
 split_fields c (f ∷ fs) s h = split_parted c f fs h
 
-pub line_read : (l : Line) → Formed l → line_form (line_bytes l) ≡ l
+pub line_read : (l : Line) → Formed l → line_form (line_bytes l) ≡ Some l
 unfolding line_form
 line_read l h =
     ap by_name (split_fields 44 (fields_of l) (some_field l h) (all_apart 44 (omega arith) (fields_of l) (fields_above l h)))
@@ -124,10 +123,10 @@ pub record LineWritten (s : List ℕ) (l : Line) : Type 0 where
   pub text : s ≡ line_bytes l
   pub formed : Formed l
 
-pub line_written : (s : List ℕ) → (line_form s ≡ line.NoForm → ⊥) → LineWritten s (line_form s)
+pub line_written : (s : List ℕ) {l : Line} → line_form s ≡ Some l → LineWritten s l
 unfolding line_form
-line_written s n =
-    let b = fields_back (split_at 44 s) n in
+line_written s {l} e =
+    let b : Fielded (split_at 44 s) l = rw e at (fields_back (split_at 44 s)) in
     record { text = sym (parted_split 44 s) ∙ ap (parted 44) b.fields; formed = b.formed }
 
 -- ---- several lines
@@ -211,7 +210,6 @@ fields_total (line.Ite c t f) h =
     let w = number_length f h.fails in
     omega arith
 fields_total line.Halt h = omega arith
-fields_total line.NoForm h = absurd h
 
 line_length : (l : Line) → Formed l → length (line_text l) ≤ 24
 unfolding line_text

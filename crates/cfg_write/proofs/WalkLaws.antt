@@ -22,7 +22,8 @@ use Rattle.cfg.specs.declared.Block.{Block}
 use Rattle.cfg_line.specs.declared.Line.{Line}
 use Rattle.cfg_line.specs.declared.Line.TheVariants as line
 use Rattle.cfg_line.specs.Form.{line_form}
-use Rattle.cfg_text.specs.Walk.{Progress, between, inside, go, read, all_below, instruction_registers, ending_registers, block_with, closed, next, finish, proceed, walk}
+use Rattle.std.specs.Prelude.{Ok}
+use Rattle.cfg_text.specs.Walk.{Progress, between, inside, all_below, instruction_registers, ending_registers, block_with, closed, next, finish, formed, proceed, walk}
 use Rattle.cfg_write.specs.Write.{ending_line, block_lines, lines_from}
 use Rattle.cfg_write.proofs.Whole.{proper}
 use Rattle.cfg_write.proofs.NameLaws.{Shape, literal, nothing, one, two, shape, not_one}
@@ -33,7 +34,7 @@ use Rattle.cfg_write.proofs.TextLaws.{line_bytes, AllFormed, line_read}
 
 pub data Goes : Progress → List Line → Progress → Type 0 where
   stay : {p : Progress} → Goes p [] p
-  step : {p m q : Progress} {l : Line} {ls : List Line} → next p l ≡ go m → Goes m ls q → Goes p (l ∷ ls) q
+  step : {p m q : Progress} {l : Line} {ls : List Line} → next p l ≡ Ok m → Goes m ls q → Goes p (l ∷ ls) q
 
 pub goes_on : {p m q : Progress} {ls ms : List Line} → Goes p ls m → Goes m ms q → Goes p (ls ++ ms) q
 goes_on stay h = h
@@ -42,14 +43,14 @@ goes_on (step e g) h = step e (goes_on g h)
 -- a line with more behind it
 walk_more :
     (p : Progress) (n : ℕ) (l : List ℕ) (ms : List (List ℕ)) (m : List ℕ)
-    → walk p n (l ∷ (ms ++ (m ∷ []))) ≡ proceed (next p (line_form l)) n (λ q. walk q (suc n) (ms ++ (m ∷ [])))
+    → walk p n (l ∷ (ms ++ (m ∷ []))) ≡ proceed (formed (line_form l) (next p)) n (λ q. walk q (suc n) (ms ++ (m ∷ [])))
 unfolding walk
 walk_more p n l [] m = refl
 walk_more p n l (k ∷ ms) m = refl
 
 pub walk_goes :
-    {p q : Progress} {ls : List Line} (g : CFG) → Goes p ls q → AllFormed ls → ((m : ℕ) → finish q m ≡ read g)
-    → (n : ℕ) → walk p n (map line_bytes ls ++ ([] ∷ [])) ≡ read g
+    {p q : Progress} {ls : List Line} (g : CFG) → Goes p ls q → AllFormed ls → ((m : ℕ) → finish q m ≡ Ok g)
+    → (n : ℕ) → walk p n (map line_bytes ls ++ ([] ∷ [])) ≡ Ok g
 unfolding walk
 walk_goes g stay h f n = f n
 walk_goes {p} g (step {m = m} {l = l} {ls = ls} e k) h f n =
@@ -92,7 +93,7 @@ module _ (r : ℕ) (i : Instruction) (v : ValidInstruction r i) where
 module _ (b r : ℕ) (bs : List Block) where
   joined_goes :
       (is : List Instruction) (i : Instruction) → length is < max_instructions → ValidInstruction r i
-      → next (inside b r bs is) (line.Instruction i) ≡ go (inside b r bs (is ++ (i ∷ [])))
+      → next (inside b r bs is) (line.Instruction i) ≡ Ok (inside b r bs (is ++ (i ∷ [])))
   unfolding next
   joined_goes is i h v = rw (lt-ltb (length is) 8 h, registers_below r i v)
 
@@ -121,10 +122,10 @@ module _ (b r : ℕ) (bs : List Block) where
 
   ending_goes :
       (is : List Instruction) (e : Ending) → ValidEnding b r e
-      → next (inside b r bs is) (ending_line e) ≡ go (between b r (bs ++ (block_with is e ∷ [])))
+      → next (inside b r bs is) (ending_line e) ≡ Ok (between b r (bs ++ (block_with is e ∷ [])))
   ending_goes is e v = next_ending is e ∙ rw (ending_registers_lem e v, targets_below b r e v)
 
-  opened_goes : (n : ℕ) → n ≡ length bs → n < b → next (between b r bs) (line.Block n) ≡ go (inside b r bs [])
+  opened_goes : (n : ℕ) → n ≡ length bs → n < b → next (between b r bs) (line.Block n) ≡ Ok (inside b r bs [])
   unfolding next
   opened_goes n e h = rw (eq-eqb n (length bs) e, lt-ltb n b h)
 

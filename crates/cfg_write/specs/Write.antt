@@ -1,5 +1,7 @@
 -- A graph's text, and "Write graph table as text" of paper 01: its answer and the bytes it leaves, on all inputs. Assumes nothing.
-use Rattle.std.specs.Prelude.{ℕ, suc, ◌-◌, ◌^◌, not, List, [], ◌∷◌, ◌++◌, map, length, get_or, take, drop, eqb, ltb}
+use Rattle.std.specs.Prelude.{ℕ, suc, ◌-◌, ◌^◌, not, List, [], ◌∷◌, ◌++◌, map, length, get_or, take, drop, eqb, ltb, Result, Ok, Err}
+use Rattle.refusal.specs.declared.Refusal.TheVariants.{ShortBuffer, BadGraph, ShortOutput}
+use Rattle.refusal.specs.Refusal.{number}
 use Rattle.word.specs.declared.Comparison.{Comparison}
 use Rattle.word.specs.Word.{choose, arity, comparison_code, set_code, in_code, first_comparison}
 use Rattle.runs.specs.Lists.{concat_map}
@@ -15,8 +17,7 @@ use Rattle.cfg_line.specs.declared.Line.{Line}
 use Rattle.cfg_line.specs.declared.Line.TheVariants as line
 use Rattle.delimited.specs.Parts.{bytes, parted}
 use Rattle.cfg_line.specs.Name.{instruction_names, comparison_names}
-use Rattle.cfg_write.specs.declared.WriteAnswer.{WriteAnswer}
-use Rattle.cfg_write.specs.declared.WriteAnswer.TheVariants.{Refused, Written}
+use Rattle.cfg_write.specs.declared.WriteError.{WriteError}
 
 -- ---- the lines of a graph: the graph line, then for each block its block line, its instructions and its ending
 
@@ -68,7 +69,6 @@ fields_of (line.Goto t) = bytes "goto" ∷ decimal_of t ∷ []
 fields_of (line.Ite c t f) =
     bytes "ite" ∷ comparison_name c.comparison ∷ decimal_of c.a ∷ decimal_of c.b ∷ decimal_of t ∷ decimal_of f ∷ []
 fields_of line.Halt = bytes "halt" ∷ []
-fields_of line.NoForm = []
 
 -- fields parted by commas, then a line feed
 unfoldable pub line_text : Line → List ℕ
@@ -81,29 +81,29 @@ text_of g = concat_map line_text (lines_of g)
 
 -- ---- the operation
 
--- 7 table short; 6 table not one that reading makes; 8 output short, with the length needed
-unfoldable pub write_answer : List ℕ → List ℕ → WriteAnswer
+-- a table that is short, one that reading does not make, or an output that is short, with the length needed
+unfoldable pub write_answer : List ℕ → List ℕ → Result ℕ WriteError
 unfolding admitted_graph text_of graph_of
 write_answer table out =
     let needed = length (text_of (graph_of table)) in
-    choose (ltb (length table) graph_words) (Refused 7 0)
-    (choose (not (admitted_graph table)) (Refused 6 0)
-    (choose (ltb (length out) needed) (Refused 8 needed) (Written needed)))
+    choose (ltb (length table) graph_words) (Err (record { refusal = ShortBuffer; length = 0 }))
+    (choose (not (admitted_graph table)) (Err (record { refusal = BadGraph; length = 0 }))
+    (choose (ltb (length out) needed) (Err (record { refusal = ShortOutput; length = needed })) (Ok needed)))
 
 -- bytes past the text stay; on a refusal all do
-abbrev pub bytes_after : WriteAnswer → List ℕ → List ℕ → List ℕ
-bytes_after (Refused k n) text out = out
-bytes_after (Written n) text out = text ++ drop n out
+abbrev pub bytes_after : Result ℕ WriteError → List ℕ → List ℕ → List ℕ
+bytes_after (Err e) text out = out
+bytes_after (Ok n) text out = text ++ drop n out
 
 unfoldable pub write_bytes : List ℕ → List ℕ → List ℕ
 unfolding write_answer text_of graph_of
 write_bytes table out = bytes_after (write_answer table out) (text_of (graph_of table)) out
 
 -- paper 01's fields of an answer: number and length
-abbrev pub write_number : WriteAnswer → ℕ
-write_number (Refused k n) = k
-write_number (Written n) = 0
+abbrev pub write_number : Result ℕ WriteError → ℕ
+write_number (Err e) = number e.refusal
+write_number (Ok n) = 0
 
-abbrev pub write_length : WriteAnswer → ℕ
-write_length (Refused k n) = n
-write_length (Written n) = n
+abbrev pub write_length : Result ℕ WriteError → ℕ
+write_length (Err e) = e.length
+write_length (Ok n) = n

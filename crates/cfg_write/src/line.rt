@@ -1,164 +1,194 @@
-// The bytes of one line. A function takes the buffer and a place in it, and hands back the place behind its bytes; past the
-// buffer's end nothing is stored.
+// The bytes of lines, written one behind another into a buffer. Past the buffer's end nothing is stored, and the place goes on.
 ghost use Rattle.std.specs.Prelude.{◌≡◌, [], ◌∷◌, ◌≤◌, ◌<◌, ◌^◌, length};
 ghost use Rattle.decimal.specs.Decimal.{decimal_of};
 ghost use Rattle.cfg_line.specs.declared.Line.TheVariants as line;
-ghost use Rattle.cfg_write.specs.Put.{Put, commas, numbered};
+ghost use Rattle.cfg_write.specs.Put.{Wrote, commas, numbered};
 ghost use Rattle.cfg_write.specs.Write.{instruction_name, comparison_name, literal_text, operands_of, line_text, ending_line};
 
 use cfg::{Condition, Ending, Instruction};
 use decimal::{put_byte, put_decimal};
 use word::{Code, Comparison};
 
-// A name's few bytes.
-pub fn put_bytes(out: &mut [u8], at: usize, bytes: &[u8]) -> usize
-    requires { (at < 2 ^ 20) × (length bytes.now ≤ 8) }
-    ensures { Put 8 out.old out.new at bytes.now result }
-{
-    let mut i = 0;
-    while i < bytes.len() {
-        put_byte(out, at + i, bytes[i]);
-        i += 1;
-    }
-    at + i
-}
-
-pub fn put_line_feed(out: &mut [u8], at: usize) -> usize
-    requires { at < 2 ^ 20 }
-    ensures { Put 1 out.old out.new at (10 ∷ []) result }
-{
-    put_byte(out, at, b'\n');
-    at + 1
-}
-
-// A comma and a number.
-pub fn put_number(out: &mut [u8], at: usize, n: u32) -> usize
-    requires { at < 2 ^ 20 }
-    ensures { Put 11 out.old out.new at (44 ∷ decimal_of n) result }
-{
-    put_byte(out, at, b',');
-    put_decimal(out, at + 1, n)
-}
-
-// A comma and a literal, given by its word.
-fn put_literal(out: &mut [u8], at: usize, word: u32) -> usize
-    requires { at < 2 ^ 20 }
-    ensures { Put 12 out.old out.new at (44 ∷ literal_text word) result }
-{
-    put_byte(out, at, b',');
-    if word < 0x8000_0000 {
-        return put_decimal(out, at + 1, word);
-    }
-    put_byte(out, at + 1, b'-');
-    put_decimal(out, at + 2, u32::MAX - word + 1)
+// A buffer, and the place behind what is written.
+#[derive(Drop)]
+pub struct Writer<'a> {
+    pub out: &'a mut [u8],
+    pub at: usize,
 }
 
 // An instruction's name.
-fn put_name(out: &mut [u8], at: usize, code: u32) -> usize
-    requires { at < 2 ^ 20 }
-    ensures { Put 8 out.old out.new at (instruction_name code) result }
+#[tactic(auto, using(crate::proofs::NameLaws::no_name), unfolding(crate::specs::Write::instruction_name, cfg_line::specs::Name::instruction_names))]
+fn name_of(code: u32) -> &'static [u8]
+    ensures named { result.now ≡ instruction_name code }
+    ensures short { length result.now ≤ 8 }
 {
     match code {
-        1 => put_bytes(out, at, b"set"),
-        2 => put_bytes(out, at, b"copy"),
-        3 => put_bytes(out, at, b"add"),
-        4 => put_bytes(out, at, b"sub"),
-        5 => put_bytes(out, at, b"and"),
-        6 => put_bytes(out, at, b"or"),
-        7 => put_bytes(out, at, b"xor"),
-        8 => put_bytes(out, at, b"shl"),
-        9 => put_bytes(out, at, b"shr"),
-        10 => put_bytes(out, at, b"sar"),
-        11 => put_bytes(out, at, b"sx"),
-        20 => put_bytes(out, at, b"in"),
-        _ => at,
+        Code::SET => b"set",
+        Code::COPY => b"copy",
+        Code::ADD => b"add",
+        Code::SUB => b"sub",
+        Code::AND => b"and",
+        Code::OR => b"or",
+        Code::XOR => b"xor",
+        Code::SHL => b"shl",
+        Code::SHR => b"shr",
+        Code::SAR => b"sar",
+        Code::SX => b"sx",
+        Code::IN => b"in",
+        _ => b"",
     }
 }
 
-fn put_comparison(out: &mut [u8], at: usize, comparison: Comparison) -> usize
-    requires { at < 2 ^ 20 }
-    ensures { Put 8 out.old out.new at (comparison_name comparison) result }
+#[tactic(auto, unfolding(crate::specs::Write::comparison_name, cfg_line::specs::Name::comparison_names))]
+fn comparison_of(comparison: Comparison) -> &'static [u8]
+    ensures named { result.now ≡ comparison_name comparison }
+    ensures short { length result.now ≤ 8 }
 {
     match comparison {
-        Comparison::Eq => put_bytes(out, at, b"eq"),
-        Comparison::Ne => put_bytes(out, at, b"ne"),
-        Comparison::Lt => put_bytes(out, at, b"lt"),
-        Comparison::Ge => put_bytes(out, at, b"ge"),
-        Comparison::Ltu => put_bytes(out, at, b"ltu"),
-        Comparison::Geu => put_bytes(out, at, b"geu"),
+        Comparison::Eq => b"eq",
+        Comparison::Ne => b"ne",
+        Comparison::Lt => b"lt",
+        Comparison::Ge => b"ge",
+        Comparison::Ltu => b"ltu",
+        Comparison::Geu => b"geu",
     }
 }
 
-// An instruction's fields behind name and d.
-#[tactic(auto, using(crate::proofs::PutLaws::no_operands))]
-fn put_operands(out: &mut [u8], at: usize, i: Instruction) -> usize
-    requires { at < 2 ^ 19 }
-    ensures { Put 22 out.old out.new at (commas (operands_of i)) result }
-{
-    if i.code == Code::SET {
-        return put_literal(out, at, i.a);
+// How far the place may be stands in each contract and in no invariant: every byte moves it.
+impl<'a> Writer<'a> {
+    pub fn new(out: &'a mut [u8]) -> Writer<'a>
+        ensures same_buffer { result.out.ghost_name ≡ out.entry.ghost_name }
+        ensures from_front { (result.out.now ≡ out.old) × (result.at ≡ 0) }
+    {
+        Writer { out, at: 0 }
     }
-    let operands = word::arity(i.code);
-    if operands == 0 {
-        return at;
+
+    fn byte(&mut self, byte: u8)
+        requires { self.old.at < 2 ^ 21 }
+        ensures { Wrote 1 self.old self.new (byte ∷ []) }
+    {
+        put_byte(self.out, self.at, byte);
+        self.at += 1;
     }
-    let next = put_number(out, at, i.a);
-    if operands == 1 {
-        return next;
+
+    pub fn decimal(&mut self, n: u32)
+        requires { self.old.at < 2 ^ 21 }
+        ensures { Wrote 10 self.old self.new (decimal_of n) }
+    {
+        self.at = put_decimal(self.out, self.at, n);
     }
-    put_number(out, next, i.b)
-}
 
-pub fn put_instruction(out: &mut [u8], at: usize, i: Instruction) -> usize
-    requires { at < 2 ^ 18 }
-    ensures { Put 64 out.old out.new at (line_text (line.Instruction i)) result }
-{
-    let named = put_name(out, at, i.code);
-    let written = put_number(out, named, i.d);
-    let end = put_operands(out, written, i);
-    put_line_feed(out, end)
-}
-
-fn put_ite(out: &mut [u8], at: usize, c: Condition, t: u32, f: u32) -> usize
-    requires { at < 2 ^ 18 }
-    ensures { Put 64 out.old out.new at (line_text (line.Ite c t f)) result }
-{
-    let comparison = c.comparison;
-    let named = put_bytes(out, at, b"ite,");
-    let compared = put_comparison(out, named, comparison);
-    let first = put_number(out, compared, c.a);
-    let second = put_number(out, first, c.b);
-    let holds = put_number(out, second, t);
-    let fails = put_number(out, holds, f);
-    put_line_feed(out, fails)
-}
-
-// A name, one number and a line feed.
-pub fn put_numbered(out: &mut [u8], at: usize, name: &[u8], n: u32) -> usize
-    requires { (at < 2 ^ 18) × (length name.now ≤ 8) }
-    ensures { Put 64 out.old out.new at (numbered name.now n) result }
-{
-    let named = put_bytes(out, at, name);
-    let end = put_number(out, named, n);
-    put_line_feed(out, end)
-}
-
-pub fn put_ending(out: &mut [u8], at: usize, e: Ending) -> usize
-    requires { at < 2 ^ 18 }
-    ensures { Put 64 out.old out.new at (line_text (ending_line e)) result }
-{
-    match e {
-        Ending::Goto(t) => put_numbered(out, at, b"goto", t),
-        Ending::Ite(c, t, f) => put_ite(out, at, c, t, f),
-        Ending::Halt => put_bytes(out, at, b"halt\n"),
+    // A name's few bytes.
+    pub fn bytes(&mut self, bytes: &[u8])
+        requires { (self.old.at < 2 ^ 20) × (length bytes.now ≤ 8) }
+        ensures { Wrote 8 self.old self.new bytes.now }
+    {
+        for byte in bytes {
+            self.byte(*byte);
+        }
     }
-}
 
-pub fn put_graph_line(out: &mut [u8], blocks: u32, registers: u32) -> usize
-    ensures { Put 64 out.old out.new 0 (line_text (line.Graph blocks registers)) result }
-{
-    let named = put_bytes(out, 0, b"graph");
-    let counted = put_number(out, named, blocks);
-    let end = put_number(out, counted, registers);
-    put_line_feed(out, end)
+    pub fn line_feed(&mut self)
+        requires { self.old.at < 2 ^ 20 }
+        ensures { Wrote 1 self.old self.new (10 ∷ []) }
+    {
+        self.byte(b'\n');
+    }
+
+    // A comma and a number.
+    pub fn number(&mut self, n: u32)
+        requires { self.old.at < 2 ^ 20 }
+        ensures { Wrote 11 self.old self.new (44 ∷ decimal_of n) }
+    {
+        self.byte(b',');
+        self.decimal(n);
+    }
+
+    // A comma and a literal, given by its word.
+    fn literal(&mut self, word: u32)
+        requires { self.old.at < 2 ^ 20 }
+        ensures { Wrote 12 self.old self.new (44 ∷ literal_text word) }
+    {
+        if word < 0x8000_0000 {
+            self.number(word);
+        } else {
+            self.byte(b',');
+            self.byte(b'-');
+            self.decimal(word.wrapping_neg());
+        }
+    }
+
+    // An instruction's fields behind name and d.
+    fn operands(&mut self, i: Instruction)
+        requires { self.old.at < 2 ^ 19 }
+        ensures { Wrote 22 self.old self.new (commas (operands_of i)) }
+    {
+        if i.code == Code::SET {
+            self.literal(i.a);
+            return;
+        }
+        // How many operands the code reads: a count, and no kind.
+        match word::arity(i.code) {
+            0 => {}
+            1 => self.number(i.a),
+            _ => {
+                self.number(i.a);
+                self.number(i.b);
+            }
+        }
+    }
+
+    pub(crate) fn instruction(&mut self, i: Instruction)
+        requires { self.old.at < 2 ^ 18 }
+        ensures { Wrote 64 self.old self.new (line_text (line.Instruction i)) }
+    {
+        self.bytes(name_of(i.code));
+        self.number(i.d);
+        self.operands(i);
+        self.line_feed();
+    }
+
+    fn ite(&mut self, c: Condition, t: u32, f: u32)
+        requires { self.old.at < 2 ^ 18 }
+        ensures { Wrote 64 self.old self.new (line_text (line.Ite c t f)) }
+    {
+        self.bytes(b"ite,");
+        self.bytes(comparison_of(c.comparison));
+        self.number(c.a);
+        self.number(c.b);
+        self.number(t);
+        self.number(f);
+        self.line_feed();
+    }
+
+    // A name, one number and a line feed.
+    pub(crate) fn numbered(&mut self, name: &[u8], n: u32)
+        requires { (self.old.at < 2 ^ 18) × (length name.now ≤ 8) }
+        ensures { Wrote 64 self.old self.new (numbered name.now n) }
+    {
+        self.bytes(name);
+        self.number(n);
+        self.line_feed();
+    }
+
+    pub(crate) fn ending(&mut self, e: Ending)
+        requires { self.old.at < 2 ^ 18 }
+        ensures { Wrote 64 self.old self.new (line_text (ending_line e)) }
+    {
+        match e {
+            Ending::Goto(t) => self.numbered(b"goto", t),
+            Ending::Ite(c, t, f) => self.ite(c, t, f),
+            Ending::Halt => self.bytes(b"halt\n"),
+        }
+    }
+
+    pub(crate) fn graph_line(&mut self, blocks: u32, registers: u32)
+        requires { self.old.at < 2 ^ 18 }
+        ensures { Wrote 64 self.old self.new (line_text (line.Graph blocks registers)) }
+    {
+        self.bytes(b"graph");
+        self.number(blocks);
+        self.number(registers);
+        self.line_feed();
+    }
 }

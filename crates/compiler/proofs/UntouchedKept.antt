@@ -8,6 +8,9 @@ use lib.Dec.{eqb, ltb}
 use lib.ListN.{length, get_or, drop, length-map, get_or-append}
 use lib.Seq.{get_or-drop, get_or-append-add}
 use borrow.Author.Tests.{ltb-true, ltb-false, eqb-true, not-false}
+use Rattle.std.specs.Prelude.{Ok, Err}
+use Rattle.std.proofs.Common.{rules}
+use Rattle.refusal.specs.declared.Refusal.{Refusal}
 use Rattle.runs.proofs.ListLaws.{get_or-map}
 use Rattle.fsmd.specs.Layout.{machine_words, record_offset, next_registers_offset}
 use Rattle.fsmd.specs.Machine.{State, FSMD, worked, clock}
@@ -16,10 +19,9 @@ use Rattle.fsmd.specs.Table.{state_count, machine_register_count, state_at, mach
 use Rattle.fsmd.proofs.Machines.{registers_is, state_is, admitted_facts}
 use Rattle.fsmd.proofs.Windows.{window_length}
 use Rattle.synthesis.proofs.Environments.{worked_grows}
-use Rattle.touching.specs.declared.TouchesAnswer.TheVariants.{Refused, Answered}
-use Rattle.touching.specs.Touching.{touches_at, touches_answer, touches_number, touched_field}
+use Rattle.touching.specs.Touching.{touches_at, touches_answer, touched_field}
 use Rattle.touching.specs.Values.{Admits}
-use Rattle.touching.proofs.Answers.{touches-short, touches-other, touches-no-state, touches-answered}
+use Rattle.touching.proofs.Answers.{touches_short, touches_other, touches_no_state, touches_answered}
 use Rattle.compiler.specs.Unchanged.{UntouchedKept}
 
 -- ---- a cycle of a state, register by register
@@ -66,28 +68,28 @@ record Answers (t : List ℕ) (k i : ℕ) : Type 0 where
   below : k < state_count t
   untouched : touches_at t i k ≡ false
 
-field_zero : (b : Bool) → touched_field (Answered b) ≡ 0 → b ≡ false
+field_zero : (b : Bool) → touched_field (Ok b) ≡ 0 → b ≡ false
 field_zero true e = absurd (omega (arith, e))
 field_zero false e = refl
 
-answers : (t : List ℕ) (k i : ℕ) → touches_answer t k i ≡ Answered false → Answers t k i
+answers : (t : List ℕ) (k i : ℕ) → touches_answer t k i ≡ Ok false → Answers t k i
 answers t k i e = go (ltb (length t) machine_words) (admitted_machine t) (ltb k (state_count t)) refl refl refl
   where
     -- it is no refusal
-    no : (n : ℕ) → 0 < n → touches_answer t k i ≡ Refused n → ⊥
-    no n h r = let z : n ≡ 0 = ap touches_number (sym r ∙ e) in absurd (omega arith)
+    no : (r : Refusal) → touches_answer t k i ≡ Err r → ⊥
+    no r h = let z : Ok false ≡ Err r = sym e ∙ h in search (z, rules)
 
     go : (short good low : Bool) → ltb (length t) machine_words ≡ short → admitted_machine t ≡ good → ltb k (state_count t) ≡ low → Answers t k i
-    go true good low s g b = absurd (no 7 (omega arith) (touches-short t k i (ltb-true (length t) machine_words s)))
-    go false false low s g b = absurd (no 10 (omega arith) (touches-other t k i (ltb-false (length t) machine_words s) g))
-    go false true false s g b = absurd (no 9 (omega arith) (touches-no-state t k i (ltb-false (length t) machine_words s) g (ltb-false k (state_count t) b)))
+    go true good low s g b = absurd (no _ (touches_short t k i (ltb-true (length t) machine_words s)))
+    go false false low s g b = absurd (no _ (touches_other t k i (ltb-false (length t) machine_words s) g))
+    go false true false s g b = absurd (no _ (touches_no_state t k i (ltb-false (length t) machine_words s) g (ltb-false k (state_count t) b)))
     go false true true s g b =
         let whole = ltb-false (length t) machine_words s in
         let h = ltb-true k (state_count t) b in
         record {
           admits = record { whole = whole; good = g };
           below = h;
-          untouched = field_zero (touches_at t i k) (ap touched_field (sym (touches-answered t k i whole g h) ∙ e));
+          untouched = field_zero (touches_at t i k) (ap touched_field (sym (touches_answered t k i whole g h) ∙ e));
         }
 
 pub untouched_kept : UntouchedKept

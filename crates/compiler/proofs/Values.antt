@@ -7,35 +7,36 @@ use mathlib.Core.List.{List}
 use lib.ListN.{length}
 use lib.Dec.{ltb}
 use borrow.Author.Tests.{lt-ltb, le-ltb}
+use Rattle.std.specs.Prelude.{Ok, Err}
 use Rattle.capture.specs.Capture.{compare_lines, compare_captures, comparison}
 use Rattle.cfg.specs.Layout.{graph_words}
 use Rattle.cfg.specs.Table.{graph_of}
-use Rattle.cfg_text.specs.Walk.{Reading, refused, read}
+use Rattle.cfg_text.specs.Walk.{Reading}
 use Rattle.cfg_text.specs.Read.{reading, reading_answer, read_answer, read_number, read_line}
 use Rattle.cfg_write.specs.Write.{text_of, write_answer, write_number, write_length}
-use Rattle.cfg_write.specs.declared.WriteAnswer.TheVariants.{Refused, Written}
+use Rattle.refusal.specs.declared.Refusal.TheVariants.{ShortOutput}
 use Rattle.fsmd.specs.Layout.{machine_words}
 use Rattle.synthesis.specs.Synthesis.{synthesis_answer, synthesis_number}
 use Rattle.word.specs.Word.{choose}
 use Rattle.compiler.specs.Answers.{number_in, line_in, ReadValues, WriteValues, SynthesisValues, CaptureValues}
 
 number_in_lem : (x : Reading) → read_number (reading_answer x) ≡ number_in x
-number_in_lem (refused k n) = refl
-number_in_lem (read g) = refl
+number_in_lem (Err e) = refl
+number_in_lem (Ok g) = refl
 
 line_in_lem : (x : Reading) → read_line (reading_answer x) ≡ line_in x
-line_in_lem (refused k n) = refl
-line_in_lem (read g) = refl
+line_in_lem (Err e) = refl
+line_in_lem (Ok g) = refl
 
 pub read_values : (text table : List ℕ) → ReadValues text table (read_answer text table)
 unfolding read_answer
 read_values text table = record { number = number_in_lem (reading text table); line = line_in_lem (reading text table) }
 
-written_number : (b : Bool) (n : ℕ) → write_number (choose b (Refused 8 n) (Written n)) ≡ choose b 8 0
+written_number : (b : Bool) (n : ℕ) → write_number (choose b (Err (record { refusal = ShortOutput; length = n })) (Ok n)) ≡ choose b 8 0
 written_number true n = refl
 written_number false n = refl
 
-written_length : (b : Bool) (n : ℕ) → write_length (choose b (Refused 8 n) (Written n)) ≡ n
+written_length : (b : Bool) (n : ℕ) → write_length (choose b (Err (record { refusal = ShortOutput; length = n })) (Ok n)) ≡ n
 written_length true n = refl
 written_length false n = refl
 
@@ -75,7 +76,7 @@ module _ (r : ℕ) (one two : List ℕ) where
   capture_values =
       record {
         range = λ f. rw f (refl, refl, refl, refl, refl, refl);
-        first = λ i k n e. rw (i, e) (refl, refl, refl, refl, refl, refl);
-        second = λ i f k n e. rw (i, f, e) (refl, refl, refl, refl, refl, refl);
-        sound = λ i f e. rw (i, f, e) (refl, refl, refl, refl, refl, refl);
+        first = λ i f e. rw (i, e) (refl, refl, refl, refl, refl, refl);
+        second = λ i n f e. rw (i, n, e) (refl, refl, refl, refl, refl, refl);
+        sound = λ i n m. rw (i, n, m) (refl, refl, refl, refl, refl, refl);
       }

@@ -1,5 +1,5 @@
 -- What operations leave as it is: registers from R up and words past a table's length (paper 01), and registers that a state does not touch (R-4 of paper 02). Assumes nothing.
-use Rattle.std.specs.Prelude.{ℕ, false, List, ◌++◌, ◌≡◌, length, get_or, drop}
+use Rattle.std.specs.Prelude.{ℕ, false, List, ◌++◌, ◌≡◌, length, get_or, drop, Ok}
 use Rattle.cfg.specs.Layout.{graph_words}
 use Rattle.cfg.specs.Table.{graph_register_count}
 use Rattle.cfg.specs.Run.{graph_answer, graph_registers, graph_words_answer, graph_words_registers}
@@ -11,7 +11,6 @@ use Rattle.fsmd.specs.Table.{machine_register_count, machine_of}
 use Rattle.fsmd.specs.Run.{machine_answer, machine_registers, machine_blocks, machine_words_answer, machine_words_registers, machine_words_blocks}
 use Rattle.synthesis.specs.Synthesis.{synthesis_answer, synthesis_words}
 use Rattle.bounds.specs.Operation.{bounds_answer, lowest_left, highest_left}
-use Rattle.touching.specs.declared.TouchesAnswer.TheVariants.{Answered}
 use Rattle.touching.specs.Touching.{touches_answer, first_touching_answer}
 
 -- "Registers from R up keep their words." R is the table's word 1; a table that is not admitted is refused, and so keeps them all.
@@ -70,5 +69,5 @@ pub record PastLengths : Type 0 where
 -- state leaves that register as it is, whatever the registers and the sampled word.
 abbrev pub UntouchedKept : Type 0
 UntouchedKept =
-    (t : List ℕ) (k i : ℕ) → touches_answer t k i ≡ Answered false → (sampled : ℕ) (rs : List ℕ) → length rs ≡ max_registers
+    (t : List ℕ) (k i : ℕ) → touches_answer t k i ≡ Ok false → (sampled : ℕ) (rs : List ℕ) → length rs ≡ max_registers
     → get_or ((machine_runner (machine_of t)).unit sampled k rs).registers i 0 ≡ get_or rs i 0

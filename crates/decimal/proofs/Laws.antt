@@ -1,7 +1,8 @@
 -- Laws of a number's digits: the last one, and how many there are. Assumes nothing.
-use Prim.Native.Nat.{ℕ, zero, suc, ◌+◌, ◌-◌, ◌/◌, ◌%◌, ◌^◌, ◌≤◌, ◌<◌}
+use Prim.Native.Nat.{ℕ, zero, suc, ◌+◌, ◌-◌, ◌*◌, ◌/◌, ◌%◌, ◌^◌, ◌≤◌, ◌<◌}
 use native.Mathlib.Omega.{arith}
-use native.Mathlib.Nat.{pow-suc, add-zero, add-suc, suc-add}
+use Rattle.std.specs.Prelude.{max as larger}
+use native.Mathlib.Nat.{one-le-pow, pow-suc, add-zero, add-suc, suc-add}
 use native.Mathlib.Decide.{dec_lt}
 use mathlib.Core.Path.{◌≡◌, refl, sym, ◌∙◌}
 use mathlib.Core.Bool.{false}
@@ -67,6 +68,34 @@ decimal_some n = go (dec_lt n 10)
     go : Dec (n < 10) → 0 < length (decimal_of n)
     go (yes l) = rw (decimal_one n l) (omega arith)
     go (no l) = let d = decimal_length n (omega arith) in omega arith
+
+-- and one of 10 ^ k and more has at least k + 1
+pub decimal_long : (k n : ℕ) → 10 ^ k ≤ n → suc k ≤ length (decimal_of n)
+decimal_long zero n h = decimal_some n
+decimal_long (suc k) n h =
+    let e = pow-suc 10 k in
+    let p = one-le-pow k 10 (omega arith) in
+    let s = decimal_long k (n / 10) (omega arith) in
+    let d = decimal_length n (omega arith) in
+    omega arith
+
+-- so their number is that of the number's whole logarithm, and one
+pub decimal_width : (k m n : ℕ) → m ≡ larger n 1 → 10 ^ k ≤ m → m < 10 * 10 ^ k → k < 10 → (k + 1 ≡ length (decimal_of n)) × (k + 1 < 11)
+decimal_width k m n e low high s = (go (dec_lt 0 n), omega arith)
+  where
+    none : (j : ℕ) → 10 ^ j ≤ 1 → j ≡ 0
+    none zero h = refl
+    none (suc j) h = let p = pow-suc 10 j in let q = one-le-pow j 10 (omega arith) in absurd (omega arith)
+
+    go : Dec (0 < n) → k + 1 ≡ length (decimal_of n)
+    go (yes h) =
+        let p = pow-suc 10 k in
+        let least = decimal_long k n (omega arith) in
+        let most = decimal_short k n (omega arith) in
+        omega arith
+    go (no h) =
+        let one : k ≡ 0 = none k (omega arith) in
+        rw (one, decimal_one n (omega arith)) refl
 
 -- ---- digits written from the last to the first
 

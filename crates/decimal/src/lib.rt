@@ -5,7 +5,8 @@ ghost use Rattle.std.specs.Prelude.{◌≡◌, ◌+◌, ◌<◌, ◌^◌, length
 ghost use Rattle.std.proofs.lemmas.List.Edits.{sets};
 ghost use Rattle.decimal.specs.Decimal.{decimal_of};
 
-// One byte stored; past the end nothing is.
+// Buffer and place apart: `cases` and the writer of cfg_write each keep the place in their own way.
+// One byte stored; past the end nothing is. An `if` and no `get_mut`: of a slice lent by that a proof knows no element afterwards.
 pub fn put_byte(out: &mut [u8], at: usize, byte: u8)
     ensures { out.new ≡ set out.old at byte }
 {
@@ -15,16 +16,11 @@ pub fn put_byte(out: &mut [u8], at: usize, byte: u8)
 }
 
 // How many digits a number has.
+#[tactic(auto, using(crate::proofs::Laws::decimal_width))]
 pub fn width(n: u32) -> usize
     ensures { (result ≡ length (decimal_of n)) × (result < 11) }
 {
-    let mut left = n;
-    let mut w: usize = 1;
-    while 10 <= left {
-        left = left / 10;
-        w += 1;
-    }
-    w
+    n.max(1).ilog10() as usize + 1
 }
 
 // The digits of n from `at` on, and the place behind them.
@@ -34,11 +30,9 @@ pub fn put_decimal(out: &mut [u8], at: usize, n: u32) -> usize
 {
     let end = at + width(n);
     let mut left = n;
-    let mut i = end;
-    while at < i {
-        i -= 1;
-        put_byte(out, i, (48 + left % 10) as u8);
-        left = left / 10;
+    for i in (at..end).rev() {
+        put_byte(out, i, b'0' + (left % 10) as u8);
+        left /= 10;
     }
     end
 }

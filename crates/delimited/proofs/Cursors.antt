@@ -1,14 +1,15 @@
 -- The field at the front of a text: where it ends, and what a step that took it says of the text. Assumes nothing.
 use Rattle.std.proofs.Common.{◌≡◌, ℕ, ◌+◌, Bool, true, false, not, ◌||◌, eqb, List, [], ◌∷◌, ◌++◌, length, drop, sym, refl, ap, ◌∙◌, arith, drop-drop, ne_eqb, eqb-true}
 use mathlib.Core.Bool.{false≢true}
-use mathlib.Core.Option.{Option, none, some}
+use Rattle.std.specs.Prelude.{Option, None, Some}
 use lib.Seq.{drop-append-add}
 use borrow.Author.Tests.{not-true}
 use Rattle.word.specs.Word.{choose}
 use Rattle.runs.proofs.Tests.{and_true as both}
 use Rattle.runs.specs.Lists.{every}
-use Rattle.delimited.specs.declared.Field.TheVariants.{Value, Bad}
-use Rattle.delimited.specs.Cursor.{stops, front_field, stop_of, valued, field_at}
+use Rattle.std.proofs.lemmas.Option.{none-some, same_Some}
+use Rattle.delimited.specs.declared.Field.{Field}
+use Rattle.delimited.specs.Cursor.{stops, front_field, stop_of, found, valued, field_at}
 use Rattle.delimited.proofs.Split.{apart}
 
 -- no byte of the list ends a field
@@ -75,7 +76,7 @@ stop_none (x ∷ f) h =
     rw (not-true (stops x) p.0, stop_none f p.1)
 
 module _ (read : List ℕ → Option ℕ) (f : List ℕ) (b : ℕ) (t : List ℕ) (w : whole f ≡ true) (e : stops b ≡ true) (at : ℕ) where
-  pub field_at_lem : (end : ℕ) → field_at read end at (f ++ (b ∷ t)) ≡ choose (eqb b end) (valued (read f) (at + length f + 1)) Bad
+  pub field_at_lem : (end : ℕ) → field_at read end at (f ++ (b ∷ t)) ≡ choose (eqb b end) (valued (read f) (at + length f + 1)) None
   unfolding field_at
   field_at_lem end = rw (up_to f b t w e, stop_of_lem f b t w e)
 
@@ -85,7 +86,7 @@ stop_positive b h = ne_eqb 0 b (λ e. positive (sym e))
     positive : b ≡ 0 → ⊥
     positive e = false≢true (sym (ap stops e) ∙ h)
 
-pub field_none : (read : List ℕ → Option ℕ) (s : List ℕ) → whole s ≡ true → (b at : ℕ) → stops b ≡ true → field_at read b at s ≡ Bad
+pub field_none : (read : List ℕ → Option ℕ) (s : List ℕ) → whole s ≡ true → (b at : ℕ) → stops b ≡ true → field_at read b at s ≡ None
 unfolding field_at
 field_none read s w b at h = rw (stop_none s w, stop_positive b h)
 
@@ -97,28 +98,21 @@ pub record Taken (read : List ℕ → Option ℕ) (b at v next : ℕ) (s : List 
   pub t : List ℕ
   pub clean : whole f ≡ true
   pub front_is : s ≡ f ++ (b ∷ t)
-  pub value : read f ≡ some v
+  pub value : read f ≡ Some v
   pub next_is : next ≡ at + length f + 1
 
-value_of : (o : Option ℕ) (m v n : ℕ) → valued o m ≡ Value v n → (o ≡ some v) × (n ≡ m)
-value_of none m v n e =
-    let z : ◌≡◌ {A = ℕ} 0 1 = cc in
-    absurd (omega arith)
-value_of (some w) m v n e = (cc, cc)
+value_of : (o : Option ℕ) (m v n : ℕ) → valued o m ≡ found v n → (o ≡ Some v) × (n ≡ m)
+value_of None m v n e = absurd (none-some _ e)
+value_of (Some w) m v n e =
+    let f = same_Some _ _ e in
+    (ap (λ (x : Field). Some x.value) f, sym (ap (λ (x : Field). x.next) f))
 
-pub bad_of : (o : Option ℕ) (m : ℕ) → valued o m ≡ Bad → o ≡ none
-bad_of none m e = refl
-bad_of (some w) m e =
-    let z : ◌≡◌ {A = ℕ} 0 1 = cc in
-    absurd (omega arith)
-
-bad_is_no_value : {X : Type 0} (v n : ℕ) → Bad ≡ Value v n → X
-bad_is_no_value v n e =
-    let z : ◌≡◌ {A = ℕ} 0 1 = cc in
-    absurd (omega arith)
+pub bad_of : (o : Option ℕ) (m : ℕ) → valued o m ≡ None → o ≡ None
+bad_of None m e = refl
+bad_of (Some w) m e = absurd (none-some _ (sym e))
 
 module _ (read : List ℕ → Option ℕ) (at : ℕ) (s : List ℕ) where
-  pub taken : (b v n : ℕ) → stops b ≡ true → field_at read b at s ≡ Value v n → Taken read b at v n s
+  pub taken : (b v n : ℕ) → stops b ≡ true → field_at read b at s ≡ found v n → Taken read b at v n s
   taken b v n sb h = go (front s)
     where
       at_stop : (c : ℕ) (f t : List ℕ) → stops c ≡ true → whole f ≡ true → s ≡ f ++ (c ∷ t) → Taken read b at v n s
@@ -126,17 +120,17 @@ module _ (read : List ℕ → Option ℕ) (at : ℕ) (s : List ℕ) where
         where
           by :
               (q : Bool) → eqb c b ≡ q
-              → choose (eqb c b) (valued (read f) (at + length f + 1)) Bad ≡ Value v n
+              → choose (eqb c b) (valued (read f) (at + length f + 1)) None ≡ found v n
               → Taken read b at v n s
           by true q g =
               let r = value_of (read f) (at + length f + 1) v n (rw q at g) in
               record { f = f; t = t; clean = w; front_is = e ∙ ap (λ (x : ℕ). f ++ (x ∷ t)) (eqb-true c b q); value = r.0; next_is = r.1 }
-          by false q g = bad_is_no_value v n (rw q at g)
+          by false q g = absurd (none-some _ (rw q at g))
 
       go : Front s → Taken read b at v n s
       go (comma f t w e) = at_stop 44 f t refl w e
       go (feed f t w e) = at_stop 10 f t refl w e
-      go (unended w) = bad_is_no_value v n (sym (field_none read s w b at sb) ∙ h)
+      go (unended w) = absurd (none-some _ (sym (field_none read s w b at sb) ∙ h))
 
 -- what stands behind a field that was taken
 pub behind : (text f t : List ℕ) (b at : ℕ) → drop at text ≡ f ++ (b ∷ t) → drop (at + length f + 1) text ≡ t

@@ -1,10 +1,9 @@
 -- The line at the front of a text, field by field, for any form. Assumes nothing.
 use Rattle.std.proofs.Common.{◌≡◌, ℕ, ◌+◌, true, List, [], ◌∷◌, ◌++◌, length, drop, sym, refl, ap, ◌∙◌, arith, length-append, eq-eqb}
 use mathlib.Core.Path.{fun_ext}
-use mathlib.Core.Option.{Option, none, some}
-use Rattle.delimited.specs.declared.Field.TheVariants.{Value, Bad}
+use Rattle.std.specs.Prelude.{Option, None, Some}
 use Rattle.delimited.specs.Parts.{Fields, split_at}
-use Rattle.delimited.specs.Cursor.{stops, field_at, first_line, front_line}
+use Rattle.delimited.specs.Cursor.{stops, found, field_at, first_line, front_line}
 use Rattle.delimited.proofs.Split.{apart, parts, split_front, split_part, split_last}
 use Rattle.delimited.proofs.Cursors.{whole, no_comma, no_feed, Front, comma, feed, unended, front, field_at_lem, bad_of, Taken, taken, behind}
 
@@ -50,8 +49,8 @@ module _ {X : Type 0} (bad : X) (form : Fields → ℕ → X) (at : ℕ) where
 module _ {X : Type 0} (bad : X) (form : Fields → ℕ → X) (read : List ℕ → Option ℕ) where
   module _ (text : List ℕ) (at : ℕ) {v n : ℕ} where
     -- with a comma behind it: on with the form `next`
-    pub on : (next : Fields → ℕ → X) → ((f : List ℕ) (fs : Fields) (m : ℕ) → read f ≡ some v → form (f ∷ fs) m ≡ next fs m)
-        → field_at read 44 at (drop at text) ≡ Value v n
+    pub on : (next : Fields → ℕ → X) → ((f : List ℕ) (fs : Fields) (m : ℕ) → read f ≡ Some v → form (f ∷ fs) m ≡ next fs m)
+        → field_at read 44 at (drop at text) ≡ found v n
         → front_line bad form at (drop at text) ≡ front_line bad next n (drop n text)
     on next h e = go (taken read at (drop at text) 44 v n refl e)
       where
@@ -63,8 +62,8 @@ module _ {X : Type 0} (bad : X) (form : Fields → ℕ → X) (read : List ℕ �
             ∙ rw (d.next_is, behind text d.f d.t 44 at d.front_is)
 
     -- with the line feed behind it
-    pub last : (x : ℕ → X) → ((f : List ℕ) (m : ℕ) → read f ≡ some v → form (f ∷ []) m ≡ x m)
-        → field_at read 10 at (drop at text) ≡ Value v n
+    pub last : (x : ℕ → X) → ((f : List ℕ) (m : ℕ) → read f ≡ Some v → form (f ∷ []) m ≡ x m)
+        → field_at read 10 at (drop at text) ≡ found v n
         → front_line bad form at (drop at text) ≡ x n
     last x h e = go (taken read at (drop at text) 10 v n refl e)
       where
@@ -75,14 +74,14 @@ module _ {X : Type 0} (bad : X) (form : Fields → ℕ → X) (read : List ℕ �
             ∙ h d.f (at + length d.f + 1) d.value
             ∙ rw d.next_is
 
-  module _ (at : ℕ) (s : List ℕ) (unread : (f : List ℕ) (fs : Fields) (m : ℕ) → read f ≡ none → form (f ∷ fs) m ≡ bad) where
-    none_at : (b : ℕ) (f t : List ℕ) → stops b ≡ true → whole f ≡ true → s ≡ f ++ (b ∷ t) → field_at read b at s ≡ Bad → read f ≡ none
+  module _ (at : ℕ) (s : List ℕ) (unread : (f : List ℕ) (fs : Fields) (m : ℕ) → read f ≡ None → form (f ∷ fs) m ≡ bad) where
+    none_at : (b : ℕ) (f t : List ℕ) → stops b ≡ true → whole f ≡ true → s ≡ f ++ (b ∷ t) → field_at read b at s ≡ None → read f ≡ None
     none_at b f t sb w e h =
         bad_of (read f) (at + length f + 1)
         (rw (eq-eqb b b refl) at (sym (field_at_lem read f b t w sb at b) ∙ ap (field_at read b at) (sym e) ∙ h))
 
     -- none with a comma behind it, where the form wants more
-    pub not_on : ((f : List ℕ) (m : ℕ) → form (f ∷ []) m ≡ bad) → field_at read 44 at s ≡ Bad → front_line bad form at s ≡ bad
+    pub not_on : ((f : List ℕ) (m : ℕ) → form (f ∷ []) m ≡ bad) → field_at read 44 at s ≡ None → front_line bad form at s ≡ bad
     not_on more h = go (front s)
       where
         go : Front s → front_line bad form at s ≡ bad
@@ -94,7 +93,7 @@ module _ {X : Type 0} (bad : X) (form : Fields → ℕ → X) (read : List ℕ �
         go (unended w) = line_open bad form at s (no_feed s w)
 
     -- none with the line feed behind it, where the form wants no more
-    pub not_last : ((f g : List ℕ) (fs : Fields) (m : ℕ) → form (f ∷ g ∷ fs) m ≡ bad) → field_at read 10 at s ≡ Bad → front_line bad form at s ≡ bad
+    pub not_last : ((f g : List ℕ) (fs : Fields) (m : ℕ) → form (f ∷ g ∷ fs) m ≡ bad) → field_at read 10 at s ≡ None → front_line bad form at s ≡ bad
     not_last over h = go (front s)
       where
         go : Front s → front_line bad form at s ≡ bad

@@ -2,7 +2,8 @@
 use Rattle.std.proofs.Common.{◌≡◌, ℕ, zero, suc, ◌+◌, ◌-◌, ◌*◌, ◌/◌, ◌%◌, ◌<◌, ◌≤◌, Bool, true, false, not, ◌&&◌, eqb, leb, List, [], ◌∷◌, ◌++◌, length, get_or, sym, refl, ap, ◌∙◌, append_assoc, append-nil, arith, ne_eqb, le-leb, leb-true}
 use native.Mathlib.Decide.{dec_lt}
 use mathlib.Core.Bool.{false≢true}
-use mathlib.Core.Option.{Option, none, some}
+use Rattle.std.specs.Prelude.{None, Some}
+use Rattle.std.proofs.lemmas.Option.{none-some}
 use lib.ListN.{get_or-append}
 use borrow.Author.Tests.{eqb-false, not-true}
 use Rattle.word.specs.Word.{choose}
@@ -11,10 +12,6 @@ use Rattle.runs.proofs.ListLaws.{and_left, and_right, and_both, every_snoc}
 use Rattle.decimal.specs.Decimal.{decimal_of}
 use Rattle.decimal.proofs.Laws.{decimal_one, decimal_last, decimal_some}
 use Rattle.delimited.specs.Number.{digit, decimal, value_from, at_most}
-
--- an option is not both none and some
-pub none_some {ℓ} : {X : Type ℓ} {Y : Type 0} (x : X) → ◌≡◌ {A = Option X} none (some x) → Y
-none_some x e = absurd (let z : ◌≡◌ {A = ℕ} 0 1 = cc in omega arith)
 
 -- ---- digits
 
@@ -79,7 +76,7 @@ decimal_decimal n = go (dec_lt 0 n)
     go (yes l) = decimal_is (decimal_of n) (decimal_some n) (decimal_digits n) ((digits_of n).leading l)
     go (no l) = let e : n ≡ 0 = omega arith in rw (e, decimal_one 0 (omega arith))
 
-pub number_read : (m n : ℕ) → n ≤ m → at_most m (decimal_of n) ≡ some n
+pub number_read : (m n : ℕ) → n ≤ m → at_most m (decimal_of n) ≡ Some n
 unfolding at_most
 number_read m n h = rw (decimal_decimal n, (digits_of n).value, le-leb n m h)
 
@@ -131,15 +128,15 @@ pub record WrittenAtMost (m n : ℕ) (f : List ℕ) : Type 0 where
   pub field : f ≡ decimal_of n
   pub small : n ≤ m
 
-pub number_written : (m n : ℕ) (f : List ℕ) → at_most m f ≡ some n → WrittenAtMost m n f
+pub number_written : (m n : ℕ) (f : List ℕ) → at_most m f ≡ Some n → WrittenAtMost m n f
 unfolding at_most
 number_written m n f = go (decimal f) refl (leb (value_from 0 f) m) refl
   where
     go :
         (p : Bool) → decimal f ≡ p → (q : Bool) → leb (value_from 0 f) m ≡ q
-        → choose (p && q) (some (value_from 0 f)) none ≡ some n → WrittenAtMost m n f
+        → choose (p && q) (Some (value_from 0 f)) None ≡ Some n → WrittenAtMost m n f
     go true d true l e =
         let v : value_from 0 f ≡ n = cc in
         record { field = sym (value_back f d) ∙ ap decimal_of v; small = rw v at (leb-true (value_from 0 f) m l) }
-    go true d false l e = none_some n e
-    go false d q l e = none_some n e
+    go true d false l e = absurd (none-some n e)
+    go false d q l e = absurd (none-some n e)

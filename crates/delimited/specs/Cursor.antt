@@ -1,10 +1,8 @@
 -- A field and a line at the front of a text: what the steps of reading a line hand on. Assumes nothing.
-use Rattle.std.specs.Prelude.{ℕ, ◌+◌, Bool, ◌&&◌, ◌||◌, List, [], ◌∷◌, length, ◌==◌, nat_le}
-use Rattle.std.proofs.Math.Option.{Option, none, some}
+use Rattle.std.specs.Prelude.{ℕ, ◌+◌, Bool, ◌&&◌, ◌||◌, List, [], ◌∷◌, length, ◌==◌, nat_le, Option, Some, None, option_map}
 use Rattle.word.specs.Word.{choose}
 use Rattle.runs.specs.Lists.{every}
 use Rattle.delimited.specs.declared.Field.{Field}
-use Rattle.delimited.specs.declared.Field.TheVariants as field
 use Rattle.delimited.specs.Number.{digit, value_from}
 use Rattle.delimited.specs.Parts.{Fields, split_at}
 
@@ -23,19 +21,23 @@ stop_of (x ∷ xs) = choose (stops x) x (stop_of xs)
 
 -- ---- fields; the text stands at `at`
 
-abbrev pub valued : Option ℕ → ℕ → Field
-valued none next = field.Bad
-valued (some v) next = field.Value v next
+-- a field of the value v, behind which the text goes on at n
+abbrev pub found : ℕ → ℕ → Option Field
+found v n = Some record { value = v; next = n }
+
+-- such a field of a value that there may be
+abbrev pub valued : Option ℕ → ℕ → Option Field
+valued value n = option_map (λ v. record { value = v; next = n }) value
 
 -- the field's value, where the byte `end` ends it
-unfoldable pub field_at : (List ℕ → Option ℕ) → ℕ → ℕ → List ℕ → Field
+unfoldable pub field_at : (List ℕ → Option ℕ) → ℕ → ℕ → List ℕ → Option Field
 unfolding front_field stop_of
-field_at read end at s = choose (stop_of s == end) (valued (read (front_field s)) (at + length (front_field s) + 1)) field.Bad
+field_at read end at s = choose (stop_of s == end) (valued (read (front_field s)) (at + length (front_field s) + 1)) None
 
 -- digits behind the value v, or none
 unfoldable pub digits_at_most : ℕ → ℕ → List ℕ → Option ℕ
 unfolding value_from
-digits_at_most most v f = choose (every digit f && nat_le (value_from v f) most) (some (value_from v f)) none
+digits_at_most most v f = choose (every digit f && nat_le (value_from v f) most) (Some (value_from v f)) None
 
 -- ---- lines
 

@@ -1,6 +1,5 @@
--- A number in a field: digits without leading zeros ("Text" of paper 01, R-12 of paper 02). Assumes nothing.
-use Rattle.std.specs.Prelude.{ℕ, ◌+◌, ◌-◌, ◌*◌, Bool, false, not, ◌&&◌, List, [], ◌∷◌, ◌==◌, nat_le}
-use Rattle.std.proofs.Math.Option.{Option, none, some}
+-- A number in a field: digits without leading zeros. Assumes nothing.
+use Rattle.std.specs.Prelude.{ℕ, ◌+◌, ◌-◌, ◌*◌, Bool, false, not, ◌&&◌, List, [], ◌∷◌, ◌==◌, nat_le, Option, Some, None}
 use Rattle.word.specs.Word.{choose}
 use Rattle.runs.specs.Lists.{every}
 
@@ -21,4 +20,4 @@ value_from v (b ∷ bs) = value_from (v * 10 + (b - 48)) bs
 -- a field as a number of at most `most`
 unfoldable pub at_most : ℕ → List ℕ → Option ℕ
 unfolding decimal value_from
-at_most most f = choose (decimal f && nat_le (value_from 0 f) most) (some (value_from 0 f)) none
+at_most most f = choose (decimal f && nat_le (value_from 0 f) most) (Some (value_from 0 f)) None

@@ -1,7 +1,7 @@
 -- The machine of a table, state by state, and what it is that a table is admitted. Assumes nothing.
 use Prim.Native.Nat.{ℕ, ◌+◌, ◌<◌, ◌≤◌}
 use native.Mathlib.Omega.{arith}
-use mathlib.Core.Bool.{Bool, true, not, ◌&&◌}
+use mathlib.Core.Bool.{Bool, true, false, not, ◌&&◌, and_assoc}
 use mathlib.Core.List.{List}
 use mathlib.Core.Path.{◌≡◌, refl, sym, ap, ap₂, ◌∙◌}
 use lib.Dec.{eqb, leb}
@@ -10,12 +10,12 @@ use borrow.Author.Tests.{leb-true, le-leb, eqb-true, eq-eqb}
 use Rattle.runs.proofs.Every.{below_at, below_of}
 use Rattle.runs.proofs.ListLaws.{and_left, and_right, and_both, every_map, length-up_from, get_or-map-up_from}
 use Rattle.runs.specs.Lists.{up_from, every}
-use Rattle.fsmd.specs.Clock.{Roomy, fits_small}
-use Rattle.fsmd.specs.Layout.{max_states, max_blocks, max_registers, max_wires, record_offset, next_state_offset, next_registers_offset, room_words, small_room_words}
+use Rattle.fsmd.specs.Clock.{Roomy, fits_small, Ready, Arriving}
+use Rattle.fsmd.specs.Layout.{machine_words, max_states, max_blocks, max_registers, max_wires, record_offset, next_state_offset, next_registers_offset, room_words, small_room_words}
 use Rattle.fsmd.specs.Machine.{state_of, empty_state, wordless_machine}
-use Rattle.fsmd.specs.Table.{first_wire_at, wire_count_at, state_at, machine_of, valid_reference, valid_wires, valid_state, within, apart, touch_at, right_touch, right_blocks, admitted_machine}
+use Rattle.fsmd.specs.Table.{state_count, machine_register_count, first_wire_at, wire_count_at, state_at, machine_of, valid_reference, valid_wires, valid_state, within, apart, touch_at, right_touch, right_blocks, admitted_machine}
 use Rattle.fsmd.specs.Touch.{touch_word}
-use Rattle.fsmd.proofs.BlockLaws.{right_at, right_blocks_are}
+use Rattle.fsmd.proofs.BlockLaws.{right_at, right_blocks_are, wire_below}
 use Rattle.fsmd.proofs.Windows.{wires_from, wires_length}
 
 -- ---- the machine of a table
@@ -37,14 +37,9 @@ state_is t k h = get_or-map-up_from (state_at t) (get_or t 0 0) k empty_state h
 abbrev pub wordless_wires : List ℕ → ℕ → ℕ → Bool
 wordless_wires t first count = every (λ w. not (eqb w.code 20)) (wires_from t first count)
 
-abbrev pub wordless_state : List ℕ → ℕ → Bool
-wordless_state t k = wordless_wires t (first_wire_at t k) (wire_count_at t k)
-
-pub wordless_is : (t : List ℕ) (n : ℕ) → n ≡ get_or t 0 0 → wordless_machine (machine_of t) ≡ every (wordless_state t) (up_from 0 n)
+pub wordless_states : (t : List ℕ) → wordless_machine (machine_of t) ≡ every (λ k. every (λ w. not (eqb w.code 20)) (state_at t k).wires) (up_from 0 (state_count t))
 unfolding wordless_machine machine_of
-wordless_is t n e =
-    every_map (state_at t) (λ q. every (λ w. not (eqb w.code 20)) q.wires) (up_from 0 (get_or t 0 0))
-    ∙ sym (ap (λ (n : ℕ). every (wordless_state t) (up_from 0 n)) e)
+wordless_states t = every_map (state_at t) (λ q. every (λ w. not (eqb w.code 20)) q.wires) (up_from 0 (state_count t))
 
 -- ---- the next references of a state, from the words of its record
 
@@ -159,3 +154,49 @@ small_roomy t e k h = leb-true (max_registers + wire_count_at t k) small_room_wo
 
 pub admitted_roomy : (t : List ℕ) → admitted_machine t ≡ true → Roomy t room_words
 admitted_roomy t e k h = let w = (admitted_facts t e).in_space k h in omega arith
+
+-- the tests of a state, of its own words
+pub valid_state_tests : (t : List ℕ) (k : ℕ) → let r = machine_register_count t in let n = wire_count_at t k in
+    let next = take r (drop (record_offset k + next_registers_offset) t) in
+    (valid_state r (state_at t k) && right_touch t k)
+    ≡ (valid_wires r 0 (wires_from t (first_wire_at t k) n)
+    && (valid_reference r n (get_or t (record_offset k + next_state_offset) 0) && every (valid_reference r n) next && eqb (touch_at t k) (touch_word next)))
+unfolding state_at
+valid_state_tests t k =
+    let r = machine_register_count t in
+    let n = wire_count_at t k in
+    let next = take r (drop (record_offset k + next_registers_offset) t) in
+    let a = valid_wires r 0 (wires_from t (first_wire_at t k) n) in
+    let b = valid_reference r n (get_or t (record_offset k + next_state_offset) 0) in
+    let c = every (valid_reference r n) next in
+    let d = eqb (touch_at t k) (touch_word next) in
+    ap (λ (v : Bool). v && right_touch t k) (valid_state_is t r k (first_wire_at t k) n (record_offset k) refl refl refl refl)
+    ∙ and_assoc (a && b) c d ∙ and_assoc a b (c && d) ∙ ap (λ (v : Bool). a && v) (sym (and_assoc b c d))
+
+-- the tests of a table whose counts are within their limits
+pub admitted_tests : (t : List ℕ) → 1 ≤ state_count t → state_count t ≤ max_states → 1 ≤ machine_register_count t → machine_register_count t ≤ max_registers
+    → admitted_machine t
+    ≡ (every (within t) (up_from 0 (state_count t))
+    && every (λ k. every (λ j. apart t j k) (up_from 0 k)) (up_from 0 (state_count t))
+    && every (λ k. valid_state (machine_register_count t) (state_at t k) && right_touch t k) (up_from 0 (state_count t))
+    && right_blocks t)
+unfolding admitted_machine
+admitted_tests t a b c d = rw (le-leb 1 (state_count t) a, le-leb (state_count t) max_states b, le-leb 1 (machine_register_count t) c, le-leb (machine_register_count t) max_registers d)
+
+-- a table is not, where it cannot be
+pub not_admitted : (t : List ℕ) → (Admitted t → ⊥) → admitted_machine t ≡ false
+not_admitted t f = go (admitted_machine t) refl
+  where
+    go : (b : Bool) → admitted_machine t ≡ b → b ≡ false
+    go true e = absurd (f (admitted_facts t e))
+    go false e = refl
+
+-- ---- what a cycle of an admitted machine's state may rely on
+
+pub ready_at : (t : List ℕ) (k : ℕ) → machine_words ≤ length t → admitted_machine t ≡ true → k < state_count t → Ready t k
+ready_at t k whole e h =
+    let m = admitted_facts t e in
+    record { whole = whole; state = omega (arith, m.few_states_lem); wires = m.in_space k h; registers = m.few_registers_lem; valid = m.valid k h }
+
+pub arriving_at : (t : List ℕ) (k : ℕ) → admitted_machine t ≡ true → k < state_count t → Arriving t k
+arriving_at t k e h = let m = admitted_facts t e in λ b l s. wire_below t m.few_states_lem b k s h (m.blocks b l)

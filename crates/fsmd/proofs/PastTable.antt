@@ -18,6 +18,8 @@ use Rattle.fsmd.specs.Layout.{max_states, max_blocks, max_registers, max_wires, 
 use Rattle.fsmd.specs.Machine.{State, FSMD, machine_runner, blocks_run, wordless_machine}
 use Rattle.fsmd.specs.Touch.{touch_word}
 use Rattle.fsmd.specs.Table.{wire_at, first_wire_at, wire_count_at, state_at, block_state_at, arrival_at, machine_of, admitted_machine}
+use Rattle.refusal.specs.declared.Refusal.TheVariants.{NoStart, NoWords}
+use Rattle.std.specs.Prelude.{Some, None}
 use Rattle.fsmd.specs.Run.{machine_refusal, machine_answer, machine_registers, machine_blocks, machine_words_refusal, machine_words_answer, machine_words_registers, machine_words_blocks}
 use Rattle.fsmd.proofs.BlockLaws.{right_at}
 use Rattle.fsmd.proofs.Machines.{Admitted, admitted_facts, facts_admitted}
@@ -108,7 +110,7 @@ admitted_same {t} {t'} f =
 
 -- the tests that are left where the table is admitted
 last_tests : (t rs : List ℕ) (start : ℕ) → machine_words ≤ length t → max_registers ≤ length rs → admitted_machine t ≡ true
-    → machine_refusal t rs start ≡ choose (not (wordless_machine (machine_of t))) 12 (choose (not (ltb start (get_or t 0 0))) 9 0)
+    → machine_refusal t rs start ≡ choose (not (wordless_machine (machine_of t))) (Some NoWords) (choose (not (ltb start (get_or t 0 0))) (Some NoStart) None)
 unfolding machine_refusal
 last_tests t rs start whole long good = rw (le-ltb (length t) machine_words whole, le-ltb (length rs) max_registers long, good)
 
@@ -149,7 +151,7 @@ module _ (t u : List ℕ) (whole : machine_words ≤ length t) where
         go false e = refuse_machine (t ++ u) (rs ++ v) start past_whole past_long (past_admitted ∙ e) ∙ sym (refuse_machine t rs start whole long e)
         go true e =
             last_tests (t ++ u) (rs ++ v) start past_whole past_long (past_admitted ∙ e)
-            ∙ ap₂ {C = ℕ} (λ (m : FSMD) (n : ℕ). choose (not (wordless_machine m)) 12 (choose (not (ltb start n)) 9 0)) (past_machine e) (front.word 0 (omega arith))
+            ∙ ap₂ (λ (m : FSMD) (n : ℕ). choose (not (wordless_machine m)) (Some NoWords) (choose (not (ltb start n)) (Some NoStart) None)) (past_machine e) (front.word 0 (omega arith))
             ∙ sym (last_tests t rs start whole long e)
 
     past_words_refusal : machine_words_refusal (t ++ u) (rs ++ v) start ≡ machine_words_refusal t rs start

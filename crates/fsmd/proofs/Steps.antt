@@ -1,26 +1,31 @@
 -- Cycles of a table's machine as steps of a run, and the refusals. Assumes nothing.
-use Prim.Native.Nat.{ℕ, suc, ◌+◌, ◌-◌, ◌<◌, ◌≤◌}
+use Prim.Native.Nat.{ℕ, ◌+◌, ◌-◌, ◌<◌, ◌≤◌}
 use native.Mathlib.Numerals.{add-one}
 use native.Mathlib.Omega.{arith}
-use mathlib.Core.Bool.{true, false}
+use mathlib.Core.Bool.{Bool, true, false, not, ◌||◌, or-true}
 use mathlib.Core.List.{List, ◌++◌, map}
 use mathlib.Core.Path.{◌≡◌, refl, sym, ap, ap₂, ◌∙◌, subst}
 use lib.ListN.{length, get_or, take, drop}
+use borrow.Author.Rules.{rules}
 use borrow.Author.Tests.{lt-ltb, le-ltb}
+use lib.Dec.{ltb}
+use Rattle.word.specs.Word.{choose}
 use Rattle.runs.proofs.RunLaws.{goes_standing, step_going, Reached, reached_step}
 use Rattle.runs.proofs.TotalLaws.{Totalled, totalled_step}
-use Rattle.runs.proofs.OperationLaws.{refuses, refused_total, accepts, accepts_total}
+use Rattle.runs.proofs.OperationLaws.{refuses, accepts, accepts_total}
 use Rattle.runs.proofs.SupplyLaws.{Alike}
 use Rattle.runs.specs.Operations.{answered, registers_left, total_of}
-use Rattle.runs.specs.declared.RunAnswer.{RunAnswer}
-use Rattle.runs.specs.declared.RunAnswer.TheVariants.{Refused}
+use Rattle.std.specs.Prelude.{Option, Some, None, Result, Ok, Err}
+use Rattle.refusal.specs.declared.Refusal.{Refusal}
+use Rattle.refusal.specs.declared.Refusal.TheVariants.{ShortBuffer, NoStart, BadMachine, NoWords}
+use Rattle.fsmd.specs.declared.run.MachineRun.{MachineRun}
 use Rattle.runs.specs.Runs.{halted, Contents, Configuration, stands_at, start_at, up_to, Supply, Runner, Moved, contents_after, moved, step, answer, registers_after, total}
 use Rattle.fsmd.specs.Chains.{blocks_from}
 use Rattle.fsmd.specs.Clock.{after_cycle}
 use Rattle.fsmd.specs.Layout.{max_registers, machine_words}
 use Rattle.fsmd.specs.Machine.{FSMD, worked, clock, nonzero, machine_runner, blocks_run, wordless_machine}
-use Rattle.fsmd.specs.Run.{machine_refusal, machine_words_refusal}
-use Rattle.fsmd.specs.Table.{state_at, arrival_at, machine_of, admitted_machine}
+use Rattle.fsmd.specs.Run.{machine_short, with_blocks, machine_refusal, machine_words_refusal}
+use Rattle.fsmd.specs.Table.{state_at, arrival_at, machine_of, admitted_machine, table_refusal}
 use Rattle.fsmd.specs.declared.clock.Next.{Next}
 use Rattle.fsmd.proofs.ChainLaws.{arrived_run}
 use Rattle.fsmd.proofs.Machines.{state_is}
@@ -85,81 +90,101 @@ module _ (t : List ℕ) (r : Next) where
   pub after_halted : get_or t 0 0 ≤ r.state → (after_cycle t r).place ≡ halted
   after_halted h = rw (le-ltb r.state (get_or t 0 0) h)
 
--- ---- what an operation gives: its answer, the buffer left, and the blocks
+-- ---- what an operation gives: how the run ends with its blocks, and the buffer left
 
-module _ (m : FSMD) (ws : Supply) (rs : List ℕ) (start budget n : ℕ) where
+module _ (m : FSMD) (ws : Supply) (rs : List ℕ) (start budget : ℕ) (n : Option Refusal) where
   abbrev r : Runner
   r = machine_runner m
 
-  abbrev Gives : RunAnswer → List ℕ → ℕ → Type 0
-  Gives x left v = (x ≡ answered n r ws rs start budget) × ((left ≡ registers_left n r ws rs start budget) × (v ≡ total_of (blocks_run m) n r ws rs start budget))
+  abbrev Gives : Result MachineRun Refusal → List ℕ → Type 0
+  Gives x left = (x ≡ with_blocks (answered n r ws rs start budget) (total_of (blocks_run m) n r ws rs start budget)) × (left ≡ registers_left n r ws rs start budget)
 
-  pub gives_refusal : (i : ℕ) → n ≡ suc i → (x : RunAnswer) (v : ℕ) → (x ≡ Refused (suc i)) × (v ≡ 0) → Gives x rs v
-  gives_refusal i e x v h =
-      let z = refuses r ws rs start budget n i e in
-      (h.0 ∙ z.0, (z.1, h.1 ∙ sym (refused_total (blocks_run m) r ws rs start budget n i e)))
+  pub gives_refusal : (e : Refusal) → n ≡ Some e → Gives (Err e) rs
+  gives_refusal e h =
+      let z = refuses r ws rs start budget n e h in
+      (ap (λ x. with_blocks x (total_of (blocks_run m) n r ws rs start budget)) z.0, z.1)
 
   -- from a run on other words that are alike as far as the budget goes
-  pub gives_run : (a : Supply) → Alike budget a ws → n ≡ 0 → (x : RunAnswer) (left : List ℕ) (v : ℕ)
-      → x ≡ answer r a budget (start_at start (take max_registers rs))
+  pub gives_run : (a : Supply) → Alike budget a ws → n ≡ None → (x : MachineRun) (left : List ℕ)
+      → x.end ≡ answer r a budget (start_at start (take max_registers rs))
       → left ≡ registers_after r a budget (start_at start (take max_registers rs)) ++ drop max_registers rs
-      → v ≡ total r a (blocks_run m) budget (start_at start (take max_registers rs)) → Gives x left v
-  gives_run a h e x left v p q k =
-      let z = accepts r ws rs start budget n a h e x left p q in
-      (z.0, (z.1, k ∙ accepts_total (blocks_run m) r ws rs start budget n a h e))
+      → x.blocks ≡ total r a (blocks_run m) budget (start_at start (take max_registers rs)) → Gives (Ok x) left
+  gives_run a h e x left p q k =
+      let z = accepts r ws rs start budget n a h e x.end left p q in
+      (ap₂ with_blocks z.0 (k ∙ accepts_total (blocks_run m) r ws rs start budget n a h e), z.1)
 
 -- ---- refusals
 
+-- of the buffer, and then of the table alone, whatever is tested behind them
+module _ (t rs : List ℕ) (rest : Option Refusal) where
+  abbrev Tested : Option Refusal
+  Tested = choose (machine_short t rs) (Some ShortBuffer) (choose (not (admitted_machine t)) (Some BadMachine) rest)
+
+  short_buffer : length rs < max_registers → Tested ≡ Some ShortBuffer
+  short_buffer h = rw (lt-ltb (length rs) max_registers h, or-true (ltb (length t) machine_words))
+
+  refused_table : max_registers ≤ length rs → (e : Refusal) → table_refusal t ≡ Some e → Tested ≡ Some e
+  refused_table h e = rw (le-ltb (length rs) max_registers h) (go (ltb (length t) machine_words) (admitted_machine t))
+    where
+      go : (a b : Bool) → choose a (Some ShortBuffer) (choose b None (Some BadMachine)) ≡ Some e → choose (a || false) (Some ShortBuffer) (choose (not b) (Some BadMachine) rest) ≡ Some e
+      go true b k = k
+      go false false k = k
+      go false true k = absurd (search (k, rules))
+
 module _ (t rs : List ℕ) (start : ℕ) where
-  pub refuse_table : length t < machine_words → machine_refusal t rs start ≡ 7
+  pub refuse_buffer : length rs < max_registers → machine_refusal t rs start ≡ Some ShortBuffer
   unfolding machine_refusal
-  refuse_table h = rw (lt-ltb (length t) machine_words h)
+  refuse_buffer = short_buffer t rs _
+
+  pub refuse_table : max_registers ≤ length rs → (e : Refusal) → table_refusal t ≡ Some e → machine_refusal t rs start ≡ Some e
+  unfolding machine_refusal
+  refuse_table = refused_table t rs _
 
   module _ (whole : machine_words ≤ length t) where
-    pub refuse_registers : length rs < max_registers → machine_refusal t rs start ≡ 7
+    pub refuse_registers : length rs < max_registers → machine_refusal t rs start ≡ Some ShortBuffer
     unfolding machine_refusal
     refuse_registers h = rw (le-ltb (length t) machine_words whole, lt-ltb (length rs) max_registers h)
 
     module _ (room : max_registers ≤ length rs) where
-      pub refuse_machine : admitted_machine t ≡ false → machine_refusal t rs start ≡ 10
+      pub refuse_machine : admitted_machine t ≡ false → machine_refusal t rs start ≡ Some BadMachine
       unfolding machine_refusal
       refuse_machine h = rw (le-ltb (length t) machine_words whole, le-ltb (length rs) max_registers room, h)
 
       module _ (good : admitted_machine t ≡ true) where
-        pub refuse_wordless : wordless_machine (machine_of t) ≡ false → machine_refusal t rs start ≡ 12
+        pub refuse_wordless : wordless_machine (machine_of t) ≡ false → machine_refusal t rs start ≡ Some NoWords
         unfolding machine_refusal
         refuse_wordless h = rw (le-ltb (length t) machine_words whole, le-ltb (length rs) max_registers room, good, h)
 
         module _ (silent : wordless_machine (machine_of t) ≡ true) where
-          pub refuse_start : get_or t 0 0 ≤ start → machine_refusal t rs start ≡ 9
+          pub refuse_start : get_or t 0 0 ≤ start → machine_refusal t rs start ≡ Some NoStart
           unfolding machine_refusal
           refuse_start h = rw (le-ltb (length t) machine_words whole, le-ltb (length rs) max_registers room, good, silent, le-ltb start (get_or t 0 0) h)
 
-          pub refuse_none : start < get_or t 0 0 → machine_refusal t rs start ≡ 0
+          pub refuse_none : start < get_or t 0 0 → machine_refusal t rs start ≡ None
           unfolding machine_refusal
           refuse_none h = rw (le-ltb (length t) machine_words whole, le-ltb (length rs) max_registers room, good, silent, lt-ltb start (get_or t 0 0) h)
 
 -- with words
 module _ (t rs : List ℕ) (start : ℕ) where
-  pub words_refuse_table : length t < machine_words → machine_words_refusal t rs start ≡ 7
+  pub words_refuse_buffer : length rs < max_registers → machine_words_refusal t rs start ≡ Some ShortBuffer
   unfolding machine_words_refusal
-  words_refuse_table h = rw (lt-ltb (length t) machine_words h)
+  words_refuse_buffer = short_buffer t rs _
+
+  pub words_refuse_table : max_registers ≤ length rs → (e : Refusal) → table_refusal t ≡ Some e → machine_words_refusal t rs start ≡ Some e
+  unfolding machine_words_refusal
+  words_refuse_table = refused_table t rs _
 
   module _ (whole : machine_words ≤ length t) where
-    pub words_refuse_registers : length rs < max_registers → machine_words_refusal t rs start ≡ 7
+    pub words_refuse_registers : length rs < max_registers → machine_words_refusal t rs start ≡ Some ShortBuffer
     unfolding machine_words_refusal
     words_refuse_registers h = rw (le-ltb (length t) machine_words whole, lt-ltb (length rs) max_registers h)
 
     module _ (room : max_registers ≤ length rs) where
-      pub words_refuse_machine : admitted_machine t ≡ false → machine_words_refusal t rs start ≡ 10
-      unfolding machine_words_refusal
-      words_refuse_machine h = rw (le-ltb (length t) machine_words whole, le-ltb (length rs) max_registers room, h)
-
       module _ (good : admitted_machine t ≡ true) where
-        pub words_refuse_start : get_or t 0 0 ≤ start → machine_words_refusal t rs start ≡ 9
+        pub words_refuse_start : get_or t 0 0 ≤ start → machine_words_refusal t rs start ≡ Some NoStart
         unfolding machine_words_refusal
         words_refuse_start h = rw (le-ltb (length t) machine_words whole, le-ltb (length rs) max_registers room, good, le-ltb start (get_or t 0 0) h)
 
-        pub words_refuse_none : start < get_or t 0 0 → machine_words_refusal t rs start ≡ 0
+        pub words_refuse_none : start < get_or t 0 0 → machine_words_refusal t rs start ≡ None
         unfolding machine_words_refusal
         words_refuse_none h = rw (le-ltb (length t) machine_words whole, le-ltb (length rs) max_registers room, good, lt-ltb start (get_or t 0 0) h)

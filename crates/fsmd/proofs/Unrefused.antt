@@ -7,7 +7,9 @@ use lib.Dec.{ltb}
 use lib.ListN.{length, get_or}
 use borrow.Author.Tests.{ltb-true, ltb-false, not-false}
 use Rattle.word.specs.Word.{choose}
+use Rattle.refusal.specs.declared.Refusal.TheVariants.{ShortBuffer, NoStart, BadMachine, NoWords}
 use Rattle.runs.proofs.KeptRegisters.{tests_passed}
+use Rattle.std.specs.Prelude.{Some, None}
 use Rattle.runs.proofs.Tests.{or_false}
 use Rattle.fsmd.specs.Layout.{max_registers, machine_words}
 use Rattle.fsmd.specs.Machine.{wordless_machine}
@@ -22,13 +24,13 @@ pub record Unrefused (t rs : List ℕ) (start : ℕ) : Type 0 where
   pub below : start < get_or t 0 0
 
 -- all tests of the refusal with words
-pub words_unrefused : (t rs : List ℕ) (start : ℕ) → machine_words_refusal t rs start ≡ 0 → Unrefused t rs start
+pub words_unrefused : (t rs : List ℕ) (start : ℕ) → machine_words_refusal t rs start ≡ None → Unrefused t rs start
 unfolding machine_words_refusal
 words_unrefused t rs start h =
-    let starts = choose {X = ℕ} (not (ltb start (get_or t 0 0))) 9 0 in
-    let p = tests_passed (machine_short t rs) 6 (choose (not (admitted_machine t)) 10 starts) h in
-    let q = tests_passed (not (admitted_machine t)) 9 starts p.1 in
-    let s = tests_passed (not (ltb start (get_or t 0 0))) 8 0 q.1 in
+    let starts = choose (not (ltb start (get_or t 0 0))) (Some NoStart) None in
+    let p = tests_passed (machine_short t rs) ShortBuffer (choose (not (admitted_machine t)) (Some BadMachine) starts) h in
+    let q = tests_passed (not (admitted_machine t)) BadMachine starts p.1 in
+    let s = tests_passed (not (ltb start (get_or t 0 0))) NoStart None q.1 in
     let e = or_false (ltb (length t) machine_words) (ltb (length rs) max_registers) p.0 in
     record {
       whole = ltb-false (length t) machine_words e.0;
@@ -38,12 +40,12 @@ words_unrefused t rs start h =
     }
 
 -- without words there is one test more
-pub unrefused : (t rs : List ℕ) (start : ℕ) → machine_refusal t rs start ≡ 0 → Unrefused t rs start
+pub unrefused : (t rs : List ℕ) (start : ℕ) → machine_refusal t rs start ≡ None → Unrefused t rs start
 unfolding machine_refusal machine_words_refusal
 unrefused t rs start h =
-    let starts = choose {X = ℕ} (not (ltb start (get_or t 0 0))) 9 0 in
-    let silent = choose {X = ℕ} (not (wordless_machine (machine_of t))) 12 starts in
-    let p = tests_passed (machine_short t rs) 6 (choose (not (admitted_machine t)) 10 silent) h in
-    let q = tests_passed (not (admitted_machine t)) 9 silent p.1 in
-    let s = tests_passed (not (wordless_machine (machine_of t))) 11 starts q.1 in
+    let starts = choose (not (ltb start (get_or t 0 0))) (Some NoStart) None in
+    let silent = choose (not (wordless_machine (machine_of t))) (Some NoWords) starts in
+    let p = tests_passed (machine_short t rs) ShortBuffer (choose (not (admitted_machine t)) (Some BadMachine) silent) h in
+    let q = tests_passed (not (admitted_machine t)) BadMachine silent p.1 in
+    let s = tests_passed (not (wordless_machine (machine_of t))) NoWords starts q.1 in
     words_unrefused t rs start (rw (p.0, q.0, s.1))

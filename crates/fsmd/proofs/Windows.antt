@@ -1,8 +1,8 @@
 -- Parts of a table, element by element: words from an index on, and the wires of a state. Assumes nothing.
-use Prim.Native.Nat.{ℕ, suc, ◌+◌, ◌<◌, ◌≤◌}
+use Prim.Native.Nat.{ℕ, zero, suc, ◌+◌, ◌<◌, ◌≤◌}
 use native.Mathlib.Numerals.{add-one}
 use native.Mathlib.Omega.{arith}
-use mathlib.Core.Bool.{Bool, true, false}
+use mathlib.Core.Bool.{Bool, true, false, ◌&&◌}
 use mathlib.Core.List.{List, [], ◌∷◌, ◌++◌, map}
 use mathlib.Core.Path.{◌≡◌, refl, sym, ap, ◌∙◌}
 use lib.ListN
@@ -10,7 +10,7 @@ use lib.ListN.{length, get_or, take, drop, set, length-drop, length-map, drop_of
 use lib.Seq.{drop-cons, length-take-le, take_all, get_or-take, get_or-drop}
 use Rattle.runs.proofs.ListLaws.{length-up_from, get_or-up_from, get_or-map, copied_more}
 use Rattle.runs.proofs.Sets.{get_or-any}
-use Rattle.runs.specs.Lists.{up_from}
+use Rattle.runs.specs.Lists.{up_from, every}
 use Rattle.fsmd.specs.Table.{wire_at, valid_wire, valid_wires}
 use Rattle.fsmd.specs.declared.Wire.{Wire}
 
@@ -79,6 +79,26 @@ module _ (t : List ℕ) (first count : ℕ) where
         go true q = refl
         go false q = sym (wires_fail h q) ∙ e
 
-    pub wires_pass_all : count ≤ n → valid_wires r n (drop n wires_from) ≡ true
-    unfolding valid_wires
-    wires_pass_all h = rw (wires_end n h)
+-- the wires from wire n on, each tested by its number
+tested_from : (t : List ℕ) (r first n count : ℕ) → valid_wires r n (map (wire_at t) (up_from (first + n) count)) ≡ every (λ i. valid_wire r i (wire_at t (first + i))) (up_from n count)
+unfolding valid_wires
+tested_from t r first n zero = refl
+tested_from t r first n (suc c) =
+    ap (λ (b : Bool). valid_wire r n (wire_at t (first + n)) && b)
+    (ap (λ (m : ℕ). valid_wires r (suc n) (map (wire_at t) (up_from m c))) (omega arith) ∙ tested_from t r first (suc n) c)
+
+pub wires_tested : (t : List ℕ) (r first count : ℕ) → every (λ i. valid_wire r i (wire_at t (first + i))) (up_from 0 count) ≡ valid_wires r 0 (wires_from t first count)
+wires_tested t r first count =
+    let e : first + 0 ≡ first = omega arith in
+    sym (tested_from t r first 0 count) ∙ ap (λ (m : ℕ). valid_wires r 0 (wires_from t m count)) e
+
+-- the wires from a first one on, each tested by itself
+each_from : (t : List ℕ) (p : Wire → Bool) (first n count : ℕ) → every (λ i. p (wire_at t (first + i))) (up_from n count) ≡ every p (map (wire_at t) (up_from (first + n) count))
+each_from t p first n zero = refl
+each_from t p first n (suc c) =
+    ap (λ (b : Bool). p (wire_at t (first + n)) && b) (each_from t p first (suc n) c ∙ ap (λ (m : ℕ). every p (map (wire_at t) (up_from m c))) (omega arith))
+
+pub every_wire : (t : List ℕ) (p : Wire → Bool) (first count : ℕ) → every (λ i. p (wire_at t (first + i))) (up_from 0 count) ≡ every p (wires_from t first count)
+every_wire t p first count =
+    let e : first + 0 ≡ first = omega arith in
+    each_from t p first 0 count ∙ ap (λ (m : ℕ). every p (wires_from t m count)) e

@@ -1,14 +1,11 @@
 -- What the code's cycle asks of a table and of its room, and what it hands back. Assumes nothing.
-use Rattle.std.specs.Prelude.{ℕ, ◌+◌, ◌%◌, ◌^◌, ◌≤◌, ◌<◌, Bool, true, List, ◌≡◌, leb, length, get_or}
+use Rattle.std.specs.Prelude.{ℕ, ◌+◌, ◌%◌, ◌≤◌, ◌<◌, Bool, true, List, ◌≡◌, leb, length, get_or}
 use Rattle.runs.specs.Lists.{up_from, every}
 use Rattle.runs.specs.Runs.{Moved}
 use Rattle.fsmd.specs.declared.clock.Next.{Next}
 use Rattle.fsmd.specs.Layout.{max_states, max_blocks, max_registers, max_wires, machine_words, small_room_words}
 use Rattle.fsmd.specs.Machine.{to_state}
 use Rattle.fsmd.specs.Table.{state_count, machine_register_count, first_wire_at, wire_count_at, state_at, block_state_at, arrival_at, valid_state}
-
-abbrev pub PowerOfTwo : ℕ → Type 0
-PowerOfTwo n = (k : ℕ) × (n ≡ 2 ^ k)
 
 -- what reference x reads in a room
 abbrev pub read_in : List ℕ → ℕ → ℕ

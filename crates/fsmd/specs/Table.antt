@@ -1,9 +1,11 @@
 -- The machine table ("Machine table" of paper 01, touch words of R-4 and arrivals of R-7 of paper 02): the words of a machine, the machine of some words, and which words are admitted. Assumes nothing.
-use Rattle.std.specs.Prelude.{ℕ, suc, ◌+◌, Bool, true, ◌&&◌, ◌||◌, List, [], ◌∷◌, ◌++◌, map, length, get_or, take, drop, eqb, leb, ltb}
+use Rattle.std.specs.Prelude.{ℕ, suc, ◌+◌, Bool, true, ◌&&◌, ◌||◌, List, [], ◌∷◌, ◌++◌, map, length, get_or, take, drop, eqb, leb, ltb, Option, Some, None}
 use Rattle.word.specs.Word.{choose, first_code, last_code}
 use Rattle.runs.specs.Lists.{up_from, every, padded, concat_map}
 use Rattle.fsmd.specs.declared.Wire.{Wire}
-use Rattle.fsmd.specs.Layout.{max_states, max_blocks, max_registers, max_wires, wire_a_offset, wire_b_offset, wire_c_offset, wire_count_offset, state_count_offset, register_count_offset, all_record_words, all_wire_words, starters_offset, block_states_offset, record_offset, next_state_offset, next_registers_offset, touch_offset, wire_offset, arrivals_offset, absent}
+use Rattle.refusal.specs.declared.Refusal.{Refusal}
+use Rattle.refusal.specs.declared.Refusal.TheVariants.{ShortBuffer, BadMachine}
+use Rattle.fsmd.specs.Layout.{machine_words, max_states, max_blocks, max_registers, max_wires, wire_a_offset, wire_b_offset, wire_c_offset, wire_count_offset, state_count_offset, register_count_offset, all_record_words, all_wire_words, starters_offset, block_states_offset, record_offset, next_state_offset, next_registers_offset, touch_offset, wire_offset, arrivals_offset, absent}
 use Rattle.fsmd.specs.Machine.{State, FSMD, reads}
 use Rattle.fsmd.specs.Touch.{touch_word}
 
@@ -150,3 +152,7 @@ admitted_machine t =
     && every (λ k. every (λ j. apart t j k) (up_from 0 k)) (up_from 0 n)
     && every (λ k. valid_state r (state_at t k) && right_touch t k) (up_from 0 n)
     && right_blocks t
+
+-- why a table alone is refused: it is short, or else it is not admitted
+abbrev pub table_refusal : List ℕ → Option Refusal
+table_refusal t = choose (ltb (length t) machine_words) (Some ShortBuffer) (choose (admitted_machine t) None (Some BadMachine))

@@ -1,22 +1,18 @@
 // The blocks of each state as a chain, so that a cycle looks at no other blocks. Chains are made once for a run.
-ghost use Rattle.std.specs.Prelude.{◌≤◌, length};
-ghost use Rattle.fsmd.specs.Layout.{machine_words};
 ghost use Rattle.fsmd.specs.Chains.{Chained};
 
 use super::MachineTable;
-use buffers::word_index;
+use super::table::MachineWords;
 
 // The first block of each state, then for each block the next one of its state. The last block comes first, so that each is put before
 // those of its state that are higher.
-pub fn chains_of(table: &[u32]) -> [u8; MachineTable::CHAINS]
-    requires { machine_words ≤ length table.now }
-    ensures { Chained table.now 0 result }
+pub fn chains_of(table: MachineWords) -> [u8; MachineTable::CHAINS]
+    ensures { Chained table.entry.words.now 0 result }
 {
+    // 64, which is no block, ends a chain: a byte and no Option, so that one test ends the loop along it.
     let mut chains = [64u8; MachineTable::CHAINS];
-    let mut b = MachineTable::BLOCKS;
-    while 0 < b {
-        b -= 1;
-        let k = word_index(table[MachineTable::BLOCK_STATES + b]);
+    for b in (0..MachineTable::BLOCKS).rev() {
+        let k = table.words[MachineTable::BLOCK_STATES + b] as usize;
         if k < MachineTable::STATES {
             chains[MachineTable::STATES + b] = chains[k];
             chains[k] = b as u8;

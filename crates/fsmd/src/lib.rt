@@ -4,19 +4,20 @@
 ghost use Rattle.std.specs.Prelude.{◌≡◌};
 ghost use Rattle.fsmd.specs.Machine.{wire_arity};
 
-use runs::RunAnswer;
-use word::Registers;
+use runs::RunEnd;
+use word::{Code, Registers};
 
 pub mod table; // table.rt: words of a machine table
 pub mod touch; // touch.rt: the touch word of a state
 pub mod admission; // admission.rt: which machine tables are admitted
 pub mod sampling; // sampling.rt: whether a machine reads the sampled word
-pub mod chains; // chains.rt: the blocks of each state
-pub mod clock; // clock.rt: one cycle
+mod chains; // chains.rt: the blocks of each state
+mod room; // room.rt: what references read in a cycle
+mod clock; // clock.rt: one cycle
 pub mod run; // run.rt: a run with a budget
 
 // The head of a machine table: how many states and registers the machine has.
-#[derive(Clone, Copy)]
+#[derive(Clone, Copy, Debug, PartialEq, Eq)]
 pub struct MachineTable {
     pub states: u32,
     pub registers: u32,
@@ -24,15 +25,15 @@ pub struct MachineTable {
 
 impl MachineTable {
     // Limits.
-    pub const STATES: usize = RunAnswer::PLACES;
+    pub const STATES: usize = RunEnd::PLACES;
 
-    pub const BLOCKS: usize = RunAnswer::PLACES;
+    pub const BLOCKS: usize = RunEnd::PLACES;
 
     pub const REGISTERS: usize = Registers::COUNT;
 
     pub const WIRES: usize = 3072;
     // No block or no state.
-    pub const NONE: u32 = RunAnswer::NONE;
+    pub const NONE: u32 = RunEnd::NONE;
     // Where the words of a state's record after its first wire are, and how many there are.
     pub const WIRE_COUNT: usize = 1;
 
@@ -68,8 +69,9 @@ impl MachineTable {
     pub const SMALL_ROOM: usize = 256;
 }
 
-// A wire: what it does, and its operands. A reference below 16 is a register, and 16 + i is wire i of the state.
-#[derive(Clone, Copy)]
+// A wire: what it does, and its operands. A reference below 16 is a register, and 16 + i is wire i of the state. The code is a word and no
+// enum: any word may stand in a table that is not yet admitted.
+#[derive(Clone, Copy, Debug, PartialEq, Eq)]
 pub struct Wire {
     pub code: u32,
     pub a: u32,
@@ -92,10 +94,11 @@ impl Wire {
     pub fn arity(code: u32) -> u32
         ensures { result ≡ wire_arity code }
     {
+        // An arm each: the fact of one arm over these codes has no name that a proof could cite.
         match code {
-            3 => 3,
-            4 => 3,
-            19 => 3,
+            Code::ADD => 3,
+            Code::SUB => 3,
+            Code::SELECT => 3,
             _ => word::arity(code),
         }
     }

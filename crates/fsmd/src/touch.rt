@@ -1,12 +1,8 @@
 // The touch word of a state: which registers a cycle of it may change.
 ghost use Rattle.std.specs.Prelude.{◌≡◌, not, ◌+◌, ◌*◌, ◌^◌, ◌≤◌, ◌<◌, length, eqb};
 ghost use Rattle.word.specs.Word.{truth};
-ghost use Rattle.fsmd.specs.Layout.{machine_words, max_states, max_registers};
+ghost use Rattle.fsmd.specs.Layout.{max_registers};
 ghost use Rattle.fsmd.specs.Touch.{touch_word};
-ghost use Rattle.fsmd.specs.Table.{touch_at};
-
-use super::MachineTable;
-use super::table::record;
 
 // The bits of the registers after i, made those from i on: register i's next reference is x.
 pub fn with_bit(bits: u32, i: usize, x: u32) -> u32
@@ -14,7 +10,7 @@ pub fn with_bit(bits: u32, i: usize, x: u32) -> u32
     requires i_lt_max_registers { i < max_registers }
     ensures { result ≡ truth (not (eqb x i)) + 2 * bits }
 {
-    2 * bits + (x != i as u32) as u32
+    2 * bits + u32::from(x != i as u32)
 }
 
 // The touch word of these next references. The last one comes first, so that each step makes room for the next bit.
@@ -23,19 +19,8 @@ pub fn touch_word(next: &[u32]) -> u32
     ensures { result ≡ touch_word next.now }
 {
     let mut word: u32 = 0;
-    let mut i = next.len();
-    while 0 < i {
-        i -= 1;
+    for i in (0..next.len()).rev() {
         word = with_bit(word, i, next[i]);
     }
     word
-}
-
-// The touch word that stands in the record of state k.
-pub fn touch(table: &[u32], k: usize) -> u32
-    requires machine_words_in_bounds { machine_words ≤ length table.now }
-    requires k_lt_max_states { k < max_states }
-    ensures { result ≡ touch_at table.now k }
-{
-    table[record(k) + MachineTable::TOUCH]
 }

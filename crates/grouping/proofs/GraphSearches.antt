@@ -19,7 +19,7 @@ use Rattle.grouping.proofs.Reach.{Closed, Reached, reached_below}
 use Rattle.grouping.proofs.LoopLaws.{loops_fuel}
 use Rattle.grouping.proofs.PopulationLaws.{populate_with, populate_fuel}
 use Rattle.grouping.proofs.DetectionLaws.{detect_fuel}
-use Rattle.grouping.proofs.VisitMaps.{Maps, visit_maps}
+use Rattle.grouping.proofs.VisitTracks.{Tracks, visit_tracks}
 
 -- ---- padding
 
@@ -49,14 +49,17 @@ padded_blank (suc n) (suc m) d = ap (λ (l : List ℕ). d ∷ l) (padded_blank n
 
 module _ (g : CFG) (a : Closed g) where
   -- population on longer lists
-  populating_maps : (starters : List ℕ) (r k : ℕ)
-      → Maps (populating starters r k) (populating starters r k) (padded max_blocks absent) (λ (s : List ℕ). length s ≡ length g.blocks) (length g.blocks)
-  populating_maps starters r k =
+  abbrev Padded : List ℕ → List ℕ → List ℕ → Type 0
+  Padded path s t = (s ≡ padded max_blocks absent t) × (length t ≡ length g.blocks)
+
+  populating_tracks : (starters : List ℕ) (r k : ℕ) → Tracks (populating starters r k) (populating starters r k) Padded (length g.blocks)
+  populating_tracks starters r k =
       record {
-        stops = λ path x s l i. ap (λ (y : ℕ). not (eqb y absent) || (mem x starters && not (eqb x r))) (padded_at max_blocks absent s (omega (arith, a.few_blocks_lem)) x);
-        skips = λ path x s l i. (refl, i);
-        enters = λ x s l i. (padded_set max_blocks absent s x k (omega arith) (omega (arith, a.few_blocks_lem)), length-set s x k ∙ i);
-        finishes = λ x s l i. (refl, i);
+        stops = λ path x s t l i.
+            rw i.0 (ap (λ (y : ℕ). not (eqb y absent) || (mem x starters && not (eqb x r))) (padded_at max_blocks absent t (omega (arith, i.1, a.few_blocks_lem)) x));
+        skips = λ path x s t l i e. i;
+        enters = λ path x s t l i e. (rw i.0 (padded_set max_blocks absent t x k (omega (arith, i.1)) (omega (arith, i.1, a.few_blocks_lem))), length-set t x k ∙ i.1);
+        finishes = λ path x s t l i. i;
       }
 
 -- detection by states that agree
@@ -81,7 +84,7 @@ module _ (starters s t : List ℕ) (e : (x : ℕ) → get_or s x absent ≡ get_
   detecting_alike =
       ap₂ visitor_of (fun_ext (λ path. fun_ext (λ y. fun_ext (λ d. stop_alike path y d)))) (fun_ext (λ path. fun_ext (λ y. fun_ext (λ d. skip_alike path y d))))
 
-module _ (g : CFG) (a : Closed g) (bytes : List ℕ) (edges : (n : ℕ) → edges_in bytes n ≡ successors g n) where
+module _ (g : CFG) (a : Closed g) (bytes : List (List ℕ)) (edges : (n : ℕ) → edges_in bytes n ≡ successors g n) where
   next : edges_in bytes ≡ successors g
   next = fun_ext edges
 
@@ -97,7 +100,7 @@ module _ (g : CFG) (a : Closed g) (bytes : List ℕ) (edges : (n : ℕ) → edge
     unfolding taken_from taken
     from_bytes k [] s low i = refl
     from_bytes k (r ∷ rs) s low i =
-        let m = visit_maps (populating_maps g a starters r k) (successors g) (λ u x j. a.inside u x j) (max_blocks + 1) [] r s (low r (inl refl)) i in
+        let m = visit_tracks (populating_tracks g a starters r k) (successors g) (λ u x j. a.inside u x j) (max_blocks + 1) [] r (padded max_blocks absent s) s (low r (inl refl)) (refl, i) in
         ap (λ (n : ℕ → List ℕ). taken_from bytes starters (suc k) rs (visit (populating starters r k) n (max_blocks + 1) [] r (padded max_blocks absent s))) next
         ∙ ap (taken_from bytes starters (suc k) rs) m.0
         ∙ from_bytes (suc k) rs (visit (populating starters r k) (successors g) (max_blocks + 1) [] r s) (λ x j. low x (inr j)) m.1

@@ -27,12 +27,6 @@ module _ {S : Type 0} (v : Visitor S) (next : ℕ → List ℕ) where
   unfolding resume
   resume_none fuel s = refl
 
-  -- the root is gone into
-  pub resume_start : (fuel n : ℕ) (s : S) → v.stop [] n s ≡ false
-      → visit v next (suc (suc fuel)) [] n s ≡ resume fuel (record { block = n; left = next n } ∷ []) (v.enter n s)
-  unfolding resume
-  resume_start fuel n s h = visit_goes v next (suc fuel) [] n s h
-
   -- no successor is left
   pub resume_pop : (fuel n : ℕ) (fs : List Frame) (s : S) → resume fuel (record { block = n; left = [] } ∷ fs) s ≡ resume (suc fuel) fs (v.finish n s)
   unfolding resume

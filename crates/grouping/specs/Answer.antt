@@ -1,5 +1,5 @@
 -- The answer of grouping a graph table. Assumes nothing.
-use Rattle.std.specs.Prelude.{ℕ, List, length}
+use Rattle.std.specs.Prelude.{ℕ, List}
 use Rattle.runs.specs.Lists.{padded}
 use Rattle.cfg.specs.Layout.{max_blocks}
 use Rattle.cfg.specs.Table.{graph_of}
@@ -7,9 +7,9 @@ use Rattle.fsmd.specs.Layout.{absent}
 use Rattle.grouping.specs.declared.Grouping.{Grouping}
 use Rattle.grouping.specs.Grouping.{Groups, groups}
 
--- a grouping in an answer: unused starters are 0, and the state of an absent block is 255
+-- a grouping in an answer: the state of an absent block is 255
 abbrev pub answer_of : Groups → Grouping
-answer_of s = record { count = length s.starters; starters = padded max_blocks 0 s.starters; states = padded max_blocks absent s.states }
+answer_of s = record { starters = s.starters; states = padded max_blocks absent s.states }
 
 unfoldable pub grouping_of : List ℕ → Grouping
 unfolding graph_of groups

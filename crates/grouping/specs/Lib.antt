@@ -1,4 +1,6 @@
 pub mod Visit
 pub mod Grouping
+pub mod Marks
 pub mod Bytes
+pub mod Searches
 pub mod Answer

@@ -1,57 +1,56 @@
 // Detection: a depth-first visit from block 0 that tests each edge before going down it.
-ghost use Rattle.std.specs.Prelude.{◌≡◌, ◌<◌, length};
-ghost use Rattle.grouping.specs.Bytes.{Listed, starters_of, illegal_by, detection};
+ghost use Rattle.std.specs.Prelude.{◌≡◌, ◌<◌, [], ◌∷◌, length};
+ghost use Rattle.cfg.specs.Layout.{max_blocks};
+ghost use Rattle.grouping.specs.Grouping.{illegal};
+ghost use Rattle.grouping.specs.Bytes.{detection};
 
-use crate::{Detected, Starters, edges};
+use crate::edges::Edges;
+use crate::starters::Starters;
+use crate::visit::Frame;
+use arrayvec::ArrayVec;
 use cfg::GraphTable;
 
-// An edge between different states whose target is no starter.
-fn illegal(states: &[u8], marks: &[u8], block: usize, target: usize) -> bool
-    requires { target < length marks.now }
-    ensures { result ≡ illegal_by states.now marks.now block target }
+// Whether an edge leads to another state, and to no starter.
+fn is_illegal(states: &[u8; GraphTable::BLOCKS], starters: &Starters, from: u8, to: u8) -> bool
+    requires { (from < max_blocks) × (to < max_blocks) }
+    ensures { result ≡ illegal starters.now states.now (from ∷ []) to }
 {
-    let own = edges::at(states, block);
-    let other = edges::at(states, target);
-    if own == other {
-        false
-    } else {
-        marks[target] == 0
-    }
+    states[usize::from(from)] != states[usize::from(to)] && !starters.contains(to)
 }
 
-pub fn detect(edges: &[u8], states: &[u8], starters: Starters) -> Detected
-    requires { Listed starters }
-    ensures { result ≡ detection edges.now (starters_of starters) states.now }
+// The target of the first illegal edge. The scope paper names this form, so it is not `visit`: loops over the visit's stack and a block's
+// successors, left by a label.
+pub fn detect(edges: &Edges, states: &[u8; GraphTable::BLOCKS], starters: &Starters) -> Option<u8>
+    ensures { result ≡ detection edges.now starters.now states.now }
 {
-    let mut seen = [0u8; GraphTable::BLOCKS];
-    let mut stack = [0u8; GraphTable::BLOCKS];
-    let mut passed = [0u8; GraphTable::BLOCKS];
-    let mut depth: usize = 1;
-    let mut found = Detected::Legal;
-    seen[0] = 1;
-    'visit: while depth > 0 {
-        let block = buffers::byte_index(stack[depth - 1]);
-        let mut k = buffers::byte_index(passed[depth - 1]);
-        'edges: while k < 2 {
-            let to = edges::at(edges, 2 * block + k);
-            let t = buffers::byte_index(to);
-            k += 1;
-            if t < GraphTable::BLOCKS {
-                if illegal(states, &starters.marks, block, t) {
-                    found = Detected::IllegalTo(to);
+    let mut seen = [false; GraphTable::BLOCKS];
+    let mut stack: ArrayVec<Frame, { GraphTable::BLOCKS }> = ArrayVec::new();
+    let mut found = None;
+    seen[0] = true;
+    stack.push(Frame {
+        block: 0,
+        passed: 0,
+    });
+    'visit: while let Some(mut frame) = stack.pop() {
+        'edges: while frame.passed < 2 {
+            let successors = edges[usize::from(frame.block)];
+            let to = successors[usize::from(frame.passed)];
+            frame.passed += 1;
+            if usize::from(to) < GraphTable::BLOCKS {
+                if is_illegal(states, starters, frame.block, to) {
+                    found = Some(to);
                     break 'visit;
                 }
-                if seen[t] == 0 {
-                    passed[depth - 1] = k as u8;
-                    seen[t] = 1;
-                    stack[depth] = to;
-                    passed[depth] = 0;
-                    depth += 1;
-                    continue 'visit;
+                if !seen[usize::from(to)] {
+                    seen[usize::from(to)] = true;
+                    stack.push(frame);
+                    frame = Frame {
+                        block: to,
+                        passed: 0,
+                    };
                 }
             }
         }
-        depth -= 1;
     }
     found
 }

@@ -1,44 +1,68 @@
 // Loop detection: a depth-first visit from block 0.
 ghost use Rattle.std.specs.Prelude.{◌≡◌};
-ghost use Rattle.grouping.specs.Bytes.{Listed, starters_of, loop_starters};
+ghost use Rattle.grouping.specs.Bytes.{loop_starters};
 
-use crate::{Starters, edges};
+use crate::edges::Edges;
+use crate::starters::Starters;
+use crate::visit::{Search, visit};
 use cfg::GraphTable;
 
-// Block 0, and each block met while on the path, in order of finding. A block's mark is 1 while it is on the path, and 2 once it is finished.
-pub fn loop_starters(edges: &[u8]) -> Starters
-    ensures { Listed result × (starters_of result ≡ loop_starters edges.now) }
-{
-    let mut starters = Starters::entry();
-    let mut marks = [0u8; GraphTable::BLOCKS];
-    let mut stack = [0u8; GraphTable::BLOCKS];
-    let mut passed = [0u8; GraphTable::BLOCKS];
-    let mut depth: usize = 1;
-    marks[0] = 1;
-    'visit: while depth > 0 {
-        let block = buffers::byte_index(stack[depth - 1]);
-        let mut k = buffers::byte_index(passed[depth - 1]);
-        'edges: while k < 2 {
-            let to = edges::at(edges, 2 * block + k);
-            let t = buffers::byte_index(to);
-            k += 1;
-            if t < GraphTable::BLOCKS {
-                if marks[t] == 0 {
-                    passed[depth - 1] = k as u8;
-                    marks[t] = 1;
-                    stack[depth] = to;
-                    passed[depth] = 0;
-                    depth += 1;
-                    continue 'visit;
-                }
-                if marks[t] == 1 {
-                    let more = starters.with(to);
-                    starters = more;
-                }
+// How far a block is.
+#[derive(Clone, Copy, Debug, PartialEq, Eq)]
+enum Mark {
+    New,
+    OnPath,
+    Finished,
+}
+
+// Each block that is met while on the path becomes a starter.
+#[derive(Drop)]
+struct LoopSearch {
+    marks: [Mark; GraphTable::BLOCKS],
+    starters: Starters,
+}
+
+impl Search for LoopSearch {
+    ghost use Rattle.std.specs.Prelude.{◌≡◌, length};
+    ghost use Rattle.cfg.specs.Layout.{max_blocks};
+    ghost use Rattle.grouping.specs.Marks.{blanks};
+    ghost use Rattle.grouping.specs.Searches.{loop_search, is_new};
+
+    ghost visitor = { loop_search };
+
+    ghost ready = { λ s. length s.marks ≡ max_blocks };
+
+    ghost unseen = { λ s. blanks is_new s.marks };
+
+    fn meet(&mut self, block: u8) -> bool {
+        match self.marks[usize::from(block)] {
+            Mark::New => {
+                self.marks[usize::from(block)] = Mark::OnPath;
+                true
             }
+            Mark::OnPath => {
+                self.starters.add(block);
+                false
+            }
+            Mark::Finished => false,
         }
-        marks[block] = 2;
-        depth -= 1;
     }
-    starters
+
+    fn finish(&mut self, block: u8) {
+        self.marks[usize::from(block)] = Mark::Finished;
+    }
+}
+
+// Block 0, and each block met while on the path, in order of finding.
+pub fn loop_starters(edges: &Edges) -> Starters
+    ensures { result ≡ loop_starters edges.now }
+{
+    let mut marks = [Mark::New; GraphTable::BLOCKS];
+    marks[0] = Mark::OnPath;
+    let mut search = LoopSearch {
+        marks,
+        starters: Starters::entry(),
+    };
+    visit(&mut search, edges, 0);
+    search.starters
 }

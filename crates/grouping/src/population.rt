@@ -1,64 +1,60 @@
 // Population: states in order of creation, each depth-first from its starter.
-ghost use Rattle.std.specs.Prelude.{◌≡◌, ◌<◌, length, get_or};
-ghost use Rattle.cfg.specs.Layout.{max_blocks};
-ghost use Rattle.grouping.specs.Bytes.{Listed, Marking, starters_of, taken, population};
+ghost use Rattle.std.specs.Prelude.{◌≡◌};
+ghost use Rattle.grouping.specs.Bytes.{population};
 
-use crate::{Starters, edges};
+use crate::edges::{Edges, NONE};
+use crate::starters::Starters;
+use crate::visit::{Search, visit};
 use cfg::GraphTable;
 
-// State k takes the blocks not yet taken that its starter leads to, up to the starters of other states.
-fn take_state(edges: &[u8], starters: &[u8], marks: &[u8], k: u8, states: &mut [u8])
-    requires { Marking starters.now marks.now × (k < length starters.now) × (length states.old ≡ max_blocks) }
-    ensures { states.new ≡ taken edges.now starters.now (get_or starters.now k 0) k states.old }
-{
-    let number = buffers::byte_index(k);
-    let first = starters[number];
-    let root = buffers::byte_index(first);
-    if states[root] != edges::NONE {
-        return;
-    }
-    let mut stack = [0u8; GraphTable::BLOCKS];
-    let mut passed = [0u8; GraphTable::BLOCKS];
-    let mut depth: usize = 1;
-    states[root] = k;
-    stack[0] = first;
-    'visit: while depth > 0 {
-        let block = buffers::byte_index(stack[depth - 1]);
-        let mut j = buffers::byte_index(passed[depth - 1]);
-        'edges: while j < 2 {
-            let to = edges::at(edges, 2 * block + j);
-            let t = buffers::byte_index(to);
-            j += 1;
-            if t < GraphTable::BLOCKS {
-                if states[t] == edges::NONE {
-                    if marks[t] == 0 {
-                        passed[depth - 1] = j as u8;
-                        states[t] = k;
-                        stack[depth] = to;
-                        passed[depth] = 0;
-                        depth += 1;
-                        continue 'visit;
-                    }
-                }
-            }
+// A state takes the blocks that none has taken, up to the starters of other states.
+#[derive(Drop)]
+struct StateSearch<'a> {
+    starters: &'a Starters,
+    states: [u8; GraphTable::BLOCKS],
+    number: u8,
+}
+
+impl<'a> Search for StateSearch<'a> {
+    ghost use Rattle.std.specs.Prelude.{◌≡◌, ◌<◌, eqb, length};
+    ghost use Rattle.cfg.specs.Layout.{max_blocks};
+    ghost use Rattle.fsmd.specs.Layout.{absent};
+    ghost use Rattle.grouping.specs.Marks.{blanks};
+    ghost use Rattle.grouping.specs.Searches.{state_search};
+
+    ghost visitor = { state_search };
+
+    ghost ready = { λ s. (length s.states ≡ max_blocks) × (s.number < absent) };
+
+    ghost unseen = { λ s. blanks (λ k. eqb k absent) s.states };
+
+    fn meet(&mut self, block: u8) -> bool {
+        if self.states[usize::from(block)] != NONE || self.starters.contains(block) {
+            return false;
         }
-        depth -= 1;
+        self.states[usize::from(block)] = self.number;
+        true
     }
+
+    fn finish(&mut self, _block: u8) {}
 }
 
 // The state of each block, 255 where none has taken it.
-pub fn populate(edges: &[u8], starters: Starters) -> [u8; GraphTable::BLOCKS]
-    requires { Listed starters }
-    ensures { result ≡ population edges.now (starters_of starters) }
+pub fn populate(edges: &Edges, starters: &Starters) -> [u8; GraphTable::BLOCKS]
+    ensures { result ≡ population edges.now starters.now }
 {
-    let count = starters.count;
-    let list = starters.list;
-    let marks = starters.marks;
-    let mut states = [edges::NONE; GraphTable::BLOCKS];
-    let mut k: u8 = 0;
-    while buffers::byte_index(k) < count {
-        take_state(edges, &list[..count], &marks, k, &mut states);
-        k += 1;
+    let mut search = StateSearch {
+        starters,
+        states: [NONE; GraphTable::BLOCKS],
+        number: 0,
+    };
+    for root in starters.list() {
+        let block = usize::from(*root);
+        if search.states[block] == NONE {
+            search.states[block] = search.number;
+            visit(&mut search, edges, *root);
+        }
+        search.number += 1;
     }
-    states
+    search.states
 }

@@ -13,9 +13,9 @@ ghost use Rattle.bounds.specs.Operation.{bounds_answer, lowest_left, highest_lef
 ghost use Rattle.touching.specs.Touching.{touches_answer, touches_number, touched_field, first_touching_answer, first_number, first_state};
 ghost use Rattle.host.specs.Fields.{RunFields, CaptureFields};
 
-use capture::CaptureAnswer;
 use compiler::fields;
-use runs::RunAnswer;
+use refusal::Refusal;
+use runs::RunEnd;
 
 #[unsafe(no_mangle)]
 pub extern "C" fn gutkavu_read(text: &[u8], table: &mut [u32], line: &mut u32) -> u32
@@ -25,7 +25,7 @@ pub extern "C" fn gutkavu_read(text: &[u8], table: &mut [u32], line: &mut u32) -
 {
     let answer = compiler::read_text(text, table);
     *line = fields::read_line(answer);
-    fields::read_number(answer)
+    fields::number(&answer)
 }
 
 #[unsafe(no_mangle)]
@@ -36,7 +36,7 @@ pub extern "C" fn gutkavu_write(table: &[u32], out: &mut [u8], length: &mut u32)
 {
     let answer = compiler::write_text(table, out);
     *length = fields::write_length(answer);
-    fields::write_number(answer)
+    fields::number(&answer)
 }
 
 #[unsafe(no_mangle)]
@@ -44,13 +44,12 @@ pub extern "C" fn gutkavu_synthesise(graph: &[u32], machine: &mut [u32]) -> u32
     ensures value { result ≡ synthesis_number (synthesis_answer graph.now machine.old) }
     ensures machine_after { machine.new ≡ synthesis_words graph.now machine.old }
 {
-    let answer = compiler::synthesise(graph, machine);
-    fields::synthesis_number(answer)
+    fields::number(&compiler::synthesise(graph, machine))
 }
 
-// The fields of a run's answer.
+// The fields of a run's answer. Four references and not a struct: the four C functions that run are lent each field for itself.
 fn set_run(
-    answer: RunAnswer,
+    answer: Result<RunEnd, Refusal>,
     outcome: &mut u32,
     count: &mut u32,
     next: &mut u32,
@@ -62,7 +61,7 @@ fn set_run(
     *count = fields::run_count(answer);
     *next = fields::run_next(answer);
     *flag = fields::run_flag(answer);
-    fields::run_number(answer)
+    fields::number(&answer)
 }
 
 #[unsafe(no_mangle)]
@@ -100,9 +99,8 @@ pub extern "C" fn gutkavu_run_machine(
     ensures blocks_after { blocks.new ≡ machine_blocks machine.now registers.old start budget }
 {
     let answer = compiler::run_machine(machine, registers, start, budget);
-    *blocks = answer.blocks;
-    let run = answer.run;
-    set_run(run, halted, count, next, flag)
+    *blocks = fields::machine_blocks(answer);
+    set_run(fields::machine_end(answer), halted, count, next, flag)
 }
 
 #[unsafe(no_mangle)]
@@ -143,28 +141,8 @@ pub extern "C" fn gutkavu_run_machine_with_words(
     ensures blocks_after { blocks.new ≡ machine_words_blocks machine.now registers.old start budget words.now }
 {
     let answer = compiler::run_machine_with_words(machine, registers, start, budget, words);
-    *blocks = answer.blocks;
-    let run = answer.run;
-    set_run(run, outcome, count, next, flag)
-}
-
-// The fields of a comparison's answer.
-fn set_capture(
-    answer: CaptureAnswer,
-    recording: &mut u32,
-    line: &mut u64,
-    shared: &mut u64,
-    differs: &mut u32,
-    cycle: &mut u32,
-) -> u32
-    ensures { CaptureFields answer result recording.new line.new shared.new differs.new cycle.new }
-{
-    *recording = fields::capture_recording(answer);
-    *line = fields::capture_line(answer);
-    *shared = fields::capture_shared(answer);
-    *differs = fields::capture_differs(answer);
-    *cycle = fields::capture_cycle(answer);
-    fields::capture_number(answer)
+    *blocks = fields::machine_blocks(answer);
+    set_run(fields::machine_end(answer), outcome, count, next, flag)
 }
 
 #[unsafe(no_mangle)]
@@ -181,7 +159,12 @@ pub extern "C" fn gutkavu_compare_captures(
     ensures { CaptureFields (compare_captures registers first.now second.now) result recording.new line.new shared.new differs.new cycle.new }
 {
     let answer = compiler::compare_captures(registers, first, second);
-    set_capture(answer, recording, line, shared, differs, cycle)
+    *recording = fields::capture_recording(answer);
+    *line = fields::capture_line(answer);
+    *shared = fields::capture_shared(answer);
+    *differs = fields::capture_differs(answer);
+    *cycle = fields::capture_cycle(answer);
+    fields::number(&answer)
 }
 
 #[unsafe(no_mangle)]
@@ -196,7 +179,7 @@ pub extern "C" fn gutkavu_touches(
 {
     let answer = compiler::touches(machine, state, register);
     *touched = fields::touched(answer);
-    fields::touches_number(answer)
+    fields::number(&answer)
 }
 
 #[unsafe(no_mangle)]
@@ -206,7 +189,7 @@ pub extern "C" fn gutkavu_first_touching(machine: &[u32], register: u32, state: 
 {
     let answer = compiler::first_touching(machine, register);
     *state = fields::first_touching_state(answer);
-    fields::first_touching_number(answer)
+    fields::number(&answer)
 }
 
 #[unsafe(no_mangle)]
@@ -220,5 +203,5 @@ pub extern "C" fn gutkavu_bounds(
     ensures lowest_after { lowest.new ≡ lowest_left machine.now lowest.old highest.old state }
     ensures highest_after { highest.new ≡ highest_left machine.now lowest.old highest.old state }
 {
-    fields::bounds_number(compiler::bounds(machine, lowest, highest, state))
+    fields::number(&compiler::bounds(machine, lowest, highest, state))
 }

@@ -9,14 +9,16 @@ use lib.Dec.{ltb}
 use borrow.Author.Tests.{ltb-false}
 use Rattle.word.specs.Word.{choose}
 use Rattle.listing.specs.Listing.{listing, list_answer}
-use Rattle.listing.specs.declared.ListAnswer.TheVariants.{Listed, Short}
+use Rattle.std.specs.Prelude.{Result, Ok, Err}
+use Rattle.std.proofs.Common.{rules}
+use Rattle.listing.specs.declared.ShortOutput.{ShortOutput}
 
-by-test : (short : Bool) (size n : ℕ) → choose short (Short size) (Listed size) ≡ Listed n → (short ≡ false) × (size ≡ n)
-by-test true size n e = absurd (let z : ◌≡◌ {A = ℕ} 0 1 = cc in omega arith)
-by-test false size n e = (refl, cc)
+by-test : (short : Bool) (size n : ℕ) → choose {X = Result ℕ ShortOutput} short (Err (record { needed = size })) (Ok size) ≡ Ok n → (short ≡ false) × (size ≡ n)
+by-test true size n e = absurd (search (e, rules))
+by-test false size n e = (refl, search (e, rules))
 
 -- a listing that was written is within the output
-pub listed-within : (text out : List ℕ) (n : ℕ) → list_answer text out ≡ Listed n → n ≤ length out
+pub listed-within : (text out : List ℕ) (n : ℕ) → list_answer text out ≡ Ok n → n ≤ length out
 unfolding list_answer
 listed-within text out n e =
     let size = length (listing text) in

@@ -6,11 +6,12 @@ use native.Mathlib.Omega.{arith}
 use mathlib.Core.Path.{◌≡◌, refl, sym, ◌∙◌}
 use mathlib.Core.List.{List, [], ◌∷◌, ◌++◌, append_assoc, append-nil}
 use lib.ListN.{length, take, drop}
-use lib.Seq.{sets-eq, length-take-le, take_at}
+use lib.Seq.{sets-eq, take_at}
 use Rattle.runs.specs.Lists.{up_from, concat_map}
 use Rattle.delimited.specs.Parts.{parted}
-use Rattle.cfg_write.specs.Put.{Put}
-use Rattle.cfg_write.proofs.PutLaws.{put_then, put_as, put_length}
+use Rattle.cfg_write.specs.declared.line.Writer.{Writer}
+use Rattle.cfg_write.specs.Put.{Put, Wrote}
+use Rattle.cfg_write.proofs.PutLaws.{wrote_then, wrote_as}
 use Rattle.listing.specs.Listing.{listing_line}
 
 -- ---- lines by their fields
@@ -31,21 +32,14 @@ concat_snoc f j zero = rw (append-nil, add-zero)
 concat_snoc f j (suc k) = rw (concat_snoc f (suc j) k, append_assoc, add-suc, suc-add)
 
 -- one more, where each takes at most `most`
-pub put_each : {before middle after : List ℕ} {at i j : ℕ} (most : ℕ) (f : ℕ → List ℕ) (k : ℕ) → Put (most * k) before middle at (concat_map f (up_from 0 k)) i → Put most middle after i (f k) j
-    → Put (most * (k + 1)) before after at (concat_map f (up_from 0 (k + 1))) j
-put_each most f k p q =
-    put_as (most * (k + 1)) (concat_map f (up_from 0 (k + 1))) (le_of_eq (rw (mul-add, mul-one) refl)) (rw add-one (sym (rw zero-add at (concat_snoc f 0 k)))) (put_then p q)
+pub wrote_each : {before middle after : Writer} (most : ℕ) (f : ℕ → List ℕ) (k : ℕ) → Wrote (most * k) before middle (concat_map f (up_from 0 k)) → Wrote most middle after (f k)
+    → Wrote (most * (k + 1)) before after (concat_map f (up_from 0 (k + 1)))
+wrote_each most f k p q =
+    wrote_as (most * (k + 1)) (concat_map f (up_from 0 (k + 1))) (le_of_eq (rw (mul-add, mul-one) refl)) (rw add-one (sym (rw zero-add at (concat_snoc f 0 k)))) (wrote_then p q)
 
 -- ---- a buffer written from its start on
 
-pub put_few : {most end bound : ℕ} {before after new : List ℕ} → Put most before after 0 new end → most ≤ bound → length new ≤ bound
-put_few p h = omega (arith, p.place, p.near)
-
 module _ {most end : ℕ} {before after new : List ℕ} (p : Put most before after 0 new end) (h : end ≤ length before) where
-  -- the place behind what was written, as a length
-  pub put_taken : end ≡ length (take end after)
-  put_taken = sym (length-take-le end after (rw (put_length p) h))
-
   -- what was written stands in front
   pub put_front : take end after ≡ new
   put_front =

@@ -5,28 +5,28 @@ use mathlib.Core.Bool.{true}
 use mathlib.Core.List.{List}
 use lib.ListN.{length, drop}
 use lib.Dec.{ltb}
-use native.Mathlib.Omega.{arith}
 use borrow.Author.Tests.{lt-ltb, le-ltb}
 use Rattle.word.specs.Word.{choose}
 use Rattle.cfg.specs.Layout.{graph_words}
 use Rattle.cfg.specs.Graph.{CFG}
 use Rattle.cfg.specs.Table.{graph_of, admitted_graph}
-use Rattle.cfg_text.specs.Walk.{Reading, refused, read}
+use Rattle.std.specs.Prelude.{Ok, Err}
+use Rattle.std.proofs.Common.{rules}
+use Rattle.refusal.specs.declared.Refusal.TheVariants.{LongText}
+use Rattle.refusal.specs.Refusal.{number}
+use Rattle.cfg_text.specs.declared.ReadError.{ReadError}
+use Rattle.cfg_text.specs.Walk.{Reading, refused}
 use Rattle.cfg_text.specs.Read.{max_text, read_text, reading, reading_answer, read_answer, read_words}
-use Rattle.cfg_text.specs.declared.ReadAnswer.TheVariants.{Refused, Read}
 use Rattle.cfg_write.proofs.RoundTrip.{read_whole}
 use Rattle.cfg_write.proofs.AnswerLaws.{took_of, words_are, begins_graph, begins_admitted}
 use Rattle.synthesis.specs.Synthesis.{machine}
 use Rattle.listing.specs.Listing.{refused_line, listing_of, machine_listing, listing}
 
-by_answer : (r : Reading) (k n : ℕ) → reading_answer r ≡ Refused k n → listing_of r ≡ refused_line k n
-by_answer (refused a b) k n e =
-    let p : a ≡ k = cc in
-    let q : b ≡ n = cc in
-    rw (p, q) refl
-by_answer (read g) k n e = absurd (let z : ◌≡◌ {A = ℕ} 0 1 = cc in omega arith)
+by_answer : (r : Reading) (e : ReadError) → reading_answer r ≡ Err e → listing_of r ≡ refused_line (number e.refusal) e.line
+by_answer (Err x) e h = ap (λ (y : ReadError). refused_line (number y.refusal) y.line) (search (h, rules))
+by_answer (Ok g) e h = absurd (search (h, rules))
 
-short_listing : (text : List ℕ) (g : CFG) → length text ≤ max_text → read_text text ≡ read g → listing text ≡ machine_listing (machine g)
+short_listing : (text : List ℕ) (g : CFG) → length text ≤ max_text → read_text text ≡ Ok g → listing text ≡ machine_listing (machine g)
 unfolding listing
 short_listing text g h e = rw (le-ltb max_text (length text) h) (ap listing_of e)
 
@@ -37,16 +37,16 @@ long_listing text h = rw (lt-ltb max_text (length text) h) refl
 
 module _ (text table : List ℕ) where
   -- a text that is refused
-  pub refused_listing : graph_words ≤ length table → (k n : ℕ) → read_answer text table ≡ Refused k n → listing text ≡ refused_line k n
+  pub refused_listing : graph_words ≤ length table → (e : ReadError) → read_answer text table ≡ Err e → listing text ≡ refused_line (number e.refusal) e.line
   unfolding read_answer reading listing
-  refused_listing long k n e = by_answer (choose (ltb max_text (length text)) (refused 1 0) (read_text text)) k n (rw (le-ltb (length table) graph_words long) at e)
+  refused_listing long e h = by_answer (choose (ltb max_text (length text)) (refused LongText 0) (read_text text)) e (rw (le-ltb (length table) graph_words long) at h)
 
   -- one that is read
   pub record Listed : Type 0 where
     pub accepted : admitted_graph (read_words text table) ≡ true
     pub same : listing text ≡ machine_listing (machine (graph_of (read_words text table)))
 
-  pub read_listing : read_answer text table ≡ Read → Listed
+  pub read_listing : read_answer text table ≡ Ok tt → Listed
   read_listing e =
       let k = took_of text table e in
       let g = k.graph in

@@ -1,15 +1,16 @@
 -- "Listing" of paper 01: its bytes, the answer and the final output, on all inputs. Assumes nothing.
-use Rattle.std.specs.Prelude.{ℕ, List, [], ◌∷◌, ◌++◌, length, get_or, drop, eqb, ltb}
+use Rattle.std.specs.Prelude.{ℕ, List, [], ◌∷◌, ◌++◌, length, get_or, drop, eqb, ltb, Result, Ok, Err}
+use Rattle.refusal.specs.declared.Refusal.TheVariants.{LongText}
+use Rattle.refusal.specs.Refusal.{number}
 use Rattle.word.specs.Word.{choose}
 use Rattle.runs.specs.Lists.{up_from, only, concat_map}
 use Rattle.decimal.specs.Decimal.{decimal_of}
 use Rattle.delimited.specs.Parts.{bytes, parted}
-use Rattle.cfg_text.specs.Walk.{Reading, refused, read}
+use Rattle.cfg_text.specs.Walk.{Reading, refused}
 use Rattle.cfg_text.specs.Read.{max_text, read_text}
 use Rattle.fsmd.specs.Machine.{FSMD, state_of, wire_count}
 use Rattle.synthesis.specs.Synthesis.{machine}
-use Rattle.listing.specs.declared.ListAnswer.{ListAnswer}
-use Rattle.listing.specs.declared.ListAnswer.TheVariants.{Listed, Short}
+use Rattle.listing.specs.declared.ShortOutput.{ShortOutput}
 
 -- no listing is longer
 abbrev pub max_listing : ℕ
@@ -45,22 +46,22 @@ machine_listing m = head_line m ++ concat_map (state_line m) (up_from 0 (length 
 -- the number and the line of a refusal
 unfoldable pub refused_line : ℕ → ℕ → List ℕ
 unfolding parted decimal_of
-refused_line number line = listing_line (bytes "refused" ∷ decimal_of number ∷ decimal_of line ∷ [])
+refused_line n line = listing_line (bytes "refused" ∷ decimal_of n ∷ decimal_of line ∷ [])
 
 abbrev pub listing_of : Reading → List ℕ
-listing_of (refused number line) = refused_line number line
-listing_of (read g) = machine_listing (machine g)
+listing_of (Err e) = refused_line (number e.refusal) e.line
+listing_of (Ok g) = machine_listing (machine g)
 
--- the listing of a text: 1 a text too long, at line 0
+-- the listing of a text; one too long is refused at line 0
 unfoldable pub listing : List ℕ → List ℕ
 unfolding read_text refused_line machine_listing machine
-listing text = listing_of (choose (ltb max_text (length text)) (refused 1 0) (read_text text))
+listing text = listing_of (choose (ltb max_text (length text)) (refused LongText 0) (read_text text))
 
 -- ---- bytes for an output: all of them where they fit, else none
 
 -- their number, which is what is needed where the output is shorter
-abbrev pub answer_for : List ℕ → List ℕ → ListAnswer
-answer_for new out = choose (ltb (length out) (length new)) (Short (length new)) (Listed (length new))
+abbrev pub answer_for : List ℕ → List ℕ → Result ℕ ShortOutput
+answer_for new out = choose (ltb (length out) (length new)) (Err (record { needed = length new })) (Ok (length new))
 
 -- bytes past them stay
 abbrev pub output_for : List ℕ → List ℕ → List ℕ
@@ -68,7 +69,7 @@ output_for new out = choose (ltb (length out) (length new)) out (new ++ drop (le
 
 -- ---- the operation
 
-unfoldable pub list_answer : List ℕ → List ℕ → ListAnswer
+unfoldable pub list_answer : List ℕ → List ℕ → Result ℕ ShortOutput
 unfolding listing
 list_answer text out = answer_for (listing text) out
 

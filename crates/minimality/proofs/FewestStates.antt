@@ -6,6 +6,7 @@ use mathlib.Core.Bool.{true}
 use mathlib.Core.Path.{◌≡◌, sym, ◌∙◌, ap, subst, fun_ext}
 use mathlib.Core.List.{List, ◌++◌}
 use lib.ListN.{length, get_or, drop, get_or-eq_default}
+use Rattle.std.specs.Prelude.{Ok}
 use Rattle.runs.specs.Lists.{padded}
 use Rattle.runs.proofs.ListLaws.{length_padded, get_or-padded}
 use Rattle.cfg.specs.Graph.{CFG}
@@ -20,7 +21,6 @@ use Rattle.grouping.specs.Grouping.{groups}
 use Rattle.grouping.proofs.Reach.{admitted_closed}
 use Rattle.grouping.proofs.PopulationLaws.{state_in}
 use Rattle.synthesis.specs.Synthesis.{machine, synthesis_answer, synthesis_words}
-use Rattle.synthesis.specs.declared.SynthesisAnswer.TheVariants.{Made}
 use Rattle.synthesis.proofs.SynthesisedMachine.{starters_are, block_states_are, machine_is, machine_fits}
 use Rattle.synthesis.proofs.MadeTable.{made_words, made_admitted}
 use Rattle.minimality.specs.Division.{FewestStates}
@@ -72,5 +72,5 @@ made_fewest t rest ok =
       fewest = λ others state d. subst (λ (n : ℕ). n ≤ length others) count ((least_fit g a).least.fewest others (division_fit g a others state d));
     }
 
-pub fewest_states : (t old : List ℕ) → synthesis_answer t old ≡ Made → FewestStates t (synthesis_words t old)
+pub fewest_states : (t old : List ℕ) → synthesis_answer t old ≡ Ok tt → FewestStates t (synthesis_words t old)
 fewest_states t old e = rw (made_words t old e) (made_fewest t (drop machine_words old) (made_admitted t old e))

@@ -5,7 +5,7 @@ use mathlib.Core.Bool.{Bool, true, false, not, ◌&&◌, ◌||◌, false≢true}
 use mathlib.Core.Logic.{◌⊎◌, inl, inr}
 use mathlib.Core.Path.{◌≡◌, refl, sym, ◌∙◌, ap, subst, fun_ext}
 use mathlib.Core.List.{List, [], ◌∷◌, ◌++◌}
-use mathlib.Core.Option.{Option, none, some}
+use Rattle.std.specs.Prelude.{Option, Some, None}
 use lib.ListN.{length, get_or, take, drop, length-append}
 use lib.Dec.{eqb}
 use borrow.Author.Tests.{eq-eqb, ne_eqb}
@@ -108,7 +108,7 @@ module _ (targets : ℕ → List ℕ) where
   abbrev pub choice : List ℕ → Option ℕ
   choice l = first (λ x. eqb (waits l x) 0) l
 
-  chosen_in : (l : List ℕ) (x : ℕ) → choice l ≡ some x → In x l
+  chosen_in : (l : List ℕ) (x : ℕ) → choice l ≡ Some x → In x l
   chosen_in l x e = (first_some (λ x. eqb (waits l x) 0) l x e).0
 
   run_ends : (l : List ℕ) → run targets zero l ≡ []
@@ -119,12 +119,12 @@ module _ (targets : ℕ → List ℕ) where
   abbrev then : ℕ → List ℕ → ℕ → List Choice
   then n l x = record { unplaced = l; counts = waits l; block = x } ∷ choices targets n (without x l) (lowered (targets x) (waits l))
 
-  pub run_stops : (n : ℕ) (l : List ℕ) → choice l ≡ none → run targets n l ≡ []
+  pub run_stops : (n : ℕ) (l : List ℕ) → choice l ≡ None → run targets n l ≡ []
   unfolding run choices
   run_stops zero l e = refl
   run_stops (suc n) l e = ap (λ (o : Option ℕ). choose_next o (then n l)) e
 
-  pub run_on : (n : ℕ) (l : List ℕ) (x : ℕ) → Distinct l → choice l ≡ some x
+  pub run_on : (n : ℕ) (l : List ℕ) (x : ℕ) → Distinct l → choice l ≡ Some x
       → run targets (suc n) l ≡ record { unplaced = l; counts = waits l; block = x } ∷ run targets n (without x l)
   unfolding run choices
   run_on n l x d e =
@@ -136,8 +136,8 @@ module _ (targets : ℕ → List ℕ) where
   run_exact (suc n) l d = go (choice l) refl (run_exact n)
     where
       go : (o : Option ℕ) → choice l ≡ o → ((m : List ℕ) → Distinct m → Each (Exact targets) (run targets n m)) → Each (Exact targets) (run targets (suc n) l)
-      go none e ih = rw (run_stops (suc n) l e) tt
-      go (some x) e ih =
+      go None e ih = rw (run_stops (suc n) l e) tt
+      go (Some x) e ih =
           rw (run_on n l x d e)
           (record { number = λ y. refl; enough = enough x l d (chosen_in l x e) }, ih (without x l) (distinct_only (λ y. not (eqb y x)) l d))
 
@@ -257,8 +257,8 @@ module _ (to : ℕ → List ℕ) (starter : ℕ → Bool) where
         go : (o : Option ℕ) → choice (targets_of to starter) (unplaced blocks placed) ≡ o
             → ((q : List ℕ) → blocks_of (run (targets_of to starter) n (unplaced blocks q)) ≡ whole n q)
             → blocks_of (run (targets_of to starter) (suc n) (unplaced blocks placed)) ≡ whole (suc n) placed
-        go none e ih = rw (run_stops (targets_of to starter) (suc n) (unplaced blocks placed) e, round n placed, same_choice placed, e) refl
-        go (some x) e ih =
+        go None e ih = rw (run_stops (targets_of to starter) (suc n) (unplaced blocks placed) e, round n placed, same_choice placed, e) refl
+        go (Some x) e ih =
             rw (run_on (targets_of to starter) n (unplaced blocks placed) x (distinct_only (λ x. not (mem x placed)) blocks d) e, round n placed, same_choice placed, e, unplaced_on blocks placed x, ih (x ∷ placed)) refl
 
     pub run_places : (n : ℕ) → blocks_of (run (targets_of to starter) n blocks) ≡ whole n []

@@ -7,64 +7,55 @@ use mathlib.Core.Bool.{Bool, true, false, not}
 use mathlib.Core.Path.{◌≡◌, refl, sym, ◌∙◌, ap, fun_ext}
 use mathlib.Core.List.{List, [], ◌∷◌, ◌++◌}
 use lib.Dec.{eqb, ltb}
-use lib.ListN.{length, get_or, take, set, replicate, length-set, get_or-replicate, get_or-eq_default}
-use lib.Seq.{get_or-set_same, get_or-set_other, take-suc, take_all}
-use borrow.Author.Tests.{eq-eqb, ltb-true}
+use lib.ListN.{length, get_or, take, set, replicate, get_or-replicate, get_or-eq_default}
+use lib.Seq.{get_or-set_same, get_or-set_other, take-suc}
+use borrow.Author.Tests.{ltb-true}
+use Rattle.std.proofs.lemmas.List.{get_or_default}
 use Rattle.word.specs.Word.{choose}
-use Rattle.runs.specs.Lists.{only, keep, concat_map}
+use Rattle.runs.specs.Lists.{mem, only, keep, concat_map}
 use Rattle.runs.proofs.Tests.{Compared, same, other, compared, and_true}
 use Rattle.runs.proofs.ListLaws.{length_only, concat_one}
 use Rattle.fsmd.specs.Layout.{max_blocks, absent}
-use Rattle.grouping.specs.Bytes.{edges_from}
+use Rattle.grouping.specs.Bytes.{row, edges_from}
 use Rattle.placement.specs.Counts.{waiting, lowered}
-use Rattle.placement.specs.PlacementBytes.{marked, awaited, target_in, targets_in, counts_in}
-use Rattle.placement.proofs.CountLaws.{only_only, number_append, lowered_is, lowered_append, waits}
+use Rattle.placement.specs.PlacementBytes.{awaited, target_in, targets_in, counts_in}
+use Rattle.placement.proofs.CountLaws.{only_only, number_append, lowered_is, lowered_append}
 
 -- ---- the edges of a block
 
-pub targets_two : (edges starts : List ℕ) (u : ℕ) → targets_in edges starts u ≡ target_in starts (get_or edges (2 * u) absent) ++ target_in starts (get_or edges (2 * u + 1) absent)
+pub targets_two : (edges : List (List ℕ)) (starters : List ℕ) (u : ℕ) → targets_in edges starters u ≡ target_in starters (get_or (row edges u) 0 0) ++ target_in starters (get_or (row edges u) 1 0)
 unfolding edges_from
-targets_two edges starts u = go (get_or edges (2 * u) absent) (get_or edges (2 * u + 1) absent)
+targets_two edges starters u = go (get_or (row edges u) 0 0) (get_or (row edges u) 1 0)
   where
-    go : (a b : ℕ) → only (λ t. not (marked starts t)) (only (λ t. ltb t max_blocks) (a ∷ b ∷ [])) ≡ target_in starts a ++ target_in starts b
-    go a b = only_only (λ t. not (marked starts t)) (λ t. ltb t max_blocks) (awaited starts) (λ t. refl) (a ∷ b ∷ []) ∙ two (awaited starts a)
+    go : (a b : ℕ) → only (λ t. not (mem t starters)) (only (λ t. ltb t max_blocks) (a ∷ b ∷ [])) ≡ target_in starters a ++ target_in starters b
+    go a b = only_only (λ t. not (mem t starters)) (λ t. ltb t max_blocks) (awaited starters) (λ t. refl) (a ∷ b ∷ []) ∙ two (awaited starters a)
       where
-        two : (c : Bool) → keep c a (target_in starts b) ≡ keep c a [] ++ target_in starts b
+        two : (c : Bool) → keep c a (target_in starters b) ≡ keep c a [] ++ target_in starters b
         two true = refl
         two false = refl
 
-pub awaited_below : (starts : List ℕ) (t : ℕ) → awaited starts t ≡ true → t < max_blocks
-awaited_below starts t e = ltb-true t max_blocks (and_true (ltb t max_blocks) (not (marked starts t)) e).0
+-- the bytes that the code reads
+pub row_read : (edges : List (List ℕ)) (u v : ℕ) → length edges ≡ 64 → u < max_blocks → v ≡ u → get_or edges v [] ≡ row edges u
+row_read edges u v l h e = rw e (get_or_default edges u [] (absent ∷ absent ∷ []) (omega arith))
+
+pub awaited_below : (starters : List ℕ) (t : ℕ) → awaited starters t ≡ true → t < max_blocks
+awaited_below starters t e = ltb-true t max_blocks (and_true (ltb t max_blocks) (not (mem t starters)) e).0
 
 -- ---- one edge counted
 
-module _ (starts waits : List ℕ) (t : ℕ) where
-  pub raise_none : awaited starts t ≡ false → (x : ℕ) → counts_in waits x ≡ waiting (target_in starts t) x + counts_in waits x
-  raise_none e x = rw e (omega arith)
-
-  pub lower_none : awaited starts t ≡ false → counts_in waits ≡ lowered (target_in starts t) (counts_in waits)
+module _ (starters waits : List ℕ) (t : ℕ) where
+  pub lower_none : awaited starters t ≡ false → counts_in waits ≡ lowered (target_in starters t) (counts_in waits)
   unfolding lowered
   lower_none e = rw e refl
 
-  module _ (e : awaited starts t ≡ true) where
-    pub awaited_one : waiting (target_in starts t) t ≡ 1
-    awaited_one = rw (e, eq-eqb t t refl) refl
-
+  module _ (e : awaited starters t ≡ true) where
     module _ (size : length waits ≡ max_blocks) where
       inside : t < length waits
-      inside = omega (arith, size, awaited_below starts t e)
+      inside = omega (arith, size, awaited_below starters t e)
 
-      pub raise_one : (length (set waits t (counts_in waits t + 1)) ≡ max_blocks)
-          × ((x : ℕ) → counts_in (set waits t (counts_in waits t + 1)) x ≡ waiting (target_in starts t) x + counts_in waits x)
-      raise_one = (length-set waits t (counts_in waits t + 1) ∙ size, λ x. rw e (go x (compared x t)))
-        where
-          go : (x : ℕ) → Compared x t → counts_in (set waits t (counts_in waits t + 1)) x ≡ waiting (t ∷ []) x + counts_in waits x
-          go x (same f p) = rw (f, p, get_or-set_same waits t (counts_in waits t + 1) 0 inside) (omega arith)
-          go x (other f p) = rw (f, get_or-set_other waits t x (counts_in waits t + 1) 0 p) (omega arith)
-
-      pub lower_one : (length (set waits t (counts_in waits t - 1)) ≡ max_blocks) × (counts_in (set waits t (counts_in waits t - 1)) ≡ lowered (target_in starts t) (counts_in waits))
+      pub lower_one : counts_in (set waits t (counts_in waits t - 1)) ≡ lowered (target_in starters t) (counts_in waits)
       unfolding lowered
-      lower_one = (length-set waits t (counts_in waits t - 1) ∙ size, rw e (fun_ext (λ x. go x (compared x t))))
+      lower_one = rw e (fun_ext (λ x. go x (compared x t)))
         where
           go : (x : ℕ) → Compared x t → counts_in (set waits t (counts_in waits t - 1)) x ≡ choose (eqb x t) (counts_in waits x - 1) (counts_in waits x)
           go x (same f p) = rw (f, p, get_or-set_same waits t (counts_in waits t - 1) 0 inside) refl
@@ -72,16 +63,16 @@ module _ (starts waits : List ℕ) (t : ℕ) where
 
 -- ---- the two edges of a block lower the counts
 
-module _ (edges starts waits : List ℕ) (u : ℕ) where
+module _ (edges : List (List ℕ)) (starters waits : List ℕ) (u : ℕ) where
   abbrev pub true_target : List ℕ
-  true_target = target_in starts (get_or edges (2 * u) absent)
+  true_target = target_in starters (get_or (row edges u) 0 0)
 
   abbrev pub false_target : List ℕ
-  false_target = target_in starts (get_or edges (2 * u + 1) absent)
+  false_target = target_in starters (get_or (row edges u) 1 0)
 
-  module _ (enough : (x : ℕ) → waiting (targets_in edges starts u) x ≤ counts_in waits x) where
+  module _ (enough : (x : ℕ) → waiting (targets_in edges starters u) x ≤ counts_in waits x) where
     both : (x : ℕ) → waiting true_target x + waiting false_target x ≤ counts_in waits x
-    both x = omega (arith, enough x, ap (λ l. waiting l x) (targets_two edges starts u), number_append (eqb x) true_target false_target)
+    both x = omega (arith, enough x, ap (λ l. waiting l x) (targets_two edges starters u), number_append (eqb x) true_target false_target)
 
     pub lower_first : (x : ℕ) → waiting true_target x ≤ counts_in waits x
     lower_first x = omega (arith, both x)
@@ -90,8 +81,21 @@ module _ (edges starts waits : List ℕ) (u : ℕ) where
       pub lower_second : (x : ℕ) → waiting false_target x ≤ counts_in more x
       lower_second x = omega (arith, both x, ap (λ f. f x) e, lowered_is true_target (counts_in waits) x)
 
-      pub lower_both : lowered false_target (counts_in more) ≡ lowered (targets_in edges starts u) (counts_in waits)
-      lower_both = ap (lowered false_target) e ∙ sym (lowered_append true_target false_target (counts_in waits)) ∙ ap (λ l. lowered l (counts_in waits)) (sym (targets_two edges starts u))
+      pub lower_both : lowered false_target (counts_in more) ≡ lowered (targets_in edges starters u) (counts_in waits)
+      lower_both = ap (lowered false_target) e ∙ sym (lowered_append true_target false_target (counts_in waits)) ∙ ap (λ l. lowered l (counts_in waits)) (sym (targets_two edges starters u))
+
+-- the same of the bytes that the code reads
+module _ (edges : List (List ℕ)) (starters waits : List ℕ) (u v : ℕ) (whole : length edges ≡ max_blocks) (l : u < max_blocks) (at : v ≡ u)
+    (enough : (x : ℕ) → waiting (targets_in edges starters u) x ≤ counts_in waits x) where
+  pub pass_first : (x : ℕ) → waiting (target_in starters (get_or (get_or edges v []) 0 0)) x ≤ counts_in waits x
+  pass_first = rw (row_read edges u v whole l at) (lower_first edges starters waits u enough)
+
+  module _ (more : List ℕ) (e : counts_in more ≡ lowered (target_in starters (get_or (get_or edges v []) 0 0)) (counts_in waits)) where
+    pub pass_second : (x : ℕ) → waiting (target_in starters (get_or (get_or edges v []) 1 0)) x ≤ counts_in more x
+    pass_second = rw (row_read edges u v whole l at) (lower_second edges starters waits u enough more (rw (row_read edges u v whole l at) at e))
+
+    pub pass_both : (last : List ℕ) → counts_in last ≡ lowered (target_in starters (get_or (get_or edges v []) 1 0)) (counts_in more) → counts_in last ≡ lowered (targets_in edges starters u) (counts_in waits)
+    pass_both last f = (rw (row_read edges u v whole l at) at f) ∙ lower_both edges starters waits u enough more (rw (row_read edges u v whole l at) at e)
 
 -- ---- the edges of one block after another
 
@@ -102,38 +106,36 @@ zeros x = go (dec_lt x max_blocks)
     go (yes h) = get_or-replicate {A = ℕ} max_blocks x 0 0 h
     go (no h) = get_or-eq_default {A = ℕ} (replicate max_blocks 0) 0 {n = x} (omega arith)
 
-pub record Counting (edges starts blocks waits : List ℕ) (i : ℕ) : Type 0 where
+pub record Counting (edges : List (List ℕ)) (starters blocks waits : List ℕ) (i : ℕ) : Type 0 where
   pub within : i ≤ length blocks
-  pub size : length waits ≡ max_blocks
   pub low : (x : ℕ) → counts_in waits x ≤ 2 * i
-  pub counted : counts_in waits ≡ waiting (concat_map (targets_in edges starts) (take i blocks))
+  pub counted : counts_in waits ≡ waiting (concat_map (targets_in edges starters) (take i blocks))
 
-pub counting_begins : (edges starts blocks waits : List ℕ) → length waits ≡ max_blocks → ((x : ℕ) → counts_in waits x ≡ 0) → Counting edges starts blocks waits 0
+pub counting_begins : (edges : List (List ℕ)) (starters blocks : List ℕ) → Counting edges starters blocks (replicate max_blocks 0) 0
 unfolding concat_map
-counting_begins edges starts blocks waits n z = record { within = omega arith; size = n; low = λ x. omega (arith, z x); counted = fun_ext z }
+counting_begins edges starters blocks = record { within = omega arith; low = λ x. omega (arith, zeros x); counted = fun_ext zeros }
 
-pub one_at_most : (starts : List ℕ) (t x : ℕ) → waiting (target_in starts t) x ≤ 1
-one_at_most starts t x = go (awaited starts t)
+pub one_at_most : (starters : List ℕ) (t x : ℕ) → waiting (target_in starters t) x ≤ 1
+one_at_most starters t x = go (awaited starters t)
   where
     go : (b : Bool) → waiting (keep b t []) x ≤ 1
     go true = length_only (eqb x) (t ∷ [])
     go false = omega arith
 
-module _ {edges starts blocks waits : List ℕ} {i : ℕ} (c : Counting edges starts blocks waits i) where
-  pub counting_on : i < length blocks → (more : List ℕ) → length more ≡ max_blocks
-      → ((x : ℕ) → counts_in more x ≡ waiting (target_in starts (get_or edges (2 * get_or blocks i 0 + 1) absent)) x + (waiting (target_in starts (get_or edges (2 * get_or blocks i 0) absent)) x + counts_in waits x))
-      → Counting edges starts blocks more (i + 1)
-  counting_on h more n e = record {
+module _ {edges : List (List ℕ)} {starters blocks waits : List ℕ} {i : ℕ} (c : Counting edges starters blocks waits i) where
+  pub counting_on : i < length blocks → (more : List ℕ)
+      → ((x : ℕ) → counts_in more x ≡ waiting (target_in starters (get_or (row edges (get_or blocks i 0)) 1 0)) x + (waiting (target_in starters (get_or (row edges (get_or blocks i 0)) 0 0)) x + counts_in waits x))
+      → Counting edges starters blocks more (i + 1)
+  counting_on h more e = record {
     within = omega arith;
-    size = n;
-    low = λ x. omega (arith, e x, c.low x, one_at_most starts b x, one_at_most starts a x);
+    low = λ x. omega (arith, e x, c.low x, one_at_most starters b x, one_at_most starters a x);
     counted = fun_ext λ x. omega (
       arith,
       e x,
       ap (λ f. f x) c.counted,
       ap (λ l. waiting l x) grown,
-      number_append (eqb x) (concat_map (targets_in edges starts) (take i blocks)) (target_in starts a ++ target_in starts b),
-      number_append (eqb x) (target_in starts a) (target_in starts b),
+      number_append (eqb x) (concat_map (targets_in edges starters) (take i blocks)) (target_in starters a ++ target_in starters b),
+      number_append (eqb x) (target_in starters a) (target_in starters b),
     );
   }
     where
@@ -141,16 +143,13 @@ module _ {edges starts blocks waits : List ℕ} {i : ℕ} (c : Counting edges st
       u = get_or blocks i 0
 
       a : ℕ
-      a = get_or edges (2 * u) absent
+      a = get_or (row edges u) 0 0
 
       b : ℕ
-      b = get_or edges (2 * u + 1) absent
+      b = get_or (row edges u) 1 0
 
-      grown : concat_map (targets_in edges starts) (take (i + 1) blocks) ≡ concat_map (targets_in edges starts) (take i blocks) ++ (target_in starts a ++ target_in starts b)
+      grown : concat_map (targets_in edges starters) (take (i + 1) blocks) ≡ concat_map (targets_in edges starters) (take i blocks) ++ (target_in starters a ++ target_in starters b)
       grown =
-          ap (λ n. concat_map (targets_in edges starts) (take n blocks)) (add-one i) ∙ ap (concat_map (targets_in edges starts)) (take-suc blocks i 0 h)
-          ∙ concat_one (targets_in edges starts) (take i blocks) u
-          ∙ ap (λ l. concat_map (targets_in edges starts) (take i blocks) ++ l) (targets_two edges starts u)
-
-  pub counting_all : length blocks ≤ i → counts_in waits ≡ waiting (concat_map (targets_in edges starts) blocks)
-  counting_all h = c.counted ∙ ap (λ l. waiting (concat_map (targets_in edges starts) l)) (take_all i blocks h)
+          ap (λ n. concat_map (targets_in edges starters) (take n blocks)) (add-one i) ∙ ap (concat_map (targets_in edges starters)) (take-suc blocks i 0 h)
+          ∙ concat_one (targets_in edges starters) (take i blocks) u
+          ∙ ap (λ l. concat_map (targets_in edges starters) (take i blocks) ++ l) (targets_two edges starters u)

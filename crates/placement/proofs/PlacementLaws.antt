@@ -4,7 +4,7 @@ use mathlib.Core.Bool.{true, false, not, ◌||◌, ◌&&◌, false≢true}
 use mathlib.Core.Logic.{◌⊎◌, inl, inr, ◌≢◌}
 use mathlib.Core.Path.{◌≡◌, refl, sym, ◌∙◌, ap, subst}
 use mathlib.Core.List.{List, [], ◌∷◌, ◌++◌, nil≢cons, head-eq_of_cons-eq, tail-eq_of_cons-eq}
-use mathlib.Core.Option.{Option, none, some}
+use Rattle.std.specs.Prelude.{Option, Some, None}
 use native.Mathlib.Omega.{arith}
 use lib.ListN.{length, get_or}
 use lib.Dec.{eqb}
@@ -76,11 +76,11 @@ abbrev choice : CFG → Groups → List ℕ → List ℕ → Option ℕ
 choice g s blocks placed = first (λ x. not (mem x placed) && ready g s blocks placed x) blocks
 
 module _ (g : CFG) (s : Groups) (blocks : List ℕ) (n : ℕ) (placed : List ℕ) where
-  place_none : choice g s blocks placed ≡ none → placed_from g s blocks (suc n) placed ≡ []
+  place_none : choice g s blocks placed ≡ None → placed_from g s blocks (suc n) placed ≡ []
   unfolding placed_from
   place_none e = ap (λ (o : Option ℕ). place_next o (λ x. placed_from g s blocks n (x ∷ placed))) e
 
-  place_some : (x : ℕ) → choice g s blocks placed ≡ some x → placed_from g s blocks (suc n) placed ≡ x ∷ placed_from g s blocks n (x ∷ placed)
+  place_some : (x : ℕ) → choice g s blocks placed ≡ Some x → placed_from g s blocks (suc n) placed ≡ x ∷ placed_from g s blocks n (x ∷ placed)
   unfolding placed_from
   place_some x e = ap (λ (o : Option ℕ). place_next o (λ x. placed_from g s blocks n (x ∷ placed))) e
 
@@ -91,8 +91,8 @@ place_length g s blocks zero placed = omega arith
 place_length g s blocks (suc n) placed = go (choice g s blocks placed) (place_length g s blocks n)
   where
     go : (o : Option ℕ) → ((q : List ℕ) → length (placed_from g s blocks n q) ≤ n) → length (place_next o (λ x. placed_from g s blocks n (x ∷ placed))) ≤ suc n
-    go none ih = omega arith
-    go (some x) ih = let h = ih (x ∷ placed) in omega arith
+    go None ih = omega arith
+    go (Some x) ih = let h = ih (x ∷ placed) in omega arith
 
 pub order_length : (g : CFG) (s : Groups) (k : ℕ) → length (order g s k) ≤ length (members g s k)
 unfolding order
@@ -239,7 +239,7 @@ module _ (g : CFG) (a : Closed g) (s : Groups) (G : Grouped g s) (k : ℕ) (k_in
   one_inside placed x i m y (inr j) = m y j
 
   -- what is chosen is a block of the state, not placed yet, and due
-  chosen : (placed : List ℕ) (x : ℕ) → choice g s (members g s k) placed ≡ some x → In x (members g s k) × (In x placed → ⊥) × Due g s (members g s k) placed x
+  chosen : (placed : List ℕ) (x : ℕ) → choice g s (members g s k) placed ≡ Some x → In x (members g s k) × (In x placed → ⊥) × Due g s (members g s k) placed x
   chosen placed x h =
       let f = first_some (λ x. not (mem x placed) && ready g s (members g s k) placed x) (members g s k) x h in
       let t = and_true (not (mem x placed)) (ready g s (members g s k) placed x) f.1 in
@@ -256,7 +256,7 @@ module _ (g : CFG) (a : Closed g) (s : Groups) (G : Grouped g s) (k : ℕ) (k_in
   }
   place_outcome (suc n) placed e d m = go (choice g s (members g s k) placed) refl (place_outcome n)
     where
-      stuck : choice g s (members g s k) placed ≡ none → (x : ℕ) → In x (members g s k) → (In x placed → ⊥) → Due g s (members g s k) placed x → ⊥
+      stuck : choice g s (members g s k) placed ≡ None → (x : ℕ) → In x (members g s k) → (In x placed → ⊥) → Due g s (members g s k) placed x → ⊥
       stuck h x i f t =
           let c : (not (mem x placed) && ready g s (members g s k) placed x) ≡ false =
           first_none (λ x. not (mem x placed) && ready g s (members g s k) placed x) (members g s k) h x i in
@@ -283,13 +283,13 @@ module _ (g : CFG) (a : Closed g) (s : Groups) (G : Grouped g s) (k : ℕ) (k_in
       go : (o : Option ℕ) → choice g s (members g s k) placed ≡ o
           → ((q : List ℕ) → n + length q ≡ length (members g s k) → Distinct q → Subset q (members g s k) → Outcome g s (members g s k) q (placed_from g s (members g s k) n q))
           → Outcome g s (members g s k) placed (placed_from g s (members g s k) (suc n) placed)
-      go none h ih = rw (place_none g s (members g s k) n placed h) (record {
+      go None h ih = rw (place_none g s (members g s k) n placed h) (record {
         fresh = λ z i. absurd i;
         distinct = tt;
         complete = λ x i. inl (none_left placed (stuck h) (suc (length g.blocks)) x i (omega arith));
         sorted = tt;
       })
-      go (some x) h ih =
+      go (Some x) h ih =
           let c = chosen placed x h in
           rw (place_some g s (members g s k) n placed x h)
           (one_more x c.0 c.1 c.2 (placed_from g s (members g s k) n (x ∷ placed))
@@ -303,16 +303,16 @@ module _ (g : CFG) (a : Closed g) (s : Groups) (G : Grouped g s) (k : ℕ) (k_in
   place_alike zero (suc m) placed l e d i = go (choice g s (members g s k) placed) refl
     where
       go : (o : Option ℕ) → choice g s (members g s k) placed ≡ o → placed_from g s (members g s k) (suc m) placed ≡ []
-      go none h = place_none g s (members g s k) m placed h
-      go (some x) h = let c = chosen placed x h in absurd (c.1 (full placed (omega arith) d i x c.0))
+      go None h = place_none g s (members g s k) m placed h
+      go (Some x) h = let c = chosen placed x h in absurd (c.1 (full placed (omega arith) d i x c.0))
   place_alike (suc n) zero placed l e d i = absurd (omega arith)
   place_alike (suc n) (suc m) placed l e d i = go (choice g s (members g s k) placed) refl (place_alike n m)
     where
       go : (o : Option ℕ) → choice g s (members g s k) placed ≡ o
           → ((q : List ℕ) → n ≤ m → n + length q ≡ length (members g s k) → Distinct q → Subset q (members g s k) → placed_from g s (members g s k) m q ≡ placed_from g s (members g s k) n q)
           → placed_from g s (members g s k) (suc m) placed ≡ placed_from g s (members g s k) (suc n) placed
-      go none h ih = place_none g s (members g s k) m placed h ∙ sym (place_none g s (members g s k) n placed h)
-      go (some x) h ih =
+      go None h ih = place_none g s (members g s k) m placed h ∙ sym (place_none g s (members g s k) n placed h)
+      go (Some x) h ih =
           let c = chosen placed x h in
           place_some g s (members g s k) m placed x h
           ∙ ap (λ (q : List ℕ). x ∷ q) (ih (x ∷ placed) (omega arith) (omega arith) (c.1, d) (one_inside placed x c.0 i))

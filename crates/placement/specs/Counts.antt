@@ -1,6 +1,5 @@
 -- Placing the blocks of a state by waiting counts (request R-3). Assumes nothing.
-use Rattle.std.specs.Prelude.{ℕ, zero, suc, ◌-◌, ◌≤◌, Bool, true, not, ◌&&◌, ◌≡◌, List, [], ◌∷◌, map, length, get_or, eqb, ltb}
-use Rattle.std.proofs.Math.Option.{Option, none, some}
+use Rattle.std.specs.Prelude.{ℕ, zero, suc, ◌-◌, ◌≤◌, Bool, true, not, ◌&&◌, ◌≡◌, List, [], ◌∷◌, map, length, get_or, eqb, ltb, Option, Some, None}
 use Rattle.word.specs.Word.{choose}
 use Rattle.runs.specs.Lists.{mem, only, first, concat_map, occurrences}
 use Rattle.cfg.specs.Graph.{CFG, successors}
@@ -30,8 +29,8 @@ abbrev pub blocks_of : List Choice → List ℕ
 blocks_of cs = map (λ (c : Choice). c.block) cs
 
 abbrev pub choose_next : Option ℕ → (ℕ → List Choice) → List Choice
-choose_next none f = []
-choose_next (some x) f = f x
+choose_next None f = []
+choose_next (Some x) f = f x
 
 module _ (targets : ℕ → List ℕ) where
   -- always the lowest-numbered unplaced block whose count is 0; its edges then lower the counts

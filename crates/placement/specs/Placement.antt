@@ -1,6 +1,5 @@
 -- The order in which the blocks of a state are placed ("Wires" of paper 01). Assumes nothing.
-use Rattle.std.specs.Prelude.{ℕ, zero, suc, Bool, not, ◌&&◌, ◌||◌, List, [], ◌∷◌, length, get_or, eqb}
-use Rattle.std.proofs.Math.Option.{Option, none, some}
+use Rattle.std.specs.Prelude.{ℕ, zero, suc, Bool, not, ◌&&◌, ◌||◌, List, [], ◌∷◌, length, get_or, eqb, Option, Some, None}
 use Rattle.runs.specs.Lists.{up_from, mem, only, every, first}
 use Rattle.cfg.specs.Graph.{CFG, successors}
 use Rattle.fsmd.specs.Layout.{absent}
@@ -15,8 +14,8 @@ abbrev pub ready : CFG → Groups → List ℕ → List ℕ → ℕ → Bool
 ready g s blocks placed x = mem x s.starters || every (λ u. not (mem x (successors g u)) || mem u placed) blocks
 
 abbrev pub place_next : Option ℕ → (ℕ → List ℕ) → List ℕ
-place_next none f = []
-place_next (some x) f = x ∷ f x
+place_next None f = []
+place_next (Some x) f = x ∷ f x
 
 -- the blocks still to place, in order, where `placed` has those before: always the lowest-numbered that is ready
 unfoldable pub placed_from : CFG → Groups → List ℕ → ℕ → List ℕ → List ℕ

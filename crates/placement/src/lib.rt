@@ -1,114 +1,99 @@
 // The order in which the blocks of a state are placed, by counts of the edges that each block waits for.
 #![tactic(auto)]
 
-ghost use Rattle.std.specs.Prelude.{◌≡◌, [], ◌∷◌, ◌++◌, ℕ, ◌+◌, ◌<◌, ◌≤◌, length, get_or, take, drop};
-ghost use Rattle.runs.specs.Lists.{concat_map};
+ghost use Rattle.std.specs.Prelude.{◌≡◌, true, [], ◌∷◌, ◌++◌, ℕ, ◌+◌, ◌<◌, ◌≤◌, length, get_or, take, drop, position};
+ghost use Rattle.runs.specs.Lists.{mem, concat_map};
 ghost use Rattle.fsmd.specs.Layout.{max_blocks};
 ghost use Rattle.placement.specs.Counts.{waiting, lowered};
-ghost use Rattle.placement.specs.PlacementBytes.{marked, members_in, placed_in, awaited, target_in, targets_in, counts_in, Chosen};
+ghost use Rattle.placement.specs.PlacementBytes.{members_in, placed_in, awaited, target_in, targets_in, counts_in, is_ready};
 
+use arrayvec::ArrayVec;
 use cfg::GraphTable;
-use grouping::edges;
+use grouping::edges::Edges;
+use grouping::starters::Starters;
 
-// A number that no block has.
-const PAST: u8 = GraphTable::BLOCKS as u8;
-
-// Whether the byte at x is other than 0, as the mark of a starter is, and the count of a block that waits; past the end it is not.
-fn mark(marks: &[u8], x: usize) -> bool
-    ensures { result ≡ marked marks.now x }
+// The blocks of state k, in rising order.
+fn members(states: &[u8], k: u8) -> ArrayVec<u8, { GraphTable::BLOCKS }>
+    requires { (length states.now ≤ max_blocks) × (k < max_blocks) }
+    ensures { result.items ≡ members_in states.now k }
 {
-    if x < marks.len() {
-        marks[x] != 0
-    } else {
-        false
-    }
-}
-
-// The blocks of state k, in rising order from the front of `blocks`; how many there are.
-fn members(states: &[u8], k: u8, blocks: &mut [u8]) -> usize
-    requires { (length states.now ≤ max_blocks) × (k < max_blocks) × (length blocks.old ≡ max_blocks) }
-    ensures { (result ≤ max_blocks) × (take result blocks.new ≡ members_in states.now k) }
-{
-    let mut count: usize = 0;
-    let mut x: usize = 0;
-    while x < states.len() {
-        if states[x] == k {
-            blocks[count] = x as u8;
-            count += 1;
+    let mut blocks = ArrayVec::new();
+    for (x, state) in states.iter().enumerate() {
+        if *state == k {
+            blocks.push(x as u8);
         }
-        x += 1;
     }
-    count
+    blocks
 }
 
-// Whether an edge to t is in-state: t is a block, and no starter.
-fn is_awaited(starts: &[u8], t: u8) -> bool
-    ensures { result ≡ awaited starts.now t }
-{
-    if t < PAST {
-        !mark(starts, buffers::byte_index(t))
-    } else {
-        false
+// Which edges of a graph are in-state: those to a block that is no starter.
+#[derive(Clone, Copy)]
+struct InState<'a> {
+    edges: &'a Edges,
+    starters: &'a Starters,
+    ghost whole: { length edges.now ≡ max_blocks },
+}
+
+impl<'a> InState<'a> {
+    // Whether an edge to t is one.
+    fn awaits(self, t: u8) -> bool
+        ensures { result ≡ awaited self.entry.starters.now t }
+    {
+        usize::from(t) < GraphTable::BLOCKS && !self.starters.contains(t)
     }
-}
 
-// One edge more to t.
-fn raise(starts: &[u8], waits: &mut [u8], t: u8)
-    requires { (length waits.old ≡ max_blocks) × ((x : ℕ) → counts_in waits.old x < 255) }
-    ensures { (length waits.new ≡ max_blocks) × ((x : ℕ) → counts_in waits.new x ≡ waiting (target_in starts.now t) x + counts_in waits.old x) }
-{
-    if is_awaited(starts, t) {
-        let n = buffers::byte_index(t);
-        waits[n] += 1;
-    }
-}
-
-// One edge less to t.
-fn lower(starts: &[u8], waits: &mut [u8], t: u8)
-    requires { (length waits.old ≡ max_blocks) × ((x : ℕ) → waiting (target_in starts.now t) x ≤ counts_in waits.old x) }
-    ensures { (length waits.new ≡ max_blocks) × (counts_in waits.new ≡ lowered (target_in starts.now t) (counts_in waits.old)) }
-{
-    if is_awaited(starts, t) {
-        let n = buffers::byte_index(t);
-        waits[n] -= 1;
-    }
-}
-
-// For each block, how many in-state edges lead to it from `blocks`; none is counted yet.
-fn count_edges(edges: &[u8], starts: &[u8], blocks: &[u8], waits: &mut [u8])
-    requires { (length blocks.now ≤ max_blocks) × (length waits.old ≡ max_blocks) × ((x : ℕ) → counts_in waits.old x ≡ 0) }
-    ensures { counts_in waits.new ≡ waiting (concat_map (targets_in edges.now starts.now) blocks.now) }
-{
-    let mut i: usize = 0;
-    while i < blocks.len() {
-        let u = buffers::byte_index(blocks[i]);
-        raise(starts, waits, edges::at(edges, 2 * u));
-        raise(starts, waits, edges::at(edges, 2 * u + 1));
-        i += 1;
-    }
-}
-
-// Each in-state edge of u lowers a count.
-fn lower_edges(edges: &[u8], starts: &[u8], waits: &mut [u8], u: usize)
-    requires { (u < 256) × (length waits.old ≡ max_blocks) × ((x : ℕ) → waiting (targets_in edges.now starts.now u) x ≤ counts_in waits.old x) }
-    ensures { (length waits.new ≡ max_blocks) × (counts_in waits.new ≡ lowered (targets_in edges.now starts.now u) (counts_in waits.old)) }
-{
-    lower(starts, waits, edges::at(edges, 2 * u));
-    lower(starts, waits, edges::at(edges, 2 * u + 1));
-}
-
-// The place of the first block that waits for no edge, or the length.
-fn choose(left: &[u8], waits: &[u8]) -> usize
-    ensures { Chosen left.now waits.now result }
-{
-    let mut i: usize = 0;
-    while i < left.len() {
-        if !mark(waits, buffers::byte_index(left[i])) {
-            return i;
+    // One edge more to t.
+    fn raise(self, waits: &mut [u8; GraphTable::BLOCKS], t: u8)
+        requires { (x : ℕ) → counts_in waits.old x < 255 }
+        ensures { (x : ℕ) → counts_in waits.new x ≡ waiting (target_in self.entry.starters.now t) x + counts_in waits.old x }
+    {
+        if self.awaits(t) {
+            waits[usize::from(t)] += 1;
         }
-        i += 1;
     }
-    i
+
+    // One edge less to t. No one function with `raise`: it would take the change as a closure, whose effect its contract would have to name.
+    fn lower(self, waits: &mut [u8; GraphTable::BLOCKS], t: u8)
+        requires { (x : ℕ) → waiting (target_in self.starters.now t) x ≤ counts_in waits.old x }
+        ensures { counts_in waits.new ≡ lowered (target_in self.entry.starters.now t) (counts_in waits.old) }
+    {
+        if self.awaits(t) {
+            waits[usize::from(t)] -= 1;
+        }
+    }
+
+    // For each block, how many lead to it from `blocks`.
+    fn count(self, blocks: &[u8]) -> [u8; GraphTable::BLOCKS]
+        requires { (length blocks.now ≤ max_blocks) × ((x : ℕ) → mem x blocks.now ≡ true → x < max_blocks) }
+        ensures { counts_in result ≡ waiting (concat_map (targets_in self.entry.edges.now self.entry.starters.now) blocks.now) }
+    {
+        let mut waits = [0; GraphTable::BLOCKS];
+        for block in blocks {
+            let [holds, fails] = self.edges[usize::from(*block)];
+            self.raise(&mut waits, holds);
+            self.raise(&mut waits, fails);
+        }
+        waits
+    }
+
+    // Block u is placed: each of its edges lowers the count of its target.
+    #[tactic(auto, using(crate::proofs::CountSteps::pass_first, crate::proofs::CountSteps::pass_second))]
+    fn pass(self, waits: &mut [u8; GraphTable::BLOCKS], u: u8)
+        requires { (u < max_blocks) × ((x : ℕ) → waiting (targets_in self.edges.now self.starters.now u) x ≤ counts_in waits.old x) }
+        ensures { counts_in waits.new ≡ lowered (targets_in self.entry.edges.now self.entry.starters.now u) (counts_in waits.old) }
+    {
+        let [holds, fails] = self.edges[usize::from(u)];
+        self.lower(waits, holds);
+        self.lower(waits, fails);
+    }
+}
+
+// The place of the first block that waits for no edge.
+fn choose(left: &[u8], waits: &[u8; GraphTable::BLOCKS]) -> Option<usize>
+    ensures { result ≡ position (is_ready waits.now) left.now }
+{
+    left.iter()
+        .position(|x| waits.get(usize::from(*x)).copied().unwrap_or(0) == 0)
 }
 
 // The block at i comes to the front, past those before it.
@@ -116,39 +101,30 @@ fn to_front(left: &mut [u8], i: usize)
     requires { i < length left.old }
     ensures { left.new ≡ get_or left.old i 0 ∷ (take i left.old ++ drop (i + 1) left.old) }
 {
-    let mut carried = left[i];
-    let mut j: usize = 0;
-    while j <= i {
-        let next = left[j];
-        left[j] = carried;
-        carried = next;
-        j += 1;
-    }
+    left[..=i].rotate_right(1);
 }
 
-// The blocks of state k, always the lowest-numbered that waits for no edge, from the front of `blocks`; how many there are. Those placed stand in
-// front, the others behind them in rising order.
-pub fn place(edges: &[u8], states: &[u8], starts: &[u8], k: u8, blocks: &mut [u8]) -> usize
-    requires { (length states.now ≤ max_blocks) × (k < max_blocks) × (length blocks.old ≡ max_blocks) }
-    ensures { (result ≤ max_blocks) × (take result blocks.new ≡ placed_in edges.now starts.now (members_in states.now k) max_blocks []) }
+// The blocks of state k, always the lowest-numbered that waits for no edge.
+pub fn place(
+    edges: &Edges,
+    starters: &Starters,
+    states: &[u8],
+    k: u8,
+) -> ArrayVec<u8, { GraphTable::BLOCKS }>
+    requires { (length states.now ≤ max_blocks) × (k < max_blocks) }
+    ensures { result.items ≡ placed_in edges.now starters.now (members_in states.now k) max_blocks [] }
 {
-    let n = members(states, k, blocks);
-    let mut waits = [0u8; GraphTable::BLOCKS];
-    count_edges(edges, starts, &blocks[..n], &mut waits);
-    let mut count: usize = 0;
-    while count < n {
-        let i = choose(&blocks[count..n], &waits);
-        if n - count <= i {
-            break;
-        }
-        to_front(&mut blocks[count..n], i);
-        lower_edges(
-            edges,
-            starts,
-            &mut waits,
-            buffers::byte_index(blocks[count]),
-        );
+    let mut blocks = members(states, k);
+    let in_state = InState { edges, starters };
+    let mut waits = in_state.count(blocks.as_slice());
+    let mut count = 0;
+    while let Some(i) = choose(&blocks.as_slice()[count..], &waits) {
+        let left = &mut blocks.as_mut_slice()[count..];
+        to_front(left, i);
+        let block = left[0];
+        in_state.pass(&mut waits, block);
         count += 1;
     }
-    count
+    blocks.truncate(count);
+    blocks
 }

@@ -4,32 +4,45 @@ ghost use Rattle.std.specs.Prelude.{◌≡◌, ◌-◌, ◌≤◌, length};
 use cases::stream::Case;
 use std::io::Read;
 
+// An array and two places in it: what is answered leaves at the front without a copy.
 #[derive(Drop)]
 pub struct Window {
-    pub from: usize,
-    pub end: usize,
-    // Whether there may be more cases.
-    pub open: bool,
+    buffer: [u8; Window::BYTES],
+    from: usize,
+    end: usize,
+    pub ghost within: { (from ≤ end) × (end ≤ 65536) },
 }
 
-pub fn none() -> Window
-    ensures { (result.from ≡ 0) × (result.end ≡ 0) }
-{
-    Window {
-        from: 0,
-        end: 0,
-        open: false,
+impl Window {
+    const BYTES: usize = 65536;
+
+    pub fn new() -> Window {
+        Window {
+            buffer: [0; Window::BYTES],
+            from: 0,
+            end: 0,
+        }
     }
-}
 
-// The bytes from `from` to `end` go to the front.
-fn shift(buffer: &mut [u8], from: usize, end: usize)
-    requires { (from ≤ end) × (end ≤ length buffer.old) }
-{
-    let mut i = from;
-    while i < end {
-        buffer[i - from] = buffer[i];
-        i += 1;
+    // Reads on, so that the window holds a whole case, or all that is left of the stream.
+    pub fn refill<R: Read>(&mut self, reader: &mut R) {
+        let kept = self.end - self.from;
+        if Case::BYTES <= kept {
+            return;
+        }
+        self.buffer.copy_within(self.from..self.end, 0);
+        let got = read_full(reader, &mut self.buffer[kept..]);
+        self.from = 0;
+        self.end = kept + got;
+    }
+
+    pub fn bytes(&self) -> &[u8] {
+        &self.buffer[self.from..self.end]
+    }
+
+    // Only the last `count` bytes are left, or all where there are fewer.
+    pub fn keep(&mut self, count: usize) {
+        self.from = self.from.max(self.end.saturating_sub(count));
     }
 }
 
@@ -38,6 +51,7 @@ fn read_full<R: Read>(reader: &mut R, buffer: &mut [u8]) -> usize
     ensures { result ≤ length buffer.new }
 {
     let mut done = 0;
+    // A `while`: how far a read gets is known only after it.
     while done < buffer.len() {
         let n = reader.read(&mut buffer[done..]).unwrap_or(0);
         if n == 0 {
@@ -46,24 +60,4 @@ fn read_full<R: Read>(reader: &mut R, buffer: &mut [u8]) -> usize
         done += n;
     }
     done
-}
-
-// A window that holds a whole case, or all that is left of the stream.
-pub fn refill<R: Read>(reader: &mut R, buffer: &mut [u8], w: Window) -> Window
-    requires { (w.from ≤ w.end) × (w.end ≤ length buffer.old) }
-    ensures { (result.from ≤ result.end) × (result.end ≤ length buffer.new) }
-{
-    let from = w.from;
-    let end = w.end;
-    let kept = end - from;
-    if Case::BYTES <= kept {
-        return w;
-    }
-    shift(buffer, from, end);
-    let got = read_full(reader, &mut buffer[kept..]);
-    Window {
-        from: 0,
-        end: kept + got,
-        open: true,
-    }
 }

@@ -6,6 +6,9 @@ use mathlib.Core.List.{List, ◌++◌}
 use mathlib.Core.Path.{◌≡◌, refl, sym, ap, ◌∙◌}
 use lib.ListN.{length, take, drop, take-append-drop}
 use lib.Seq.{drop-append-le, length-take-le}
+use Rattle.std.specs.Prelude.{Option, Some, None}
+use Rattle.std.proofs.Common.{rules}
+use Rattle.refusal.specs.declared.Refusal.{Refusal}
 use Rattle.word.specs.Word.{choose}
 use Rattle.word.specs.RegisterFile.{file_words}
 use Rattle.runs.specs.Runs.{Place, standing, Configuration, start_at, Supply, Moved, Runner, goes, step, times, registers_after}
@@ -15,9 +18,9 @@ use Rattle.runs.proofs.OperationLaws.{refused_left, accepted_left}
 
 -- ---- an operation that is not refused passed every test
 
-pub tests_passed : (b : Bool) (k n : ℕ) → choose b (suc k) n ≡ 0 → (b ≡ false) × (n ≡ 0)
-tests_passed true k n h = absurd (omega arith)
-tests_passed false k n h = (refl, h)
+pub tests_passed : (b : Bool) (e : Refusal) (n : Option Refusal) → choose b (Some e) n ≡ None → (b ≡ false) × (n ≡ None)
+tests_passed true e n h = absurd (search (h, rules))
+tests_passed false e n h = (refl, h)
 
 -- ---- what a run keeps
 
@@ -68,13 +71,13 @@ pub record Ready (n : ℕ) (r : Runner) (Fits : Place → Type 0) (buffer : List
   pub starts : Fits (standing start)
   pub unit : (w x : ℕ) (rs : List ℕ) → Fits (standing x) → n ≤ length rs → Keeps n Fits rs (r.unit w x rs)
 
-pub operation_keeps : (n : ℕ) (r : Runner) (ws : Supply) (Fits : Place → Type 0) (number : ℕ) (buffer : List ℕ) (start budget : ℕ)
-    → (number ≡ 0 → Ready n r Fits buffer start) → drop n (registers_left number r ws buffer start budget) ≡ drop n buffer
-operation_keeps n r ws Fits number buffer start budget ready = go number refl
+pub operation_keeps : (n : ℕ) (r : Runner) (ws : Supply) (Fits : Place → Type 0) (refusal : Option Refusal) (buffer : List ℕ) (start budget : ℕ)
+    → (refusal ≡ None → Ready n r Fits buffer start) → drop n (registers_left refusal r ws buffer start budget) ≡ drop n buffer
+operation_keeps n r ws Fits refusal buffer start budget ready = go refusal refl
   where
-    go : (k : ℕ) → number ≡ k → drop n (registers_left number r ws buffer start budget) ≡ drop n buffer
-    go (suc k) e = ap (drop n) (refused_left r ws buffer start budget number k e)
-    go zero e =
+    go : (k : Option Refusal) → refusal ≡ k → drop n (registers_left refusal r ws buffer start budget) ≡ drop n buffer
+    go (Some k) e = ap (drop n) (refused_left r ws buffer start budget refusal k e)
+    go None e =
         let h = ready e in
         let rs = take file_words buffer in
         let new = registers_after r ws budget (start_at start rs) in
@@ -82,7 +85,7 @@ operation_keeps n r ws Fits number buffer start budget ready = go number refl
         let l = h.few in
         let k = run_keeps n r ws Fits h.unit budget start rs h.starts (omega arith) in
         let m = k.long in
-        ap (drop n) (accepted_left r ws buffer start budget number e)
+        ap (drop n) (accepted_left r ws buffer start budget refusal e)
         ∙ drop-append-le n new (drop file_words buffer) (omega arith)
         ∙ ap (λ (x : List ℕ). x ++ drop file_words buffer) k.above
         ∙ sym (drop-append-le n rs (drop file_words buffer) (omega arith))

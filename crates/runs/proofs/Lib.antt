@@ -11,3 +11,4 @@ pub mod OperationLaws
 pub mod KeptRegisters
 pub mod Fronts
 pub mod PastRegisters
+pub mod Ranges

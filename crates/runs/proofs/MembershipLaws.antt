@@ -4,7 +4,8 @@ use mathlib.Core.Bool.{Bool, true, false, false≢true}
 use mathlib.Core.Logic.{◌⊎◌, inl, inr}
 use mathlib.Core.Path.{◌≡◌, refl, sym, ◌∙◌, ap, ap₂}
 use mathlib.Core.List.{List, [], ◌∷◌, map}
-use mathlib.Core.Option.{none, some}
+use Rattle.std.specs.Prelude.{None, Some}
+use Rattle.std.proofs.Common.{rules}
 use native.Mathlib.Omega.{arith}
 use lib.ListN.{length}
 use Rattle.runs.specs.Lists.{up_from, keep, only, every, first}
@@ -84,19 +85,19 @@ pub in_every : (p : ℕ → Bool) (l : List ℕ) → ((x : ℕ) → In x l → p
 in_every p [] h = refl
 in_every p (y ∷ l) h = rw (h y (inl refl)) (in_every p l (λ x i. h x (inr i)))
 
-pub first_some : (p : ℕ → Bool) (l : List ℕ) (x : ℕ) → first p l ≡ some x → In x l × (p x ≡ true)
-first_some p [] x e = let z : ◌≡◌ {A = ℕ} 0 1 = cc in absurd (omega arith)
+pub first_some : (p : ℕ → Bool) (l : List ℕ) (x : ℕ) → first p l ≡ Some x → In x l × (p x ≡ true)
+first_some p [] x e = absurd (search (e, rules))
 first_some p (y ∷ l) x e = go (true_or_false (p y)) (first_some p l x)
   where
-    go : (p y ≡ true) ⊎ (p y ≡ false) → (first p l ≡ some x → In x l × (p x ≡ true)) → ((x ≡ y) ⊎ In x l) × (p x ≡ true)
-    go (inl h) ih = let q : some y ≡ some x = rw (h, first) at e in let r : x ≡ y = cc in (inl r, ap p r ∙ h)
+    go : (p y ≡ true) ⊎ (p y ≡ false) → (first p l ≡ Some x → In x l × (p x ≡ true)) → ((x ≡ y) ⊎ In x l) × (p x ≡ true)
+    go (inl h) ih = let q : Some y ≡ Some x = rw (h, first) at e in let r : x ≡ y = search (q, rules) in (inl r, ap p r ∙ h)
     go (inr h) ih = let r = ih (rw (h, first) at e) in (inr r.0, r.1)
 
-pub first_none : (p : ℕ → Bool) (l : List ℕ) → first p l ≡ none → (x : ℕ) → In x l → p x ≡ false
+pub first_none : (p : ℕ → Bool) (l : List ℕ) → first p l ≡ None → (x : ℕ) → In x l → p x ≡ false
 first_none p [] e x i = absurd i
 first_none p (y ∷ l) e x i = go (true_or_false (p y)) i (λ e j. first_none p l e x j)
   where
-    go : (p y ≡ true) ⊎ (p y ≡ false) → (x ≡ y) ⊎ In x l → (first p l ≡ none → In x l → p x ≡ false) → p x ≡ false
-    go (inl h) i ih = let q : some y ≡ none = rw (h, first) at e in let z : ◌≡◌ {A = ℕ} 0 1 = cc in absurd (omega arith)
+    go : (p y ≡ true) ⊎ (p y ≡ false) → (x ≡ y) ⊎ In x l → (first p l ≡ None → In x l → p x ≡ false) → p x ≡ false
+    go (inl h) i ih = let q : Some y ≡ None = rw (h, first) at e in absurd (search (q, rules))
     go (inr h) (inl q) ih = ap p q ∙ h
     go (inr h) (inr j) ih = ih (rw (h, first) at e) j

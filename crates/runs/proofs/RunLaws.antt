@@ -7,7 +7,7 @@ use mathlib.Core.Path.{◌≡◌, refl, sym, ap, ◌∙◌}
 use lib.Dec.{ltb}
 use borrow.Author.Tests.{lt-ltb, le-ltb}
 use Rattle.word.specs.Word.{choose}
-use Rattle.runs.specs.declared.RunAnswer.TheVariants.{Halted, Spent, Dry}
+use Rattle.runs.specs.declared.RunEnd.TheVariants.{Halted, Spent, Dry}
 use Rattle.runs.specs.Runs.{Place, standing, halted, Configuration, stands_at, Supply, Moved, Runner, onward, arrivals_at, contents_after, moved, outcome, goes, step, times, steps_run, answer, registers_after}
 
 pub never_both : (p : Place) (n : ℕ) → p ≡ standing n → p ≡ halted → ⊥

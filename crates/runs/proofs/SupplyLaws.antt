@@ -7,6 +7,7 @@ use mathlib.Core.Path.{◌≡◌, refl, sym, ap, ◌∙◌}
 use lib.Dec.{ltb}
 use lib.ListN.{length}
 use borrow.Author.Tests.{lt-ltb, ltb-true, ltb-false}
+use Rattle.std.specs.Prelude.{Ok}
 use Rattle.word.specs.Word.{choose}
 use Rattle.runs.specs.Runs.{Place, standing, halted, Configuration, start_at, Supply, up_to, listed, unread, Runner, onward, arrivals_at, run_outcome, goes, step, times, steps_run, answer, registers_after}
 use Rattle.runs.proofs.RunLaws.{false_true, going_stands, going_lasts, goes_standing, step_going, step_ended, times_zero, times_suc, steps_run_zero, steps_run_going, steps_run_ended, left_ended, answer_is, registers_of}
@@ -85,22 +86,14 @@ cut_alike ws budget = record { word = λ j l. refl; lasts = λ j l. go (ltb (len
     go true e j l = rw e
     go false e j l = rw (e, lt-ltb j budget l) (sym (lt-ltb j (length ws) (omega (arith, ltb-false (length ws) budget e))))
 
--- it ends within the budget
-pub cut_within : (ws : List ℕ) (budget : ℕ) → choose (ltb (length ws) budget) (length ws) budget ≤ budget
-cut_within ws budget = go (ltb (length ws) budget) refl
-  where
-    go : (t : Bool) → ltb (length ws) budget ≡ t → choose (ltb (length ws) budget) (length ws) budget ≤ budget
-    go true e = rw e (omega (arith, ltb-true (length ws) budget e))
-    go false e = rw e (omega arith)
-
 pub unread_alike : (budget : ℕ) → Alike budget (up_to budget []) unread
 unread_alike budget = record { word = λ j l. refl; lasts = λ j l. lt-ltb j budget l }
 
 -- a run without words is never dry
-pub unread_outcome : (r : Runner) (k : ℕ) (c : Configuration) → run_outcome (answer r unread k c) ≤ 1
+pub unread_outcome : (r : Runner) (k : ℕ) (c : Configuration) → run_outcome (Ok (answer r unread k c)) ≤ 1
 unread_outcome r k c = go (times r unread k c).place (ltb (steps_run r unread k c) k) refl refl
   where
-    go : (p : Place) (t : Bool) → (times r unread k c).place ≡ p → ltb (steps_run r unread k c) k ≡ t → run_outcome (answer r unread k c) ≤ 1
+    go : (p : Place) (t : Bool) → (times r unread k c).place ≡ p → ltb (steps_run r unread k c) k ≡ t → run_outcome (Ok (answer r unread k c)) ≤ 1
     go halted t h e = rw (answer_is r unread k c, h) (omega arith)
     go (standing n) false h e = rw (answer_is r unread k c, h, e) (omega arith)
     go (standing n) true h e = absurd (false_true (left_ended r unread k c (ltb-true (steps_run r unread k c) k e)) (goes_standing unread (times r unread k c) n h refl))

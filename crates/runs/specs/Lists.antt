@@ -1,6 +1,5 @@
 -- Lists: counting up, selecting, counting, testing, padding. Assumes nothing.
-use Rattle.std.specs.Prelude.{ℕ, zero, suc, Bool, true, false, ◌&&◌, ◌||◌, List, [], ◌∷◌, ◌++◌, eqb, length}
-use Rattle.std.proofs.Math.Option.{Option, none, some}
+use Rattle.std.specs.Prelude.{ℕ, zero, suc, Bool, true, false, ◌&&◌, ◌||◌, List, [], ◌∷◌, ◌++◌, eqb, length, Option, Some, None}
 
 -- n numbers from k up
 abbrev pub up_from : ℕ → ℕ → List ℕ
@@ -35,12 +34,12 @@ module _ {A : Type 0} where
   every p (x ∷ xs) = p x && every p xs
 
   abbrev pub or_else : Bool → A → Option A → Option A
-  or_else true x o = some x
+  or_else true x o = Some x
   or_else false x o = o
 
   -- the first that passes the test
   abbrev pub first : (A → Bool) → List A → Option A
-  first p [] = none
+  first p [] = None
   first p (x ∷ xs) = let r = first p xs in or_else (p x) x r
 
   -- n elements: those of the list, then d as often as is needed

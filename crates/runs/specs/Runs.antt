@@ -1,9 +1,11 @@
 -- Runs ("Runs" of paper 01, R-1, R-2 and R-7 of paper 02), for graphs and machines alike. Assumes nothing.
 use Prim.Native.Nat.{ℕ, zero, suc, ◌+◌, ◌<◌}
-use Rattle.std.specs.Prelude.{Bool, true, false, ◌||◌, List, ◌≡◌, ltb, length, get_or}
+use Rattle.std.specs.Prelude.{Bool, true, false, ◌||◌, List, ◌≡◌, ltb, length, get_or, Option, Some, None, Result, Ok, Err}
 use Rattle.word.specs.Word.{choose, truth}
-use Rattle.runs.specs.declared.RunAnswer.{RunAnswer}
-use Rattle.runs.specs.declared.RunAnswer.TheVariants.{Refused, Halted, Spent, Dry}
+use Rattle.refusal.specs.declared.Refusal.{Refusal}
+use Rattle.refusal.specs.Refusal.{number}
+use Rattle.runs.specs.declared.RunEnd.{RunEnd}
+use Rattle.runs.specs.declared.RunEnd.TheVariants.{Halted, Spent, Dry}
 
 -- the most blocks that a graph has, and states that a machine has
 abbrev pub max_places : ℕ
@@ -96,7 +98,7 @@ moved arrives c m =
     }
 
 -- halted, or with budget left dry, or spent: with the count, the next block or state, and the flag
-abbrev pub outcome : Place → Bool → ℕ → Bool → RunAnswer
+abbrev pub outcome : Place → Bool → ℕ → Bool → RunEnd
 outcome halted left count flag = Halted count flag
 outcome (standing n) true count flag = Dry count n flag
 outcome (standing n) false count flag = Spent count n flag
@@ -136,8 +138,8 @@ module _ (r : Runner) (ws : Supply) where
   abbrev pub SomeOver : ℕ → Configuration → Type 0
   SomeOver k c = (i : ℕ) × (i < k) × (step_over (times i c) ≡ true)
 
-  -- the answer of a run with a budget, and the registers that it leaves
-  unfoldable pub answer : ℕ → Configuration → RunAnswer
+  -- the end of a run with a budget, and the registers that it leaves
+  unfoldable pub answer : ℕ → Configuration → RunEnd
   unfolding times steps_run
   answer budget c =
       let count = steps_run budget c in
@@ -148,33 +150,36 @@ module _ (r : Runner) (ws : Supply) where
   unfolding times
   registers_after budget c = (times budget c).contents.registers
 
+-- the number that a refusal has with C, and 0 of none
+abbrev pub refusal_number : Option Refusal → ℕ
+refusal_number None = 0
+refusal_number (Some e) = number e
+
 -- the papers' fields of an answer: the refusal's number, the outcome (0 spent, 1 halted, 2 dry), the count, what is next, the flag (1 raised, 0 clear)
-abbrev pub run_number : RunAnswer → ℕ
-run_number (Refused n) = n
-run_number (Halted k f) = 0
-run_number (Spent k n f) = 0
-run_number (Dry k n f) = 0
+abbrev pub run_number : Result RunEnd Refusal → ℕ
+run_number (Ok end) = 0
+run_number (Err e) = number e
 
-abbrev pub run_outcome : RunAnswer → ℕ
-run_outcome (Refused n) = 0
-run_outcome (Halted k f) = 1
-run_outcome (Spent k n f) = 0
-run_outcome (Dry k n f) = 2
+abbrev pub run_outcome : Result RunEnd Refusal → ℕ
+run_outcome (Err e) = 0
+run_outcome (Ok (Halted k f)) = 1
+run_outcome (Ok (Spent k n f)) = 0
+run_outcome (Ok (Dry k n f)) = 2
 
-abbrev pub run_count : RunAnswer → ℕ
-run_count (Refused n) = 0
-run_count (Halted k f) = k
-run_count (Spent k n f) = k
-run_count (Dry k n f) = k
+abbrev pub run_count : Result RunEnd Refusal → ℕ
+run_count (Err e) = 0
+run_count (Ok (Halted k f)) = k
+run_count (Ok (Spent k n f)) = k
+run_count (Ok (Dry k n f)) = k
 
-abbrev pub run_next : RunAnswer → ℕ
-run_next (Refused n) = 0
-run_next (Halted k f) = no_place
-run_next (Spent k n f) = n
-run_next (Dry k n f) = n
+abbrev pub run_next : Result RunEnd Refusal → ℕ
+run_next (Err e) = 0
+run_next (Ok (Halted k f)) = no_place
+run_next (Ok (Spent k n f)) = n
+run_next (Ok (Dry k n f)) = n
 
-abbrev pub run_flag : RunAnswer → ℕ
-run_flag (Refused n) = 0
-run_flag (Halted k f) = truth f
-run_flag (Spent k n f) = truth f
-run_flag (Dry k n f) = truth f
+abbrev pub run_flag : Result RunEnd Refusal → ℕ
+run_flag (Err e) = 0
+run_flag (Ok (Halted k f)) = truth f
+run_flag (Ok (Spent k n f)) = truth f
+run_flag (Ok (Dry k n f)) = truth f

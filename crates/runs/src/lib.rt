@@ -1,4 +1,4 @@
-// What the runs of graphs and machines share: the answer of a run with a budget, its words, and the register buffer in and out of a
+// What the runs of graphs and machines share: the end of a run with a budget, its words, and the register buffer in and out of a
 // register file.
 #![tactic(auto)]
 
@@ -8,10 +8,9 @@ ghost use Rattle.word.specs.RegisterFile.{file_words};
 
 use word::Registers;
 
-#[derive(Clone, Copy)]
-pub enum RunAnswer {
-    // The refusal's number.
-    Refused(u32),
+// How a run ended.
+#[derive(Clone, Copy, Debug, PartialEq, Eq)]
+pub enum RunEnd {
     // The blocks or cycles run, the halting one included, and whether a sum went over.
     Halted(u32, bool),
     // The blocks or cycles run, the block or state that comes next, and whether a sum went over.
@@ -20,7 +19,7 @@ pub enum RunAnswer {
     Dry(u32, u32, bool),
 }
 
-impl RunAnswer {
+impl RunEnd {
     // The most blocks that a graph has, and states that a machine has.
     pub const PLACES: usize = 64;
     // No block and no state.
@@ -33,11 +32,7 @@ pub fn load(buffer: &[u32]) -> Registers
     ensures { result.words ≡ take file_words buffer.now }
 {
     let mut file = Registers::zero();
-    let mut i = 0;
-    while i < Registers::COUNT {
-        file.words[i] = buffer[i];
-        i += 1;
-    }
+    file.words.copy_from_slice(&buffer[..Registers::COUNT]);
     file
 }
 
@@ -46,26 +41,19 @@ pub fn store(buffer: &mut [u32], file: Registers)
     requires { file_words ≤ length buffer.old }
     ensures { buffer.new ≡ file.words ++ drop file_words buffer.old }
 {
-    let mut i = 0;
-    while i < Registers::COUNT {
-        buffer[i] = file.words[i];
-        i += 1;
-    }
+    buffer[..Registers::COUNT].copy_from_slice(&file.words);
 }
 
 // The arrivals that have a word, counted as far as a budget goes.
 pub fn lasting(words: &[u32], budget: u32) -> u32
     ensures { result ≡ choose (ltb (length words.now) budget) (length words.now) budget }
 {
-    let most = budget as usize;
-    let n = words.len();
-    if n < most { n as u32 } else { budget }
+    words.len().min(budget as usize) as u32
 }
 
 // The word of arrival k, and 0 where the list has none.
 pub fn sampled(words: &[u32], k: u32) -> u32
     ensures { result ≡ get_or words.now k 0 }
 {
-    let i = k as usize;
-    if i < words.len() { words[i] } else { 0 }
+    words.get(k as usize).copied().unwrap_or(0)
 }

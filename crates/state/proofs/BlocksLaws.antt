@@ -1,11 +1,11 @@
 -- A state's blocks placed one after another: wires are only added, and one step of it. Assumes nothing.
-use Prim.Native.Nat.{ℕ, ◌+◌, ◌≤◌, ◌<◌}
-use mathlib.Core.Path.{◌≡◌, refl, sym, ap, ◌∙◌}
+use Prim.Native.Nat.{ℕ, ◌+◌, ◌*◌, ◌≤◌, ◌<◌}
+use mathlib.Core.Path.{◌≡◌, refl, sym, ap, subst, ◌∙◌}
 use mathlib.Core.Bool.{Bool, true, false}
-use mathlib.Core.List.{List, [], ◌∷◌, ◌++◌}
+use mathlib.Core.List.{List, [], ◌∷◌}
 use native.Mathlib.Omega.{arith}
 use native.Mathlib.Numerals.{add-one}
-use lib.ListN.{length, get_or, drop, length-append, drop_of_length-le}
+use lib.ListN.{length, get_or, set, drop, length-append, drop_of_length-le}
 use lib.Seq.{drop-cons}
 use Rattle.runs.specs.Lists.{mem}
 use Rattle.cfg.specs.declared.Block.{Block}
@@ -13,15 +13,20 @@ use Rattle.cfg.specs.Graph.{instructions_of}
 use Rattle.cfg.specs.Table.{block_at}
 use Rattle.fsmd.specs.declared.Wire.{Wire}
 use Rattle.grouping.specs.Grouping.{Groups}
-use Rattle.state.specs.Wires.{Edge, StateBuild, BlockBuild, nothing, fresh, leaves, next_state_of, close_state, set_wire, join, joins, arrive, start_block, enter, assigns, after, leads_to, towards}
-use Rattle.state.specs.Making.{wires_in, pending, edges_in, stored, Room, Held, groups_in, state_build_in, Built, put_block}
-use Rattle.state.specs.BlocksMaking.{build_blocks, state_blocks}
+use Rattle.state.specs.declared.edges.Edges.{Edges}
+use Rattle.state.specs.declared.wires.WireList.{WireList}
+use Rattle.state.specs.Wires.{Edge, StateBuild, BlockBuild, nothing, leaves, close_state, set_wire, join, joins, arrive, start_block, enter, assigns, after, leads_to, towards}
+use Rattle.state.specs.Making.{wires_in, stored, Room, Held, put_block}
+use Rattle.state.specs.EdgeList.{pending, state_build_in}
+use Rattle.state.specs.Steps.{SameWords, Grown, state_in}
+use Rattle.state.specs.BlocksMaking.{build_blocks, with_arrivals, state_blocks}
 use Rattle.state.proofs.StoredWires.{length-wires_in, stored_again, stored_none}
+use Rattle.state.proofs.StepLaws.{same_self, same_on, room_le}
 use Rattle.state.proofs.JoinLaws.{grow_join}
 use Rattle.state.proofs.AssignLaws.{grow_assigns}
 use Rattle.state.proofs.CloseLaws.{grow_close}
-use Rattle.state.proofs.ExitLaws.{grow_exits}
-use Rattle.state.proofs.PutLaws.{built_count}
+use Rattle.state.proofs.ExitLaws.{grow_close_state}
+use Rattle.state.proofs.PutLaws.{grown_count}
 
 pub grow_joins : (es : List Edge) (p : BlockBuild) → length p.wires ≤ length (joins es p).wires
 unfolding joins
@@ -46,136 +51,136 @@ grow_put r c block x b =
     omega (arith, grow_enter r c x b, grow_assigns (instructions_of block) e, grow_close block.ending a)
 
 module _ (r : ℕ) (t starters : List ℕ) where
-  pub grow_blocks : (xs : List ℕ) (b : StateBuild) → length b.wires ≤ length (build_blocks r t starters xs b).wires
+  pub grow_blocks : (ys : List ℕ) (b : StateBuild) → length b.wires ≤ length (build_blocks r t starters ys b).wires
   unfolding build_blocks
   grow_blocks [] b = omega arith
-  grow_blocks (x ∷ xs) b =
-      omega (arith, grow_put r (mem x starters) (block_at t x) x b, grow_blocks xs (put_block r (mem x starters) (block_at t x) x b))
+  grow_blocks (x ∷ ys) b =
+      omega (arith, grow_put r (mem x starters) (block_at t x) x b, grow_blocks ys (put_block r (mem x starters) (block_at t x) x b))
 
-  blocks_next : (xs : List ℕ) (i : ℕ) (b : StateBuild) → i < length xs
-      → build_blocks r t starters (drop i xs) b
-      ≡ build_blocks r t starters (drop (i + 1) xs) (put_block r (mem (get_or xs i 0) starters) (block_at t (get_or xs i 0)) (get_or xs i 0) b)
-  unfolding build_blocks
-  blocks_next xs i b h = rw (add-one, drop-cons xs i 0 h) refl
+-- the state in the making where a block has r registers
+abbrev pub state_of : ℕ → Edges → WireList → StateBuild
+state_of r es w = state_build_in r es w.count w.words.now
 
--- the blocks before number i are placed: the rest comes to the whole, and past the wires the words are those of the start
-pub record Going (r : ℕ) (t starters xs : List ℕ) (w₀ : List ℕ) (i : ℕ) (ts rows : List ℕ) (n k : ℕ) (w : List ℕ) : Type 0 where
-  pub whole : build_blocks r t starters (drop i xs) (state_build_in r ts rows n k w) ≡ build_blocks r t starters xs nothing
-  pub rest : w ≡ stored (wires_in k w) w₀
+-- nothing is placed yet
+none_built : (r : ℕ) (es : Edges) (w : WireList) → es.count ≡ 0 → w.count ≡ 0 → state_of r es w ≡ nothing
+unfolding wires_in pending
+none_built r es w ee ew = rw (ee, ew) refl
 
-module _ (r : ℕ) (t starters xs w₀ : List ℕ) where
-  abbrev Whole : StateBuild
-  Whole = build_blocks r t starters xs nothing
+module _ (old : WireList) (t starters xs : List ℕ) where
+  abbrev r : ℕ
+  r = old.registers
 
-  pub going_first : (ts rows : List ℕ) → Going r t starters xs w₀ 0 ts rows 0 0 w₀
-  unfolding wires_in pending edges_in
-  going_first ts rows = record { whole = refl; rest = sym (stored_none 0 w₀ (omega arith)) }
+  abbrev pub All : StateBuild
+  All = build_blocks r t starters xs nothing
 
-  pub going_last : (i : ℕ) (ts rows : List ℕ) (n k : ℕ) (w : List ℕ) → Going r t starters xs w₀ i ts rows n k w → length xs ≤ i → Built Whole w₀ r ts rows n k w
-  unfolding build_blocks
-  going_last i ts rows n k w g h =
-      record { build = ap (λ (l : List ℕ). build_blocks r t starters l (state_build_in r ts rows n k w)) (sym (drop_of_length-le xs h)) ∙ g.whole; rest = g.rest }
+  -- the blocks before number i are placed: the rest comes to the whole, in wires and in arrivals
+  pub record Placing (arrivals₀ : List ℕ) (i : ℕ) (es : Edges) (w : WireList) (arrivals : List ℕ) : Type 0 where
+    pub same : SameWords old w
+    pub whole : build_blocks r t starters (drop i xs) (state_of r es w) ≡ All
+    pub rest : w.words.now ≡ stored (wires_in w.count w.words.now) old.words.now
+    pub listed : with_arrivals r t starters (drop i xs) (state_of r es w) arrivals ≡ with_arrivals r t starters xs nothing arrivals₀
+    pub edges : es.count ≤ 2 * i
 
-  module _ (i : ℕ) (ts rows : List ℕ) (n k : ℕ) (w : List ℕ) (g : Going r t starters xs w₀ i ts rows n k w) where
-    count_le : k ≤ length Whole.wires
-    count_le =
-        let b = state_build_in r ts rows n k w in
-        omega (arith, length-wires_in k w, grow_blocks r t starters (drop i xs) b, ap (λ (z : StateBuild). length z.wires) g.whole)
+  pub placing_first : (es : Edges) (arrivals : List ℕ) → es.count ≡ 0 → old.count ≡ 0 → Placing arrivals 0 es old arrivals
+  placing_first es arrivals ee ew =
+      let e = none_built r es old ee ew in
+      record {
+        same = same_self old;
+        whole = ap (build_blocks r t starters xs) e;
+        rest = sym (stored_none old.count old.words.now (omega arith));
+        listed = ap (λ (b : StateBuild). with_arrivals r t starters xs b arrivals) e;
+        edges = omega arith;
+      }
 
-    pub going_room : length w ≡ length w₀ → Room (length Whole.wires) w₀ → Room k w
-    going_room e h = record { fits = omega (arith, count_le, h.fits); few = omega (arith, count_le, h.few) }
-
-    abbrev Next : StateBuild
-    Next = put_block r (mem (get_or xs i 0) starters) (block_at t (get_or xs i 0)) (get_or xs i 0) (state_build_in r ts rows n k w)
-
-    next_whole : i < length xs → build_blocks r t starters (drop (i + 1) xs) Next ≡ Whole
-    next_whole h = sym (blocks_next r t starters xs i (state_build_in r ts rows n k w) h) ∙ g.whole
-
-    pub next_room : i < length xs → length w ≡ length w₀ → Room (length Whole.wires) w₀ → Room (length Next.wires) w
-    next_room l e h =
-        let le : length Next.wires ≤ length Whole.wires = omega (arith, grow_blocks r t starters (drop (i + 1) xs) Next, ap (λ (z : StateBuild). length z.wires) (next_whole l)) in
-        record { fits = omega (arith, le, h.fits); few = omega (arith, le, h.few) }
-
-    pub going_next : i < length xs → (ts' rows' : List ℕ) (n' k' : ℕ) (w' : List ℕ) → Built Next w r ts' rows' n' k' w'
-        → Going r t starters xs w₀ (i + 1) ts' rows' n' k' w'
-    going_next l ts' rows' n' k' w' b =
-        let more : k ≤ k' = omega (arith, length-wires_in k w, built_count b, grow_put r (mem (get_or xs i 0) starters) (block_at t (get_or xs i 0)) (get_or xs i 0) (state_build_in r ts rows n k w)) in
+  module _ {arrivals₀ : List ℕ} {i : ℕ} {es : Edges} {w : WireList} {arrivals : List ℕ} (h : Placing arrivals₀ i es w arrivals) where
+    pub placing_done : length xs ≤ i → Grown All es old w
+    unfolding build_blocks
+    placing_done le =
         record {
-          whole = ap (build_blocks r t starters (drop (i + 1) xs)) b.build ∙ next_whole l;
-          rest =
-              b.rest ∙ ap (stored (wires_in k' w')) g.rest
-              ∙ stored_again (wires_in k w) (wires_in k' w') w₀ (omega (arith, length-wires_in k w, length-wires_in k' w'));
+          same = h.same;
+          build = ap (λ (l : List ℕ). build_blocks r t starters l (state_of r es w)) (sym (drop_of_length-le xs le)) ∙ h.whole;
+          rest = h.rest;
         }
 
-    -- the same as a caller has it: the block read, whether it is a starter, how many registers there are
-    module _ (r' x : ℕ) (c : Bool) (er : r' ≡ r) (ex : x ≡ get_or xs i 0) (ec : c ≡ mem x starters) (l : i < length xs) where
-      abbrev Made : StateBuild
-      Made = put_block r' c (block_at t x) x (state_build_in r' ts rows n k w)
+    pub placing_listed : length xs ≤ i → arrivals ≡ with_arrivals r t starters xs nothing arrivals₀
+    unfolding with_arrivals
+    placing_listed le = ap (λ (l : List ℕ). with_arrivals r t starters l (state_of r es w) arrivals) (sym (drop_of_length-le xs le)) ∙ h.listed
 
-      made_next : Made ≡ Next
-      made_next = rw (er, ec, ex)
+    -- the block at i is x, a starter or not
+    module _ (lt : i < length xs) (x : ℕ) (c : Bool) (ex : x ≡ get_or xs i 0) (ec : c ≡ mem x starters) where
+      abbrev Next : ℕ → StateBuild
+      Next n = put_block n c (block_at t x) x (state_of n es w)
 
-      pub put_room : length w ≡ length w₀ → Room (length Whole.wires) w₀ → Room (length Made.wires) w
-      put_room e h = rw made_next (next_room l e h)
+      next_whole : build_blocks r t starters (drop (i + 1) xs) (Next r) ≡ All
+      unfolding build_blocks
+      next_whole = rw (ec, ex, add-one i) (rw (drop-cons xs i 0 lt) at h.whole)
 
-      pub put_next : (ts' rows' : List ℕ) (n' k' : ℕ) (w' : List ℕ) → Built Made w r' ts' rows' n' k' w' → Going r t starters xs w₀ (i + 1) ts' rows' n' k' w'
-      put_next ts' rows' n' k' w' b =
-          going_next l ts' rows' n' k' w'
-          (record { build = ap (λ (q : ℕ). state_build_in q ts' rows' n' k' w') (sym er) ∙ b.build ∙ made_next; rest = b.rest })
+      pub placing_room : Room (length All.wires) old.words.now → Room (length (Next w.registers).wires) w.words.now
+      placing_room room =
+          subst (λ (n : ℕ). Room (length (Next n).wires) w.words.now) (sym h.same.registers)
+          (room_le (length (Next r).wires) (length All.wires)
+          (omega (arith, grow_blocks r t starters (drop (i + 1) xs) (Next r), ap (λ (b : StateBuild). length b.wires) next_whole))
+          h.same.long room)
+
+      next_listed : with_arrivals r t starters (drop (i + 1) xs) (Next r) (set arrivals x (enter r c x (state_of r es w)).arrival) ≡ with_arrivals r t starters xs nothing arrivals₀
+      unfolding with_arrivals
+      next_listed = rw (ec, ex, add-one i) (rw (drop-cons xs i 0 lt) at h.listed)
+
+      pub placing_next : (es' : Edges) (w' : WireList) (arrival : ℕ) → Grown (Next w.registers) es' w w' → arrival ≡ (enter w.registers c x (state_in es w)).arrival → es'.count ≤ es.count + 2
+          → Placing arrivals₀ (i + 1) es' w' (set arrivals x arrival)
+      placing_next es' w' arrival g ea few =
+          let build : state_of r es' w' ≡ Next r = subst (λ (n : ℕ). state_of n es' w' ≡ Next n) h.same.registers g.build in
+          let its : arrival ≡ (enter r c x (state_of r es w)).arrival = subst (λ (n : ℕ). arrival ≡ (enter n c x (state_of n es w)).arrival) h.same.registers ea in
+          let more : w.count ≤ w'.count = omega (arith, length-wires_in w.count w.words.now, grown_count g, grow_put w.registers c (block_at t x) x (state_in es w)) in
+          record {
+            same = same_on h.same g.same;
+            whole = ap (build_blocks r t starters (drop (i + 1) xs)) build ∙ next_whole;
+            rest = g.rest ∙ ap (stored (wires_in w'.count w'.words.now)) h.rest
+                ∙ stored_again (wires_in w.count w.words.now) (wires_in w'.count w'.words.now) old.words.now (omega (arith, length-wires_in w.count w.words.now, length-wires_in w'.count w'.words.now));
+            listed = ap (λ (b : StateBuild). with_arrivals r t starters (drop (i + 1) xs) b (set arrivals x arrival)) build
+                ∙ ap (λ (a : ℕ). with_arrivals r t starters (drop (i + 1) xs) (Next r) (set arrivals x a)) its
+                ∙ next_listed;
+            edges = omega (arith, h.edges);
+          }
 
 -- ---- the exits behind the blocks
 
-grow_close_state : (s : Groups) (es : List Edge) (ws : List Wire) → length ws ≤ length (close_state s es ws).wires
-unfolding close_state
-grow_close_state s [] ws = omega arith
-grow_close_state s (e ∷ es) ws =
-    let w = set_wire (next_state_of s e.target) ∷ [] in
-    omega (arith, length-append ws w, grow_exits s es (record { arrival = fresh ws; values = e.values; wires = ws ++ w }))
-
-module _ (r : ℕ) (t starters states xs w₀ : List ℕ) where
+module _ (old : WireList) (t : List ℕ) (s : Groups) (xs : List ℕ) where
   abbrev Blocks : StateBuild
-  Blocks = build_blocks r t starters xs nothing
+  Blocks = build_blocks old.registers t s.starters xs nothing
 
-  abbrev S : Groups
-  S = groups_in starters states
+  abbrev State : BlockBuild
+  State = state_blocks old.registers t s.starters s.states xs
 
-  abbrev Closed : StateBuild → BlockBuild
-  Closed b = close_state S (towards (leaves S) b.edges) b.wires
+  abbrev pub Closed : StateBuild → BlockBuild
+  Closed b = close_state s (towards (leaves s) b.edges) b.wires
 
-  state_is : state_blocks r t starters states xs ≡ Closed Blocks
+  state_is : State ≡ Closed Blocks
   unfolding state_blocks
   state_is = refl
 
-  pub blocks_room : Room (length (state_blocks r t starters states xs).wires) w₀ → Room (length Blocks.wires) w₀
-  blocks_room h =
-      let le = grow_close_state S (towards (leaves S) Blocks.edges) Blocks.wires in
-      let e = ap (λ (p : BlockBuild). length p.wires) state_is in
-      record { fits = omega (arith, h.fits); few = omega (arith, h.few) }
+  pub blocks_room : Room (length State.wires) old.words.now → Room (length Blocks.wires) old.words.now
+  blocks_room =
+      room_le (length Blocks.wires) (length State.wires)
+      (omega (arith, grow_close_state s (towards (leaves s) Blocks.edges) Blocks.wires, ap (λ (p : BlockBuild). length p.wires) state_is))
+      refl
 
-  module _ (r' : ℕ) (ts rows : List ℕ) (n k : ℕ) (w : List ℕ) (er : r' ≡ r) (b : Built Blocks w₀ r ts rows n k w) where
-    abbrev Leaving : BlockBuild
-    Leaving = close_state S (towards (leaves S) (pending r' ts rows n)) (wires_in k w)
+  module _ (es : Edges) (w : WireList) (g : Grown Blocks es old w) where
+    leaving_is : Closed (state_in es w) ≡ State
+    leaving_is = ap (λ (n : ℕ). Closed (state_of n es w)) g.same.registers ∙ ap Closed g.build ∙ sym state_is
 
-    leaving_is : Leaving ≡ state_blocks r t starters states xs
-    leaving_is = rw er (ap Closed b.build ∙ sym state_is)
+    pub leave_room : Room (length State.wires) old.words.now → Room (length (Closed (state_in es w)).wires) w.words.now
+    leave_room =
+        room_le (length (Closed (state_in es w)).wires) (length State.wires)
+        (omega (arith, ap (λ (p : BlockBuild). length p.wires) leaving_is))
+        g.same.long
 
-    pub leave_room : length w ≡ length w₀ → Room (length (state_blocks r t starters states xs).wires) w₀ → Room (length Leaving.wires) w
-    leave_room e h =
-        let q = ap (λ (p : BlockBuild). length p.wires) leaving_is in
-        record { fits = omega (arith, h.fits); few = omega (arith, h.few) }
-
-    pub made_room : length w ≡ length w₀ → Room (length (state_blocks r t starters states xs).wires) w₀ → Room k w
-    made_room e h =
-        let q = blocks_room h in
-        let c = built_count b in
-        record { fits = omega (arith, q.fits); few = omega (arith, q.few) }
-
-    pub left : (a : ℕ) (vs : List ℕ) (k' : ℕ) (w' : List ℕ) → Held Leaving w a vs k' w' → Held (state_blocks r t starters states xs) w₀ a vs k' w'
-    left a vs k' w' h =
-        let more : k ≤ k' = omega (arith, length-wires_in k w, length-wires_in k' w', ap (λ (p : BlockBuild). length p.wires) h.point, grow_close_state S (towards (leaves S) (pending r' ts rows n)) (wires_in k w)) in
+    pub left_all : (a : ℕ) (vs : List ℕ) (k : ℕ) (t' : List ℕ) → Held (Closed (state_in es w)) w.words.now a vs k t' → Held State old.words.now a vs k t'
+    left_all a vs k t' h =
+        let more : w.count ≤ k =
+        omega (arith, length-wires_in w.count w.words.now, length-wires_in k t', ap (λ (p : BlockBuild). length p.wires) h.point, grow_close_state s (towards (leaves s) (pending w.registers es)) (wires_in w.count w.words.now)) in
         record {
           point = h.point ∙ leaving_is;
-          rest =
-              h.rest ∙ ap (stored (wires_in k' w')) b.rest
-              ∙ stored_again (wires_in k w) (wires_in k' w') w₀ (omega (arith, length-wires_in k w, length-wires_in k' w'));
+          rest = h.rest ∙ ap (stored (wires_in k t')) g.rest
+              ∙ stored_again (wires_in w.count w.words.now) (wires_in k t') old.words.now (omega (arith, length-wires_in w.count w.words.now, length-wires_in k t'));
         }

@@ -1,35 +1,45 @@
 -- A block's ending as the code makes its wires and edges. Assumes nothing.
-use Prim.Native.Nat.{ℕ, ◌+◌, ◌*◌, ◌≤◌, ◌<◌}
+use Prim.Native.Nat.{ℕ, ◌+◌, ◌*◌, ◌≤◌}
 use native.Mathlib.Omega.{arith}
-use mathlib.Core.Path.{◌≡◌, refl, sym, ap, ◌∙◌}
-use mathlib.Core.List.{List, [], ◌∷◌, ◌++◌}
+use mathlib.Core.Path.{◌≡◌, refl, sym, ap, subst, ◌∙◌}
+use mathlib.Core.List.{List, [], ◌∷◌, ◌++◌, append_assoc, append-nil}
 use lib.ListN.{length, get_or, length-append}
 use Rattle.word.specs.Word.{comparison_code}
 use Rattle.cfg.specs.declared.Condition.{Condition}
 use Rattle.cfg.specs.declared.Ending.{Ending}
 use Rattle.cfg.specs.declared.Ending.TheVariants.{Goto, Ite, Halt}
-use Rattle.cfg.specs.Layout.{ending_offset, block_offset}
-use Rattle.cfg.specs.Table.{ending_at, block_at}
 use Rattle.fsmd.specs.declared.Wire.{Wire}
-use Rattle.fsmd.specs.Layout.{max_registers, max_blocks, absent, wire_words}
+use Rattle.fsmd.specs.Layout.{max_registers, wire_words}
+use Rattle.state.specs.declared.edges.Target.TheVariants as Target
+use Rattle.state.specs.declared.edges.EdgeEntry.{EdgeEntry}
+use Rattle.state.specs.declared.edges.Edges.{Edges}
+use Rattle.state.specs.declared.joins.BlockProgress.{BlockProgress}
+use Rattle.state.specs.declared.wires.WireList.{WireList}
 use Rattle.state.specs.Wires.{wire, and_wire, and_not_wire, Edge, BlockBuild, StateBuild, close, after}
-use Rattle.state.specs.Making.{wires_in, stored, appended, block_build_in, edge_to, pending, Built}
-use Rattle.state.proofs.StoredWires.{length-wires_in, wires_in_stored, stored_none}
-use Rattle.state.proofs.EdgeLaws.{place_standing}
+use Rattle.state.specs.Making.{wires_in, stored, Room}
+use Rattle.state.specs.EdgeList.{edge_of, pending}
+use Rattle.state.specs.Steps.{Adds, Grown, values_of, block_in}
+use Rattle.state.proofs.StoredWires.{length-wires_in, wires_in_stored, appended_none}
+use Rattle.state.proofs.StepLaws.{same_self, room_le}
 
-pub ending_of : (t : List ℕ) (x : ℕ) → (block_at t x).ending ≡ ending_at t (block_offset x + ending_offset)
-unfolding block_at
-ending_of t x = refl
-
--- what the code holds of a state in the making, from its parts
-pub built_by : (b : StateBuild) (t₀ : List ℕ) (r : ℕ) (ts rows : List ℕ) (n k : ℕ) (t : List ℕ)
-    → pending r ts rows n ≡ b.edges → k ≡ length b.wires → t ≡ stored b.wires t₀ → Built b t₀ r ts rows n k t
-built_by b t₀ r ts rows n k t ee ek et =
-    let w : wires_in k t ≡ b.wires = ap (λ (m : ℕ). wires_in m t) ek ∙ ap (wires_in (length b.wires)) et ∙ wires_in_stored b.wires t₀ in
+-- the state in the making is b, by its parts
+pub grown_by : (b : StateBuild) (es : Edges) (old new : WireList) (ws : List Wire) → Adds ws old new → pending old.registers es ≡ b.edges
+    → wires_in old.count old.words.now ++ ws ≡ b.wires → Grown b es old new
+grown_by b es old new ws h ee ew =
+    let k : new.count ≡ length b.wires =
+    omega (arith, h.count, length-append (wires_in old.count old.words.now) ws, length-wires_in old.count old.words.now, ap length ew) in
+    let t : new.words.now ≡ stored b.wires old.words.now = h.words ∙ ap (λ (l : List Wire). stored l old.words.now) ew in
+    let w : wires_in new.count new.words.now ≡ b.wires =
+    ap (λ (m : ℕ). wires_in m new.words.now) k ∙ ap (wires_in (length b.wires)) t ∙ wires_in_stored b.wires old.words.now in
     record {
-      build = ap (λ (es : List Edge). record { wires = wires_in k t; edges = es }) ee ∙ ap (λ (ws : List Wire). record { wires = ws; edges = b.edges }) w;
-      rest = et ∙ ap (λ (ws : List Wire). stored ws t₀) (sym w);
+      same = h.same;
+      build = ap (λ (es : List Edge). record { wires = wires_in new.count new.words.now; edges = es }) ee ∙ ap (λ (ws : List Wire). record { wires = ws; edges = b.edges }) w;
+      rest = t ∙ ap (λ (ws : List Wire). stored ws old.words.now) (sym w);
     }
+
+-- no wire more
+pub adds_none : (w : WireList) → wire_words * w.count ≤ length w.words.now → Adds [] w w
+adds_none w h = record { same = same_self w; count = omega arith; words = sym (appended_none w.count w.words.now h) }
 
 pub grow_close : (e : Ending) (p : BlockBuild) → length p.wires ≤ length (close e p).wires
 unfolding close
@@ -37,50 +47,62 @@ grow_close (Goto t) p = omega arith
 grow_close (Ite c t f) p = rw (close, length-append) (omega arith)
 grow_close Halt p = omega arith
 
-module _ (r : ℕ) (ts rows ts' rows' : List ℕ) (count a : ℕ) (vs : List ℕ) (n : ℕ) (t : List ℕ) (room : wire_words * n ≤ length t) where
+module _ (b : BlockProgress) (w : WireList) (es es' : Edges) (same : b.registers ≡ w.registers) where
   abbrev P : BlockBuild
-  P = block_build_in a vs n t
+  P = block_in b w
 
   abbrev So : List Edge
-  So = pending r ts rows count
+  So = pending w.registers es
 
-  pub close_goto : (e : Ending) (y : ℕ) → e ≡ Goto y → y < max_blocks
-      → pending r ts' rows' (count + 1) ≡ So ++ (edge_to y a vs ∷ []) → Built (after So (close e P)) t r ts' rows' (count + 1) n t
+  as_many : (new : List Edge) → pending b.registers es' ≡ pending b.registers es ++ new → pending w.registers es' ≡ So ++ new
+  as_many new h = subst (λ (n : ℕ). pending n es' ≡ pending n es ++ new) same h
+
+  fits : (e : Ending) → Room (length (close e P).wires) w.words.now → wire_words * w.count ≤ length w.words.now
+  fits e h = omega (arith, h.fits, grow_close e P, length-wires_in w.count w.words.now)
+
+  pub close_goto : (e : Ending) (y : ℕ) (o : EdgeEntry) → e ≡ Goto y → Room (length (close e P).wires) w.words.now
+      → o ≡ record { target = Target.Block y; taken = b.arrival; values = b.values } → pending b.registers es' ≡ pending b.registers es ++ (edge_of b.registers o ∷ [])
+      → Grown (after So (close e P)) es' w w
   unfolding close after
-  close_goto e y ee lt ep =
+  close_goto e y o ee room eo ep =
+      let h = adds_none w (fits e room) in
       rw ee
-      (built_by (after So (close (Goto y) P)) t r ts' rows' (count + 1) n t
-      (ep ∙ ap (λ (q : _). So ++ (record { target = q; taken = a; values = vs } ∷ [])) (place_standing y (omega arith)))
-      (sym (length-wires_in n t))
-      (sym (stored_none n t room)))
+      (grown_by (after So (close (Goto y) P)) es' w w [] h (as_many _ (ep ∙ ap (λ (q : EdgeEntry). pending b.registers es ++ (edge_of b.registers q ∷ [])) eo)) (append-nil (wires_in w.count w.words.now)))
 
-  pub close_halt : (e : Ending) → e ≡ Halt
-      → pending r ts' rows' (count + 1) ≡ So ++ (edge_to absent a vs ∷ []) → Built (after So (close e P)) t r ts' rows' (count + 1) n t
+  pub close_halt : (e : Ending) (o : EdgeEntry) → e ≡ Halt → Room (length (close e P).wires) w.words.now
+      → o ≡ record { target = Target.Halt; taken = b.arrival; values = b.values } → pending b.registers es' ≡ pending b.registers es ++ (edge_of b.registers o ∷ [])
+      → Grown (after So (close e P)) es' w w
   unfolding close after
-  close_halt e ee ep =
+  close_halt e o ee room eo ep =
+      let h = adds_none w (fits e room) in
       rw ee
-      (built_by (after So (close Halt P)) t r ts' rows' (count + 1) n t ep (sym (length-wires_in n t)) (sym (stored_none n t room)))
+      (grown_by (after So (close Halt P)) es' w w [] h (as_many _ (ep ∙ ap (λ (q : EdgeEntry). pending b.registers es ++ (edge_of b.registers q ∷ [])) eo)) (append-nil (wires_in w.count w.words.now)))
 
-  abbrev three : Condition → List Wire
+  abbrev pub three : Condition → List Wire
   three c =
-      wire (comparison_code c.comparison) (get_or vs c.a 0) (get_or vs c.b 0) 0
-      ∷ and_wire a (max_registers + n)
-      ∷ and_not_wire a (max_registers + n)
+      wire (comparison_code c.comparison) (get_or (values_of b) c.a 0) (get_or (values_of b) c.b 0) 0
+      ∷ and_wire b.arrival (max_registers + w.count)
+      ∷ and_not_wire b.arrival (max_registers + w.count)
       ∷ []
 
-  pub length_ite : (e : Ending) (c : Condition) (y f : ℕ) → e ≡ Ite c y f → length (close e P).wires ≡ n + 3
+  pub ite_room : (e : Ending) (c : Condition) (y f : ℕ) → e ≡ Ite c y f → Room (length (close e P).wires) w.words.now → Room (w.count + 3) w.words.now
   unfolding close
-  length_ite e c y f ee = rw (ee, close, length-append) (omega (arith, length-wires_in n t))
+  ite_room e c y f ee h =
+      let l : length (close e P).wires ≡ w.count + 3 = rw (ee, close, length-append) (omega (arith, length-wires_in w.count w.words.now)) in
+      room_le (w.count + 3) (length (close e P).wires) (omega arith) refl h
 
-  pub close_ite : (e : Ending) (c : Condition) (y f : ℕ) (t' : List ℕ) → e ≡ Ite c y f → y < max_blocks → f < max_blocks
-      → t' ≡ appended n (three c) t
-      → pending r ts' rows' (count + 2) ≡ So ++ (edge_to y (1 + (max_registers + n)) vs ∷ edge_to f (2 + (max_registers + n)) vs ∷ [])
-      → Built (after So (close e P)) t r ts' rows' (count + 2) (n + 3) t'
+  pub close_ite : (e : Ending) (c : Condition) (y f : ℕ) (w' : WireList) (es₁ : Edges) (holds fails : ℕ) (o o' : EdgeEntry) → e ≡ Ite c y f → Adds (three c) w w'
+      → holds ≡ 1 + (max_registers + w.count) → fails ≡ 2 + (max_registers + w.count)
+      → o ≡ record { target = Target.Block y; taken = holds; values = b.values } → pending b.registers es₁ ≡ pending b.registers es ++ (edge_of b.registers o ∷ [])
+      → o' ≡ record { target = Target.Block f; taken = fails; values = b.values } → pending b.registers es' ≡ pending b.registers es₁ ++ (edge_of b.registers o' ∷ [])
+      → Grown (after So (close e P)) es' w w'
   unfolding close after
-  close_ite e c y f t' ee ly lf et ep =
-      let l = length-wires_in n t in
+  close_ite e c y f w' es₁ holds fails o o' ee h ey en eo ep eo' ep' =
+      let l = length-wires_in w.count w.words.now in
       rw ee
-      (built_by (after So (close (Ite c y f) P)) t r ts' rows' (count + 2) (n + 3) t'
-      (ep ∙ rw (place_standing y (omega arith), place_standing f (omega arith), l))
-      (sym (length_ite (Ite c y f) c y f refl))
-      (et ∙ rw l))
+      (grown_by (after So (close (Ite c y f) P)) es' w w' (three c) h
+      (as_many _
+      (ep' ∙ ap (λ (q : List Edge). q ++ (edge_of b.registers o' ∷ [])) ep
+      ∙ append_assoc (pending b.registers es) (edge_of b.registers o ∷ []) (edge_of b.registers o' ∷ [])
+      ∙ rw (eo, eo', ey, en, l) refl))
+      (rw l refl))

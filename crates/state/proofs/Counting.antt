@@ -1,9 +1,10 @@
 -- Laws of counting up. Assumes nothing.
 use Prim.Native.Nat.{ℕ, zero, suc, ◌+◌, ◌≤◌, ◌<◌}
 use native.Mathlib.Nat.{add-zero, add-suc, suc-add}
-use mathlib.Core.Path.{◌≡◌, sym, ap, ◌∙◌}
+use mathlib.Core.Path.{◌≡◌, refl, sym, ap, ◌∙◌}
 use mathlib.Core.List.{List, [], ◌∷◌, ◌++◌, append-nil}
-use lib.ListN.{length, get_or, set, drop, drop_of_length-le}
+use native.Mathlib.Omega.{arith}
+use lib.ListN.{length, get_or, set, take, drop, drop_of_length-le}
 use lib.Seq.{drop-cons, set_at, append_snoc}
 use Rattle.runs.specs.Lists.{up_from}
 use Rattle.runs.proofs.ListLaws.{length-up_from}
@@ -25,3 +26,8 @@ counted_more k r vs h =
 
 pub counted_all : (k r : ℕ) (vs : List ℕ) → length vs ≤ r → up_from k r ++ drop r vs ≡ up_from k r
 counted_all k r vs h = ap (λ (l : List ℕ). up_from k r ++ l) (drop_of_length-le vs h) ∙ append-nil (up_from k r)
+
+pub take-up_from : (k m c : ℕ) → c ≤ m → take c (up_from k m) ≡ up_from k c
+take-up_from k m zero h = refl
+take-up_from k zero (suc c) h = absurd (omega arith)
+take-up_from k (suc m) (suc c) h = ap (λ (r : List ℕ). k ∷ r) (take-up_from (suc k) m c (omega arith))

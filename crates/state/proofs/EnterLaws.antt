@@ -1,87 +1,63 @@
 -- How a block is entered: a start, no incoming edge, or a first one and further ones. Assumes nothing.
-use Prim.Native.Nat.{ℕ, ◌+◌, ◌-◌, ◌*◌, ◌≤◌, ◌<◌}
-use native.Mathlib.Nat.{sub-zero}
-use native.Mathlib.Numerals.{add-one}
+use Prim.Native.Nat.{ℕ, ◌+◌, ◌-◌}
 use native.Mathlib.Omega.{arith}
 use mathlib.Core.Path.{◌≡◌, refl, sym, ap, ◌∙◌}
-use mathlib.Core.Bool.{true, false}
+use mathlib.Core.Bool.{Bool, true, false}
 use mathlib.Core.List.{List, [], ◌∷◌, ◌++◌}
 use lib.ListN.{length, get_or, take, drop, length-append, length-drop}
-use lib.Seq.{length-take-le}
+use lib.Seq.{take_all}
+use Rattle.std.specs.Prelude.{Some, None}
+use Rattle.std.specs.List.{position}
 use Rattle.runs.specs.Lists.{up_from}
-use Rattle.fsmd.specs.Layout.{max_registers, max_blocks}
-use Rattle.state.specs.Wires.{set_wire, Edge, BlockBuild, StateBuild, joins, arrive, start_block, enter, leads_to, towards}
-use Rattle.state.specs.Making.{wires_in, appended, block_build_in, Held, edge_in, edges_in, pending, state_build_in, row_words, NextAt}
+use Rattle.fsmd.specs.Layout.{max_registers}
+use Rattle.state.specs.declared.edges.EdgeEntry.{EdgeEntry}
+use Rattle.state.specs.declared.edges.Edges.{Edges}
+use Rattle.state.specs.declared.joins.BlockProgress.{BlockProgress}
+use Rattle.state.specs.declared.wires.WireList.{WireList}
+use Rattle.state.specs.Wires.{set_wire, Edge, BlockBuild, joins, arrive, start_block, enter, leads_to}
+use Rattle.state.specs.Making.{wires_in, Room}
+use Rattle.state.specs.EdgeList.{entries, passes, leading}
+use Rattle.state.specs.Steps.{Adds, Becomes, values_of, state_in}
 use Rattle.state.proofs.StoredWires.{length-wires_in}
-use Rattle.state.proofs.Points.{held_by}
-use Rattle.state.proofs.EdgeLaws.{towards_found, towards_pending}
-use Rattle.state.proofs.WalkLaws.{onward_passed}
-use Rattle.state.proofs.JoinLaws.{incoming}
+use Rattle.state.proofs.StepLaws.{room_le, becomes_by}
+use Rattle.state.proofs.EdgeLaws.{towards_pending, leading_found, leading_not_found}
 
 -- a wire `set` and the start values
-begun : (p : BlockBuild) (n w r : ℕ) (t : List ℕ) (a : ℕ) (vs' : List ℕ) (n' : ℕ) (t' : List ℕ)
-    → p ≡ record { arrival = max_registers + length (wires_in n t); values = up_from 0 r; wires = wires_in n t ++ (set_wire w ∷ []) }
-    → a ≡ max_registers + n → n' ≡ n + 1 → vs' ≡ up_from 0 r → t' ≡ appended n (set_wire w ∷ []) t → Held p t a vs' n' t'
-begun p n w r t a vs' n' t' e ea en ev et =
+abbrev pub begun : ℕ → ℕ → WireList → BlockBuild
+begun word r w = record { arrival = max_registers + length (wires_in w.count w.words.now); values = up_from 0 r; wires = wires_in w.count w.words.now ++ (set_wire word ∷ []) }
+
+pub begun_becomes : (p : BlockBuild) (word r : ℕ) (b : BlockProgress) (w w₁ : WireList) → p ≡ begun word r w
+    → b.arrival ≡ max_registers + w.count → b.registers ≡ r → values_of b ≡ up_from 0 r → Adds (set_wire word ∷ []) w w₁ → Becomes p r b w w₁
+begun_becomes p word r b w w₁ e ea er es h =
     rw e
-    (held_by _ t a vs' n' t'
-    (ea ∙ ap (λ (k : ℕ). max_registers + k) (sym (length-wires_in n t)))
-    ev
-    (omega (arith, length-append (wires_in n t) (set_wire w ∷ []), length-wires_in n t))
-    et)
+    (becomes_by (begun word r w) r b w w₁ (set_wire word ∷ []) h er (ea ∙ ap (λ (k : ℕ). max_registers + k) (sym (length-wires_in w.count w.words.now))) es refl)
 
-module _ (r : ℕ) (ts rows : List ℕ) (count x : ℕ) (n : ℕ) (t : List ℕ) where
-  abbrev B : StateBuild
-  B = state_build_in r ts rows count n t
+pub begun_room : (p : BlockBuild) (word r : ℕ) (w : WireList) → p ≡ begun word r w → Room (length p.wires) w.words.now → Room (w.count + 1) w.words.now
+begun_room p word r w e h =
+    room_le (w.count + 1) (length p.wires)
+    (omega (arith, ap (λ (q : BlockBuild). length q.wires) e, length-append (wires_in w.count w.words.now) (set_wire word ∷ []), length-wires_in w.count w.words.now))
+    refl h
 
-  pub enter_start : (a : ℕ) (vs' : List ℕ) (n' : ℕ) (t' : List ℕ)
-      → a ≡ max_registers + n → n' ≡ n + 1 → vs' ≡ up_from 0 r → t' ≡ appended n (set_wire 1 ∷ []) t → Held (enter r true x B) t a vs' n' t'
+-- all of a list from number k on, as the code slices it
+pub slice_all : {A : Type 0} (xs : List A) (k : ℕ) → take (length xs - k) (drop k xs) ≡ drop k xs
+slice_all xs k = take_all (length xs - k) (drop k xs) (omega (arith, length-drop k xs))
+
+module _ (x : ℕ) (es : Edges) (w : WireList) where
+  pub enter_start : (starter : Bool) → starter ≡ true → enter w.registers starter x (state_in es w) ≡ begun 1 w.registers w
   unfolding enter start_block
-  enter_start a vs' n' t' = begun (enter r true x B) n 1 r t a vs' n' t' refl
+  enter_start starter e = rw e refl
 
-  pub enter_start_length : length (enter r true x B).wires ≡ n + 1
-  unfolding enter start_block
-  enter_start_length = omega (arith, length-append (wires_in n t) (set_wire 1 ∷ []), length-wires_in n t)
-
-  incoming_pending : x < max_blocks → towards (leads_to x) (pending r ts rows count) ≡ incoming r ts rows x count 0
-  incoming_pending some = towards_pending r ts rows count x some ∙ ap (λ (k : ℕ). towards (leads_to x) (edges_in r ts rows 0 k)) (sym (sub-zero count))
-
-  passed : (i : ℕ) → x < max_blocks → NextAt (leads_to x) ts 0 count i → towards (leads_to x) (pending r ts rows count) ≡ incoming r ts rows x count i
-  passed i some h =
-      incoming_pending some
-      ∙ onward_passed r ts rows (leads_to x) count 0 i h
-
-  -- no incoming edge
-  none_left : (i : ℕ) → x < max_blocks → NextAt (leads_to x) ts 0 count i → i ≡ count → towards (leads_to x) (pending r ts rows count) ≡ []
-  unfolding edges_in
-  none_left i some h e =
-      let z : count - i ≡ 0 = omega arith in
-      passed i some h ∙ ap (λ (k : ℕ). towards (leads_to x) (edges_in r ts rows i k)) z
-
-  pub enter_none : (i : ℕ) → x < max_blocks → NextAt (leads_to x) ts 0 count i → i ≡ count → (a : ℕ) (vs' : List ℕ) (n' : ℕ) (t' : List ℕ)
-      → a ≡ max_registers + n → n' ≡ n + 1 → vs' ≡ up_from 0 r → t' ≡ appended n (set_wire 0 ∷ []) t → Held (enter r false x B) t a vs' n' t'
+  pub enter_none : (starter : Bool) → starter ≡ false → None ≡ position (passes (leads_to x)) (entries es) → enter w.registers starter x (state_in es w) ≡ begun 0 w.registers w
   unfolding enter arrive
-  enter_none i some h e a vs' n' t' = begun (enter r false x B) n 0 r t a vs' n' t' (ap (λ (es : List Edge). arrive r es (wires_in n t)) (none_left i some h e))
+  enter_none starter e h =
+      rw e
+      (ap (λ (l : List Edge). arrive w.registers l (wires_in w.count w.words.now)) (towards_pending w.registers (leads_to x) es ∙ leading_not_found w.registers (leads_to x) (entries es) h))
 
-  pub enter_none_length : (i : ℕ) → x < max_blocks → NextAt (leads_to x) ts 0 count i → i ≡ count → length (enter r false x B).wires ≡ n + 1
+  -- the first incoming edge, and the further ones as the code slices them
+  pub enter_first : (starter : Bool) → starter ≡ false → (l : List EdgeEntry) → l ≡ entries es → (i : ℕ) (d : EdgeEntry) → Some i ≡ position (passes (leads_to x)) (entries es)
+      → enter w.registers starter x (state_in es w)
+      ≡ joins (leading w.registers (leads_to x) (take (length l - (i + 1)) (drop (i + 1) l))) (record { arrival = (get_or l i d).taken; values = take w.registers (get_or l i d).values; wires = wires_in w.count w.words.now })
   unfolding enter arrive
-  enter_none_length i some h e =
-      ap (λ (es : List Edge). length (arrive r es (wires_in n t)).wires) (none_left i some h e)
-      ∙ omega (arith, length-append (wires_in n t) (set_wire 0 ∷ []), length-wires_in n t)
-
-  -- a first incoming edge, and further ones
-  first : (i : ℕ) → x < max_blocks → NextAt (leads_to x) ts 0 count i → i < count
-      → enter r false x B ≡ joins (incoming r ts rows x count (i + 1)) (block_build_in (get_or rows (row_words * i) 0) (take r (drop (row_words * i + 1) rows)) n t)
-  unfolding enter arrive edge_in
-  first i some h lt =
-      rw (add-one i)
-      (ap (λ (es : List Edge). arrive r es (wires_in n t))
-      (passed i some h ∙ towards_found r ts rows (leads_to x) count i lt (h.found lt)))
-
-  pub enter_first : (i : ℕ) → x < max_blocks → NextAt (leads_to x) ts 0 count i → i < count → (vs : List ℕ) → vs ≡ take r (drop (row_words * i + 1) rows) → length vs ≡ r
-      → enter r false x B ≡ joins (incoming (length vs) ts rows x count (i + 1)) (block_build_in (get_or rows (row_words * i) 0) vs n t)
-  enter_first i some h lt vs e l = first i some h lt ∙ rw (l, e)
-
-pub source_length : (r i count : ℕ) (rows : List ℕ) → r ≤ max_registers → i < count → row_words * count ≤ length rows
-    → length (take r (drop (row_words * i + 1) rows)) ≡ r
-source_length r i count rows few lt fits = length-take-le r (drop (row_words * i + 1) rows) (omega (arith, length-drop (row_words * i + 1) rows))
+  enter_first starter e l el i d h =
+      rw (e, slice_all l (i + 1), el)
+      (ap (λ (l : List Edge). arrive w.registers l (wires_in w.count w.words.now)) (towards_pending w.registers (leads_to x) es ∙ (leading_found w.registers (leads_to x) (entries es) i d h).1))

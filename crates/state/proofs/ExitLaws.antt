@@ -1,57 +1,37 @@
 -- Exits as the code makes them, one after another. Assumes nothing.
-use Prim.Native.Nat.{ℕ, suc, ◌+◌, ◌-◌, ◌*◌, ◌≤◌, ◌<◌}
-use native.Mathlib.Nat.{sub-zero}
-use native.Mathlib.Numerals.{add-one}
+use Prim.Native.Nat.{ℕ, ◌+◌, ◌-◌, ◌*◌, ◌≤◌}
 use native.Mathlib.Omega.{arith}
-use mathlib.Core.Path.{◌≡◌, refl, sym, ap, ◌∙◌}
-use mathlib.Core.Bool.{Bool, true, false, not, false≢true}
+use mathlib.Core.Path.{◌≡◌, refl, sym, ap, subst, ◌∙◌}
 use mathlib.Core.List.{List, [], ◌∷◌, ◌++◌}
 use lib.ListN.{length, get_or, take, drop, length-append}
-use lib.Dec.{eqb}
-use borrow.Author.Tests.{eqb-true}
-use Rattle.runs.specs.Lists.{up_from, mem}
-use Rattle.runs.specs.Runs.{Place, standing, halted}
-use Rattle.runs.proofs.ListLaws.{length-up_from}
+use lib.Seq.{length-take-le}
+use Rattle.std.specs.Prelude.{Some, None}
+use Rattle.std.specs.List.{position}
+use Rattle.runs.specs.Lists.{up_from}
+use Rattle.fsmd.specs.declared.Wire.{Wire}
 use Rattle.fsmd.specs.Layout.{max_registers, wire_words}
 use Rattle.grouping.specs.Grouping.{Groups}
-use Rattle.state.specs.Wires.{set_wire, select_wire, selects, Edge, BlockBuild, exit, exits, close_state, leaves, leads_to, next_state_of, towards}
-use Rattle.state.specs.Making.{wires_in, appended, block_build_in, Held, along, place_of, edge_to, edge_in, edges_in, pending, row_words, used, NextAt, exit_to}
-use Rattle.state.proofs.StoredWires.{length-wires_in, wires_in_stored, appended_more, stored_none}
+use Rattle.state.specs.declared.edges.Target.TheVariants.{Halt}
+use Rattle.state.specs.declared.edges.EdgeEntry.{EdgeEntry}
+use Rattle.state.specs.declared.edges.Edges.{Edges}
+use Rattle.state.specs.declared.joins.BlockProgress.{BlockProgress}
+use Rattle.state.specs.declared.wires.WireList.{WireList}
+use Rattle.state.specs.Wires.{set_wire, select_wire, selects, fresh, Edge, BlockBuild, exit, exits, close_state, leaves, next_state_of, towards}
+use Rattle.state.specs.Making.{wires_in, Room, Held}
+use Rattle.state.specs.EdgeList.{place_of, edge_of, entries, passes, leading, pending}
+use Rattle.state.specs.Steps.{Adds, Becomes, values_of, block_in}
+use Rattle.state.proofs.StoredWires.{length-wires_in, stored_none}
+use Rattle.state.proofs.Points.{held_count, held_on}
 use Rattle.state.proofs.Selections.{length_selects}
-use Rattle.state.proofs.Points.{held_by}
-use Rattle.state.proofs.Folds.{fold, grow_fold}
-use Rattle.state.proofs.EdgeLaws.{only_within, towards_found}
-use Rattle.state.proofs.WalkLaws.{onward, onward_passed}
+use Rattle.state.proofs.StepLaws.{adds_on, becomes_by, room_le, fold, grow_fold}
+use Rattle.state.proofs.EdgeLaws.{towards_pending, leading_found, leading_not_found}
+use Rattle.state.proofs.EnterLaws.{slice_all}
 
--- ---- one exit
-
-module _ (k a taken n : ℕ) (vs src t : List ℕ) (same : length src ≡ length vs) where
-  pub exit_made : (ref ref' : ℕ) (vs' t₁ t₂ t₃ : List ℕ) → ref ≡ max_registers + n → ref' ≡ max_registers + (n + 1)
-      → t₁ ≡ appended n (set_wire k ∷ []) t → t₂ ≡ appended (n + 1) (select_wire taken ref a ∷ []) t₁
-      → t₃ ≡ appended (n + 2) (selects taken src vs) t₂ → vs' ≡ up_from (max_registers + (n + 2)) (length src)
-      → Held (exit_to k (along taken src) (block_build_in a vs n t)) t ref' vs' (n + 2 + length vs') t₃
-  unfolding exit_to
-  exit_made ref ref' vs' t₁ t₂ t₃ er er' e₁ e₂ e₃ ev =
-      let l = length-wires_in n t in
-      let ref_is : ref ≡ max_registers + length (wires_in n t) = er ∙ ap (λ (m : ℕ). max_registers + m) (sym l) in
-      let w = set_wire k in
-      let v = select_wire taken ref a in
-      let tail = selects taken src vs in
-      held_by (exit_to k (along taken src) (block_build_in a vs n t)) t ref' vs' (n + 2 + length vs') t₃
-      (omega (arith, er', l))
-      (ev ∙ ap (λ (m : ℕ). up_from m (length src)) (omega (arith, l)))
-      (omega (arith, l, ap length ev, length-up_from (max_registers + (n + 2)) (length src), length-append (wires_in n t) (w ∷ select_wire taken (max_registers + length (wires_in n t)) a ∷ tail), length_selects taken src vs same))
-      (e₃
-      ∙ ap (appended (n + 2) tail) (e₂ ∙ ap (appended (n + 1) (v ∷ [])) e₁ ∙ appended_more n (w ∷ []) (v ∷ []) t)
-      ∙ appended_more n (w ∷ v ∷ []) tail t
-      ∙ ap (λ (m : ℕ). appended n (w ∷ select_wire taken m a ∷ tail) t) ref_is)
-
--- ---- exits one after another
+abbrev pub no_entry : EdgeEntry
+no_entry = record { target = Halt; taken = 0; values = [] }
 
 module _ (s : Groups) where
-  pub exit_is : (e : Edge) (p : BlockBuild) → exit s e p ≡ exit_to (next_state_of s e.target) e p
-  unfolding exit exit_to
-  exit_is e p = refl
+  -- ---- one exit
 
   pub length_exit : (e : Edge) (p : BlockBuild) → length e.values ≡ length p.values → length (exit s e p).wires ≡ length p.wires + 2 + length p.values
   unfolding exit
@@ -63,6 +43,33 @@ module _ (s : Groups) where
   grow_exit e p =
       omega (arith, length-append p.wires (set_wire (next_state_of s e.target) ∷ select_wire e.taken (max_registers + length p.wires) p.arrival ∷ selects e.taken e.values p.values))
 
+  pub exit_room : (b : BlockProgress) (w : WireList) (e : EdgeEntry) → length b.values ≡ max_registers → length e.values ≡ max_registers
+      → Room (length (exit s (edge_of b.registers e) (block_in b w)).wires) w.words.now → Room (w.count + 2 + b.registers) w.words.now
+  exit_room b w e lb le h =
+      let v : length (values_of b) ≡ b.registers = length-take-le b.registers b.values (omega (arith, b.few)) in
+      room_le (w.count + 2 + b.registers) (length (exit s (edge_of b.registers e) (block_in b w)).wires)
+      (omega (arith, length_exit (edge_of b.registers e) (block_in b w) (length-take-le b.registers e.values (omega (arith, b.few)) ∙ sym v), v, length-wires_in w.count w.words.now))
+      refl h
+
+  pub exit_becomes : (b b' : BlockProgress) (e : EdgeEntry) (w w₁ w₂ w₃ : WireList) (k : ℕ) (u v : Wire) (ref ref' : ℕ) → length e.values ≡ max_registers
+      → k ≡ next_state_of s (place_of e.target) → u ≡ set_wire k → Adds (u ∷ []) w w₁ → ref ≡ max_registers + w.count
+      → v ≡ select_wire e.taken ref b.arrival → Adds (v ∷ []) w₁ w₂ → ref' ≡ max_registers + w₁.count
+      → Adds (selects e.taken (take b.registers e.values) (values_of b)) w₂ w₃
+      → b'.arrival ≡ ref' → b'.registers ≡ b.registers → values_of b' ≡ up_from (max_registers + w₂.count) b.registers
+      → Becomes (exit s (edge_of b.registers e) (block_in b w)) b.registers b' w w₃
+  unfolding exit
+  exit_becomes b b' e w w₁ w₂ w₃ k u v ref ref' le ek eu h er ev h' er' h'' ea eb es =
+      let n = length-wires_in w.count w.words.now in
+      let l : length (take b.registers e.values) ≡ b.registers = length-take-le b.registers e.values (omega (arith, b.few)) in
+      let q = selects e.taken (take b.registers e.values) (values_of b) in
+      becomes_by (exit s (edge_of b.registers e) (block_in b w)) b.registers b' w w₃ (u ∷ v ∷ q) (adds_on (adds_on h h') h'')
+      eb
+      (omega (arith, ea, er', h.count, n))
+      (es ∙ ap (λ (m : ℕ). up_from m b.registers) (omega (arith, h.count, h'.count, n)) ∙ ap (up_from (2 + (max_registers + length (wires_in w.count w.words.now)))) (sym l))
+      (rw (eu, ev, ek, er, n) refl)
+
+  -- ---- exits one after another
+
   pub exits_fold : (es : List Edge) (p : BlockBuild) → exits s es p ≡ fold (exit s) es p
   unfolding exits
   exits_fold [] p = refl
@@ -71,60 +78,69 @@ module _ (s : Groups) where
   pub grow_exits : (es : List Edge) (p : BlockBuild) → length p.wires ≤ length (exits s es p).wires
   grow_exits es p = rw (exits_fold es p) (grow_fold (exit s) grow_exit es p)
 
+  pub grow_close_state : (es : List Edge) (ws : List Wire) → length ws ≤ length (close_state s es ws).wires
+  unfolding close_state
+  grow_close_state [] ws = omega arith
+  grow_close_state (e ∷ es) ws =
+      let w = set_wire (next_state_of s e.target) ∷ [] in
+      omega (arith, length-append ws w, grow_exits es (record { arrival = fresh ws; values = e.values; wires = ws ++ w }))
+
+  -- the first exit
+  abbrev pub First : ℕ → EdgeEntry → WireList → BlockBuild
+  First r e w = close_state s (edge_of r e ∷ []) (wires_in w.count w.words.now)
+
+  pub first_becomes : (r : ℕ) (b : BlockProgress) (e : EdgeEntry) (w w₁ : WireList) (k : ℕ) (u : Wire) → k ≡ next_state_of s (place_of e.target) → u ≡ set_wire k → Adds (u ∷ []) w w₁
+      → b.arrival ≡ max_registers + w.count → b.registers ≡ r → values_of b ≡ take r e.values → Becomes (First r e w) r b w w₁
+  unfolding close_state exits
+  first_becomes r b e w w₁ k u ek eu h ea eb es =
+      becomes_by (First r e w) r b w w₁ (u ∷ []) h eb (ea ∙ ap (λ (m : ℕ). max_registers + m) (sym (length-wires_in w.count w.words.now))) es (rw (eu, ek) refl)
+
+  pub first_length : (r : ℕ) (e : EdgeEntry) (w : WireList) → length (First r e w).wires ≡ w.count + 1
+  unfolding close_state exits
+  first_length r e w =
+      omega (arith, length-append (wires_in w.count w.words.now) (set_wire (next_state_of s (place_of e.target)) ∷ []), length-wires_in w.count w.words.now)
+
   -- ---- the whole
 
-  unused : mem used s.starters ≡ false → (q : Place) → leaves s q ≡ true → not (leads_to used q) ≡ true
-  unused h (standing y) e = go (eqb y used) refl
-    where
-      go : (b : Bool) → eqb y used ≡ b → not b ≡ true
-      go true k = absurd (false≢true (sym h ∙ ap (λ (z : ℕ). mem z s.starters) (sym (eqb-true y used k)) ∙ e))
-      go false k = refl
-  unused h halted e = refl
+  module _ (r : ℕ) (es : Edges) (w : WireList) where
+    abbrev pub Whole : BlockBuild
+    Whole = close_state s (towards (leaves s) (pending r es)) (wires_in w.count w.words.now)
 
-  module _ (r : ℕ) (ts rows : List ℕ) (count n : ℕ) (t : List ℕ) (h : mem used s.starters ≡ false) where
-    passed : (i : ℕ) → NextAt (leaves s) ts 0 count i → towards (leaves s) (pending r ts rows count) ≡ onward r ts rows (leaves s) count i
-    unfolding pending
-    passed i m =
-        only_within (λ e. leaves s e.target) (λ e. not (leads_to used e.target)) (λ e k. unused h e.target k) (edges_in r ts rows 0 count)
-        ∙ ap (λ (k : ℕ). towards (leaves s) (edges_in r ts rows 0 k)) (sym (sub-zero count))
-        ∙ onward_passed r ts rows (leaves s) count 0 i m
+    pub leave_none : None ≡ position (passes (leaves s)) (entries es) → Room (length Whole.wires) w.words.now → Held Whole w.words.now 0 [] w.count w.words.now
+    unfolding close_state
+    leave_none h room =
+        let fits : wire_words * w.count ≤ length w.words.now = omega (arith, room.fits, grow_close_state (towards (leaves s) (pending r es)) (wires_in w.count w.words.now), length-wires_in w.count w.words.now) in
+        rw (towards_pending r (leaves s) es ∙ leading_not_found r (leaves s) (entries es) h) (record { point = refl; rest = sym (stored_none w.count w.words.now fits) })
 
-    pub leave_none : (i : ℕ) → NextAt (leaves s) ts 0 count i → i ≡ count → (vs : List ℕ) → wire_words * n ≤ length t
-        → Held (close_state s (towards (leaves s) (pending r ts rows count)) (wires_in n t)) t 0 (take 0 vs) n t
-    unfolding close_state edges_in
-    leave_none i m e vs w =
-        let z : count - i ≡ 0 = omega arith in
-        rw (passed i m, z) (record { point = refl; rest = sym (stored_none n t w) })
+    -- a first exit, and further ones as the code slices them
+    module _ (l : List EdgeEntry) (el : l ≡ entries es) (i : ℕ) (d : EdgeEntry) (h : Some i ≡ position (passes (leaves s)) (entries es)) where
+      pub leave_some : Whole ≡ exits s (leading r (leaves s) (take (length l - (i + 1)) (drop (i + 1) l))) (First r (get_or l i d) w)
+      unfolding close_state exits
+      leave_some =
+          rw (slice_all l (i + 1), el)
+          (ap (λ (q : List Edge). close_state s q (wires_in w.count w.words.now)) (towards_pending r (leaves s) es ∙ (leading_found r (leaves s) (entries es) i d h).1))
 
-    -- a first exit, and further ones
-    pub leave_some : (i : ℕ) → NextAt (leaves s) ts 0 count i → i < count → (vs : List ℕ) (k ref : ℕ) (t₁ : List ℕ) → vs ≡ take r (drop (row_words * i + 1) rows) → length vs ≡ r
-        → k ≡ next_state_of s (place_of (get_or ts i 0)) → t₁ ≡ appended n (set_wire k ∷ []) t → ref ≡ max_registers + n
-        → close_state s (towards (leaves s) (pending r ts rows count)) (wires_in n t)
-        ≡ exits s (onward (length vs) ts rows (leaves s) count (i + 1)) (block_build_in ref vs (n + 1) t₁)
-    unfolding close_state edge_in
-    leave_some i m lt vs k ref t₁ ev lv ek et er =
-        let w : wires_in (n + 1) t₁ ≡ wires_in n t ++ (set_wire k ∷ []) =
-        ap (wires_in (n + 1)) et
-        ∙ ap (λ (j : ℕ). wires_in j (appended n (set_wire k ∷ []) t)) (omega (arith, length-append (wires_in n t) (set_wire k ∷ []), length-wires_in n t))
-        ∙ wires_in_stored (wires_in n t ++ (set_wire k ∷ [])) t in
-        ap (λ (es : List Edge). close_state s es (wires_in n t)) (passed i m ∙ towards_found r ts rows (leaves s) count i lt (m.found lt))
-        ∙ rw (lv, add-one i, w, ev, er, ek, length-wires_in n t)
+      pub leave_fits : Room (length Whole.wires) w.words.now → Room (w.count + 1) w.words.now
+      leave_fits room =
+          room_le (w.count + 1) (length Whole.wires)
+          (omega (arith, ap (λ (p : BlockBuild). length p.wires) leave_some, first_length r (get_or l i d) w, grow_exits (leading r (leaves s) (take (length l - (i + 1)) (drop (i + 1) l))) (First r (get_or l i d) w)))
+          refl room
 
-    pub leave_fits : (i : ℕ) → NextAt (leaves s) ts 0 count i → i < count → n + 1 ≤ length (close_state s (towards (leaves s) (pending r ts rows count)) (wires_in n t)).wires
-    unfolding close_state edge_in
-    leave_fits i m lt =
-        let e = edge_in r ts rows i in
-        let w = set_wire (next_state_of s e.target) in
-        rw (passed i m ∙ towards_found r ts rows (leaves s) count i lt (m.found lt))
-        (omega (
-          arith,
-          length-append (wires_in n t) (w ∷ []),
-          length-wires_in n t,
-          grow_exits (onward r ts rows (leaves s) count (suc i)) (record { arrival = max_registers + length (wires_in n t); values = e.values; wires = wires_in n t ++ (w ∷ []) }),
-        ))
+      module _ (b : BlockProgress) (w₁ : WireList) (k : Becomes (First r (get_or l i d) w) r b w w₁) where
+        abbrev pub Further : BlockBuild
+        Further = exits s (leading b.registers (leaves s) (take (length l - (i + 1)) (drop (i + 1) l))) (block_in b w₁)
 
--- an exit's edge matters by its next state, its taken reference and its values
-pub exit_along : (s : Groups) (k y taken : ℕ) (src vs : List ℕ) (p : BlockBuild) → k ≡ next_state_of s (place_of y) → src ≡ vs
-    → exit_to k (along taken src) p ≡ exit s (edge_to y taken vs) p
-unfolding exit exit_to
-exit_along s k y taken src vs p ek es = rw (ek, es)
+        further_is : Further ≡ Whole
+        further_is =
+            ap (λ (n : ℕ). exits s (leading n (leaves s) (take (length l - (i + 1)) (drop (i + 1) l))) (block_in b w₁)) k.registers
+            ∙ ap (exits s (leading r (leaves s) (take (length l - (i + 1)) (drop (i + 1) l)))) k.held.point
+            ∙ sym leave_some
+
+        pub leaving_fits : Room (length Whole.wires) w.words.now → Room (length Further.wires) w₁.words.now
+        leaving_fits room = room_le (length Further.wires) (length Whole.wires) (omega (arith, ap (λ (p : BlockBuild). length p.wires) further_is)) k.same.long room
+
+        pub left : (b' : BlockProgress) (w₂ : WireList) → Becomes Further b.registers b' w₁ w₂ → Held Whole w.words.now b'.arrival (values_of b') w₂.count w₂.words.now
+        left b' w₂ h =
+            let le : w₁.count ≤ w₂.count =
+            omega (arith, held_count h.held, length-wires_in w₁.count w₁.words.now, grow_exits (leading b.registers (leaves s) (take (length l - (i + 1)) (drop (i + 1) l))) (block_in b w₁)) in
+            subst (λ (p : BlockBuild). Held p w.words.now b'.arrival (values_of b') w₂.count w₂.words.now) further_is (held_on k.held le h.held)

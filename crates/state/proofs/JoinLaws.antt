@@ -1,20 +1,23 @@
 -- Joins of incoming edges as the code makes them, one after another. Assumes nothing.
-use Prim.Native.Nat.{ℕ, ◌+◌, ◌≤◌}
+use Prim.Native.Nat.{ℕ, suc, ◌+◌, ◌≤◌}
 use native.Mathlib.Omega.{arith}
 use mathlib.Core.Path.{◌≡◌, refl, sym, ap, ◌∙◌}
-use mathlib.Core.List.{List, [], ◌∷◌, ◌++◌, append_assoc}
-use lib.ListN.{length, length-append}
+use mathlib.Core.List.{List, [], ◌∷◌, ◌++◌}
+use lib.ListN.{length, take, length-append}
+use lib.Seq.{length-take-le}
 use Rattle.runs.specs.Lists.{up_from}
-use Rattle.runs.proofs.ListLaws.{length-up_from}
 use Rattle.fsmd.specs.declared.Wire.{Wire}
 use Rattle.fsmd.specs.Layout.{max_registers}
-use Rattle.state.specs.Wires.{or_wire, selects, Edge, BlockBuild, join, joins, leads_to}
-use Rattle.state.specs.Making.{wires_in, stored, appended, block_build_in, Held, along}
-use Rattle.state.proofs.StoredWires.{length-wires_in, stored_more}
+use Rattle.state.specs.declared.edges.EdgeEntry.{EdgeEntry}
+use Rattle.state.specs.declared.joins.BlockProgress.{BlockProgress}
+use Rattle.state.specs.declared.wires.WireList.{WireList}
+use Rattle.state.specs.Wires.{or_wire, selects, Edge, BlockBuild, join, joins}
+use Rattle.state.specs.Making.{wires_in, Room}
+use Rattle.state.specs.EdgeList.{edge_of}
+use Rattle.state.specs.Steps.{Adds, Becomes, values_of, block_in}
+use Rattle.state.proofs.StoredWires.{length-wires_in}
 use Rattle.state.proofs.Selections.{length_selects}
-use Rattle.state.proofs.Points.{held_by}
-use Rattle.state.proofs.Folds.{fold}
-use Rattle.state.proofs.WalkLaws.{onward}
+use Rattle.state.proofs.StepLaws.{room_le, fold, adds_on, becomes_by}
 
 -- ---- one join
 
@@ -27,34 +30,31 @@ pub grow_join : (e : Edge) (p : BlockBuild) → length p.wires ≤ length (join 
 unfolding join
 grow_join e p = rw (join, length-append) (omega arith)
 
-module _ (a taken n : ℕ) (vs src t : List ℕ) (same : length src ≡ length vs) where
-  pub join_made : (ref : ℕ) (vs' t₁ t₂ : List ℕ) → ref ≡ max_registers + n → t₁ ≡ appended n (or_wire a taken ∷ []) t
-      → t₂ ≡ appended (n + 1) (selects taken src vs) t₁ → vs' ≡ up_from (max_registers + (n + 1)) (length src)
-      → Held (join (along taken src) (block_build_in a vs n t)) t ref vs' (n + 1 + length vs') t₂
-  unfolding join
-  join_made ref vs' t₁ t₂ er e₁ e₂ ev =
-      let w = or_wire a taken in
-      let ws = wires_in n t in
-      let l = length-wires_in n t in
-      held_by (join (along taken src) (block_build_in a vs n t)) t ref vs' (n + 1 + length vs') t₂
-      (er ∙ ap (λ (k : ℕ). max_registers + k) (sym l))
-      (ev ∙ ap (λ (k : ℕ). up_from k (length src)) (omega arith))
-      (omega (arith, l, same, ap length ev, length-up_from (max_registers + (n + 1)) (length src), length_join (along taken src) (block_build_in a vs n t) same))
-      (e₂
-      ∙ ap (appended (n + 1) (selects taken src vs)) e₁
-      ∙ ap (λ (k : ℕ). appended k (selects taken src vs) (stored (ws ++ (w ∷ [])) t)) (omega (arith, length-append ws (w ∷ [])))
-      ∙ stored_more (ws ++ (w ∷ [])) (selects taken src vs) t
-      ∙ ap (λ (r : List Wire). stored r t) (append_assoc ws (w ∷ []) (selects taken src vs)))
+pub join_becomes : (b b' : BlockProgress) (e : EdgeEntry) (w w₁ w₂ : WireList) (v : Wire) (ref : ℕ) → length e.values ≡ max_registers
+    → v ≡ or_wire b.arrival e.taken → Adds (v ∷ []) w w₁ → Adds (selects e.taken (take b.registers e.values) (values_of b)) w₁ w₂ → ref ≡ max_registers + w.count
+    → b'.arrival ≡ ref → b'.registers ≡ b.registers → values_of b' ≡ up_from (max_registers + w₁.count) b.registers
+    → Becomes (join (edge_of b.registers e) (block_in b w)) b.registers b' w w₂
+unfolding join
+join_becomes b b' e w w₁ w₂ v ref le ev h k er ea eb es =
+    let n = length-wires_in w.count w.words.now in
+    let l : length (take b.registers e.values) ≡ b.registers = length-take-le b.registers e.values (omega (arith, b.few)) in
+    let q = selects e.taken (take b.registers e.values) (values_of b) in
+    becomes_by (join (edge_of b.registers e) (block_in b w)) b.registers b' w w₂ (v ∷ q) (adds_on h k)
+    eb
+    (ea ∙ er ∙ ap (λ (m : ℕ). max_registers + m) (sym n))
+    (es ∙ ap (λ (m : ℕ). up_from m b.registers) (omega (arith, h.count, n)) ∙ ap (up_from (suc (max_registers + length (wires_in w.count w.words.now)))) (sym l))
+    (ap (λ (u : Wire). wires_in w.count w.words.now ++ (u ∷ q)) ev)
 
-joins_fold : (es : List Edge) (p : BlockBuild) → joins es p ≡ fold join es p
+pub joins_fold : (es : List Edge) (p : BlockBuild) → joins es p ≡ fold join es p
 unfolding joins
 joins_fold [] p = refl
 joins_fold (e ∷ es) p = joins_fold es (join e p)
 
--- ---- joins one after another
-
-abbrev pub incoming : ℕ → List ℕ → List ℕ → ℕ → ℕ → ℕ → List Edge
-incoming r ts rows x count i = onward r ts rows (leads_to x) count i
-
-pub joins_walk : (r : ℕ) (ts rows : List ℕ) (x count from : ℕ) (p : BlockBuild) → fold join (incoming r ts rows x count from) p ≡ joins (incoming r ts rows x count from) p
-joins_walk r ts rows x count from p = sym (joins_fold (incoming r ts rows x count from) p)
+-- the wires of a join
+pub join_room : (b : BlockProgress) (w : WireList) (e : EdgeEntry) → length b.values ≡ max_registers → length e.values ≡ max_registers
+    → Room (length (join (edge_of b.registers e) (block_in b w)).wires) w.words.now → Room (w.count + 1 + b.registers) w.words.now
+join_room b w e lb le h =
+    let v : length (values_of b) ≡ b.registers = length-take-le b.registers b.values (omega (arith, b.few)) in
+    room_le (w.count + 1 + b.registers) (length (join (edge_of b.registers e) (block_in b w)).wires)
+    (omega (arith, length_join (edge_of b.registers e) (block_in b w) (length-take-le b.registers e.values (omega (arith, b.few)) ∙ sym v), v, length-wires_in w.count w.words.now))
+    refl h

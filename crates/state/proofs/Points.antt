@@ -1,33 +1,20 @@
 -- What the code holds of a block in the making, carried from step to step. Assumes nothing.
-use Prim.Native.Nat.{ℕ, ◌*◌, ◌≤◌}
+use Prim.Native.Nat.{ℕ, ◌≤◌}
 use native.Mathlib.Omega.{arith}
-use mathlib.Core.Path.{◌≡◌, refl, sym, ap, ◌∙◌}
+use mathlib.Core.Path.{◌≡◌, sym, ap, ◌∙◌}
 use mathlib.Core.List.{List}
 use lib.ListN.{length}
 use Rattle.fsmd.specs.declared.Wire.{Wire}
-use Rattle.fsmd.specs.Layout.{wire_words}
 use Rattle.state.specs.Wires.{BlockBuild}
 use Rattle.state.specs.Making.{wires_in, stored, block_build_in, Held}
-use Rattle.state.proofs.StoredWires.{length-wires_in, wires_in_stored, length_stored, stored_again, stored_none}
+use Rattle.state.proofs.StoredWires.{length-wires_in, wires_in_stored, stored_again}
 
 module _ {p : BlockBuild} {t₀ : List ℕ} {a : ℕ} {v : List ℕ} {n : ℕ} {t : List ℕ} (h : Held p t₀ a v n t) where
-  pub held_arrival : a ≡ p.arrival
-  held_arrival = ap (λ (q : BlockBuild). q.arrival) h.point
-
-  pub held_values : v ≡ p.values
-  held_values = ap (λ (q : BlockBuild). q.values) h.point
-
   pub held_wires : wires_in n t ≡ p.wires
   held_wires = ap (λ (q : BlockBuild). q.wires) h.point
 
   pub held_count : n ≡ length p.wires
   held_count = sym (length-wires_in n t) ∙ ap length held_wires
-
-  pub held_table : t ≡ stored p.wires t₀
-  held_table = h.rest ∙ ap (λ (ws : List Wire). stored ws t₀) held_wires
-
-  pub held_length : wire_words * n ≤ length t₀ → length t ≡ length t₀
-  held_length r = ap length h.rest ∙ length_stored (wires_in n t) t₀ (omega (arith, length-wires_in n t))
 
   -- another step after it
   pub held_on : {q : BlockBuild} {a' : ℕ} {v' : List ℕ} {n' : ℕ} {t' : List ℕ} → n ≤ n' → Held q t a' v' n' t' → Held q t₀ a' v' n' t'
@@ -38,9 +25,6 @@ module _ {p : BlockBuild} {t₀ : List ℕ} {a : ℕ} {v : List ℕ} {n : ℕ} {
             ∙ ap (stored (wires_in n' t')) h.rest
             ∙ stored_again (wires_in n t) (wires_in n' t') t₀ (omega (arith, length-wires_in n t, length-wires_in n' t'));
       }
-
-pub held_self : (a : ℕ) (v : List ℕ) (n : ℕ) (t : List ℕ) → wire_words * n ≤ length t → Held (block_build_in a v n t) t a v n t
-held_self a v n t h = record { point = refl; rest = sym (stored_none n t h) }
 
 pub held_by : (p : BlockBuild) (t₀ : List ℕ) (a : ℕ) (v : List ℕ) (n : ℕ) (t : List ℕ)
     → a ≡ p.arrival → v ≡ p.values → n ≡ length p.wires → t ≡ stored p.wires t₀ → Held p t₀ a v n t

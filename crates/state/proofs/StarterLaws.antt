@@ -1,18 +1,19 @@
 -- A block is a starter where it is its own state's. Assumes nothing.
-use Prim.Native.Nat.{ℕ, zero, suc, ◌<◌}
+use Prim.Native.Nat.{ℕ, zero, suc, ◌≤◌, ◌<◌}
 use native.Mathlib.Omega.{arith}
 use mathlib.Core.Path.{◌≡◌, refl, sym, ap, ◌∙◌}
 use mathlib.Core.Bool.{Bool, true, false, ◌||◌, false≢true}
 use mathlib.Core.List.{List, [], ◌∷◌}
 use lib.ListN.{length, get_or, get_or-eq_default}
 use lib.Dec.{eqb}
-use native.Mathlib.Decide.{dec_lt}
 use borrow.Author.Tests.{eq-eqb, eqb-true}
+use Rattle.std.specs.Prelude.{Option, Some, None, MatchOption, nat_eq}
+use Rattle.std.specs.Option.{option_eq}
 use Rattle.runs.proofs.Tests.{or_right}
 use Rattle.runs.specs.Lists.{mem}
 use Rattle.runs.proofs.ListLaws.{same_test}
 use Rattle.fsmd.specs.Layout.{absent}
-use Rattle.state.specs.Making.{used, GroupedBytes}
+use Rattle.state.specs.Making.{GroupedBytes}
 
 mem_cons : (y x : ℕ) (l : List ℕ) → (mem y l ≡ true → (k : ℕ) × (k < length l) × (get_or l k absent ≡ y)) → (b : Bool) → eqb y x ≡ b → (b || mem y l) ≡ true
     → (k : ℕ) × (k < length (x ∷ l)) × (get_or (x ∷ l) k absent ≡ y)
@@ -30,26 +31,26 @@ at_mem (x ∷ l) zero y h e = rw (eq-eqb y x (sym e))
 at_mem (x ∷ l) (suc k) y h e = or_right (eqb y x) (mem y l) (at_mem l k y (omega arith) e)
 
 module _ (starters states : List ℕ) (h : GroupedBytes starters states) where
-  -- the starter of a block's own state, or none
-  pub starter_test : (y : ℕ) → (y ≡ absent → ⊥) → eqb (get_or starters (get_or states y absent) absent) y ≡ mem y starters
-  starter_test y ne = same_test (eqb (get_or starters (get_or states y absent) absent) y) (mem y starters) there back
-    where
-      there : eqb (get_or starters (get_or states y absent) absent) y ≡ true → mem y starters ≡ true
-      there e = go (dec_lt (get_or states y absent) (length starters))
-        where
-          go : Dec (get_or states y absent < length starters) → mem y starters ≡ true
-          go (yes lt) = at_mem starters (get_or states y absent) y lt (eqb-true (get_or starters (get_or states y absent) absent) y e)
-          go (no ge) = absurd (ne (sym (eqb-true (get_or starters (get_or states y absent) absent) y e) ∙ get_or-eq_default starters absent (omega arith)))
+  -- a starter is the one of its own state
+  pub starter_test : (y : ℕ) (b : Bool) → (b ≡ true → (k : ℕ) × (k < length starters) × (get_or starters k absent ≡ y))
+      → ((k : ℕ) → k ≡ get_or states y absent → k < length starters → get_or starters k absent ≡ y → b ≡ true) → b ≡ mem y starters
+  starter_test y b there back =
+      same_test b (mem y starters)
+      (λ e. let r = there e in at_mem starters r.0 y r.1 r.2)
+      (λ e.
+      let r = mem_at y starters e in
+      back r.0 (sym (h.owned r.0 r.1) ∙ ap (λ (z : ℕ). get_or states z absent) r.2) r.1 r.2)
 
-      back : mem y starters ≡ true → eqb (get_or starters (get_or states y absent) absent) y ≡ true
-      back e =
-          let r = mem_at y starters e in
-          let k : get_or states y absent ≡ r.0 = ap (λ (z : ℕ). get_or states z absent) (sym r.2) ∙ h.owned r.0 r.1 in
-          eq-eqb (get_or starters (get_or states y absent) absent) y (ap (λ (z : ℕ). get_or starters z absent) k ∙ r.2)
+  -- a block of no state is no starter
+  pub no_starter : (y : ℕ) → length states ≤ y → mem y starters ≡ false
+  no_starter y le = sym (starter_test y false (λ e. absurd (false≢true e)) (λ k e lt f. absurd (let g : get_or states y absent ≡ absent = get_or-eq_default states absent le in omega (arith, h.few))))
 
-  -- the mark of an edge that is used up is no starter
-  pub used_no_starter : mem used starters ≡ false
-  used_no_starter =
-      let e : get_or states used absent ≡ absent = get_or-eq_default states absent (omega (arith, h.known)) in
-      let f : get_or starters absent absent ≡ absent = get_or-eq_default starters absent (omega (arith, h.few)) in
-      sym (starter_test used (λ k. omega (arith, k))) ∙ ap (λ (z : ℕ). eqb (get_or starters z absent) used) e ∙ ap (λ (z : ℕ). eqb z used) f
+-- whether a block is a starter, as the code finds it: k is its state
+pub own_starter : (starters states : List ℕ) (y k : ℕ) (o : Option ℕ) (b : Bool) → GroupedBytes starters states → k ≡ get_or states y absent
+    → MatchOption o (length starters ≤ k) (λ n. (k < length starters) × (n ≡ get_or starters k absent)) → b ≡ option_eq nat_eq o (Some y) → b ≡ mem y starters
+own_starter starters states y k None b h ek m e =
+    starter_test starters states h y b (λ t. absurd (false≢true (sym e ∙ t))) (λ j ej lt f. absurd (omega (arith, m)))
+own_starter starters states y k (Some n) b h ek m e =
+    starter_test starters states h y b
+    (λ t. (k, m.0, sym m.1 ∙ eqb-true n y (sym e ∙ t)))
+    (λ j ej lt f. e ∙ eq-eqb n y (m.1 ∙ ap (λ (i : ℕ). get_or starters i absent) (ek ∙ sym ej) ∙ f))

@@ -5,6 +5,7 @@ use mathlib.Core.Path.{◌≡◌, refl, sym, ap, ◌∙◌}
 use mathlib.Core.List.{List, [], ◌∷◌, ◌++◌, append_assoc, append-nil}
 use lib.ListN.{length, take, drop, length-append, length-drop}
 use lib.Seq.{sets, sets-eq, drop-append-add, drop-drop, take_at}
+use borrow.Rule.Slice.PartMut.{put_mid}
 use Rattle.runs.proofs.ListLaws.{concat_append}
 use Rattle.runs.specs.Lists.{concat_map}
 use Rattle.fsmd.specs.declared.Wire.{Wire}
@@ -90,10 +91,7 @@ emitted n w t h =
     sets-eq (wire_words_of w) t (wire_words * n) (omega arith)
     ∙ rw (front, e, concat_append wire_words_of (wires_in n t) (w ∷ []))
 
--- past what was appended the words are those from before
-pub appended_rest : (n : ℕ) (ws : List Wire) (t t' : List ℕ) → t' ≡ appended n ws t → t' ≡ stored (wires_in (n + length ws) t') t
-appended_rest n ws t t' e =
-    let l : n + length ws ≡ length (wires_in n t ++ ws) = omega (arith, length-append (wires_in n t) ws, length-wires_in n t) in
-    let w : wires_in (n + length ws) t' ≡ wires_in n t ++ ws =
-    ap (wires_in (n + length ws)) e ∙ ap (λ (k : ℕ). wires_in k (appended n ws t)) l ∙ wires_in_stored (wires_in n t ++ ws) t in
-    e ∙ ap (λ (v : List Wire). stored v t) (sym w)
+-- words written over a part
+pub part_written : (l s t : List ℕ) (at n : ℕ) → t ≡ s → n ≡ length s → at + length s ≤ length l → put_mid at n l t ≡ sets l at s
+part_written l s t at n e m h =
+    rw (e, m) (ap (λ (r : List ℕ). take at l ++ (s ++ r)) (drop-drop (length s) at l) ∙ sym (append_assoc (take at l) s (drop (at + length s) l)) ∙ sym (sets-eq s l at h))

@@ -1,7 +1,7 @@
 -- A state's blocks placed one after another, as the code does it: by a graph table and lists. Assumes nothing.
 use Rattle.std.specs.Prelude.{ℕ, List, [], ◌∷◌, length, get_or, set, ◌≤◌, ◌<◌}
 use Rattle.runs.specs.Lists.{mem}
-use Rattle.cfg.specs.Table.{block_at}
+use Rattle.cfg.specs.Table.{block_count, block_at}
 use Rattle.fsmd.specs.Layout.{max_blocks}
 use Rattle.state.specs.Wires.{StateBuild, BlockBuild, nothing, enter, leaves, towards, close_state}
 use Rattle.state.specs.Making.{put_block, Placeable, groups_in}
@@ -20,7 +20,12 @@ with_arrivals r t starters (x ∷ xs) b l =
     let starter = mem x starters in
     with_arrivals r t starters xs (put_block r starter (block_at t x) x b) (set l x (enter r starter x b).arrival)
 
--- the blocks of the list can be placed
+-- the list's numbers are blocks of the graph, and no more than a graph has
+pub record AllBelow (t xs : List ℕ) : Type 0 where
+  pub few : length xs ≤ max_blocks
+  pub each : (i : ℕ) → i < length xs → get_or xs i 0 < block_count t
+
+-- the blocks of the list can be placed; in an admitted graph those below its count are (proved)
 pub record AllPlaceable (t xs : List ℕ) : Type 0 where
   pub few : length xs ≤ max_blocks
   pub each : (i : ℕ) → i < length xs → Placeable t (get_or xs i 0)

@@ -1,164 +1,118 @@
 // The exits of a state: edges to starters and halts.
-ghost use Rattle.std.specs.Prelude.{◌≡◌, List, [], ◌∷◌, ◌+◌, ◌-◌, ◌*◌, ◌≤◌, ◌<◌, length, take};
-ghost use Rattle.fsmd.specs.Layout.{max_registers, absent};
-ghost use Rattle.state.specs.Wires.{leaves as leaves_of, next_state_of, exits as exits_of, close_state, towards};
-ghost use Rattle.state.specs.Making.{Room, wires_in, block_build_in, Held, along, place_of, edges_in, pending, Edged, NextAt, groups_in, GroupedBytes, exit_to};
+ghost use Rattle.std.specs.Prelude.{◌≡◌, [], ◌∷◌, ◌++◌, ◌+◌, ◌-◌, ◌≤◌, length, take, replicate};
+ghost use Rattle.fsmd.specs.Layout.{max_registers};
+ghost use Rattle.state.specs.Wires.{leaves, exit as exit_of, exits, close_state, towards, nothing};
+ghost use Rattle.state.specs.Making.{Room, wires_in, Held};
+ghost use Rattle.state.specs.EdgeList.{edge_of, leading, pending};
+ghost use Rattle.state.specs.Steps.{Becomes, SameWords, values_of, block_in};
+ghost use Rattle.state.specs.BlocksMaking.{with_arrivals, AllBelow, state_blocks};
 
-use crate::{BlockProgress, Exit, StateProgress, groups, wires};
+use crate::Exit;
+use crate::edges::{EdgeEntry, Edges};
+use crate::groups::Groups;
+use crate::joins::BlockProgress;
+use crate::wires::{WireList, wire};
+use cfg::graph::AdmittedGraph;
 use fsmd::MachineTable;
+use word::Code;
 
-fn leaves(starters: &[u8], states: &[u8], target: u32) -> bool
-    requires { GroupedBytes starters.now states.now }
-    ensures { result ≡ leaves_of (groups_in starters.now states.now) (place_of target) }
-{
-    if target == StateProgress::HALT {
-        return true;
-    }
-    groups::is_starter(starters, states, target)
-}
-
-// The state after an exit; none after a halt.
-fn next_state(starters: &[u8], states: &[u8], target: u32) -> u32
-    ensures { result ≡ next_state_of (groups_in starters.now states.now) (place_of target) }
-{
-    if target == StateProgress::HALT {
-        return MachineTable::NONE;
-    }
-    groups::entry(states, target)
-}
-
-// The first exit of `from` to `count`, or `count`.
-fn next_exit(targets: &[u32], from: usize, count: usize, starters: &[u8], states: &[u8]) -> usize
-    requires from_le_count { (from ≤ count) × (count ≤ length targets.now) }
-    requires grouped_bytes { GroupedBytes starters.now states.now }
-    ensures { NextAt (leaves_of (groups_in starters.now states.now)) targets.now from count result }
-{
-    let mut i = from;
-    while i < count {
-        if leaves(starters, states, targets[i]) {
-            return i;
+impl BlockProgress {
+    // The first exit adds only its `set`; the arrival is here the next state's reference.
+    fn first_exit(wires: &mut WireList, groups: &Groups, edge: &EdgeEntry) -> BlockProgress
+        requires { Room (wires.old.count + 1) wires.old.words.now }
+        ensures { Becomes (close_state groups.now (edge_of wires.old.registers edge.now ∷ []) (wires_in wires.old.count wires.old.words.now)) wires.old.registers result wires.old wires.new }
+    {
+        let arrival = wires.emit(wire(Code::SET, groups.next_state(edge), 0, 0));
+        BlockProgress {
+            arrival,
+            values: edge.values,
+            registers: wires.registers,
         }
-        i += 1;
     }
-    i
+
+    // A further exit: a `set` of its next state, a 19 for the next state, then one for each register.
+    fn exit(&mut self, wires: &mut WireList, groups: &Groups, edge: &EdgeEntry)
+        requires { Room (length (exit_of groups.now (edge_of self.old.registers edge.now) (block_in self.old wires.old)).wires) wires.old.words.now }
+        ensures { Becomes (exit_of groups.now (edge_of self.old.registers edge.now) (block_in self.old wires.old)) self.old.registers self.new wires.old wires.new }
+    {
+        let state = wires.emit(wire(Code::SET, groups.next_state(edge), 0, 0));
+        let arrival = wires.emit(wire(Code::SELECT, edge.taken, state, self.arrival));
+        self.select(wires, edge);
+        self.arrival = arrival;
+    }
+
+    // Those of the edges that leave the state after what stands there.
+    // No one walk with `join_all`: what is done at an edge adds wires, and a closure's contract would have to say which.
+    fn exit_all(&mut self, wires: &mut WireList, groups: &Groups, edges: &[EdgeEntry])
+        requires { Room (length (exits groups.now (leading self.old.registers (leaves groups.now) edges.now) (block_in self.old wires.old)).wires) wires.old.words.now }
+        ensures { Becomes (exits groups.now (leading self.old.registers (leaves groups.now) edges.now) (block_in self.old wires.old)) self.old.registers self.new wires.old wires.new }
+    {
+        for edge in edges {
+            if groups.leaves(edge) {
+                self.exit(wires, groups, edge);
+            }
+        }
+    }
+
+    // The registers' references, and 0 behind them.
+    fn next_registers(&self) -> [u32; MachineTable::REGISTERS]
+        ensures values { take self.now.registers result ≡ values_of self.now }
+        ensures zeros { result ≡ values_of self.now ++ replicate (max_registers - self.now.registers) 0 }
+    {
+        let mut registers = [0; MachineTable::REGISTERS];
+        registers[..self.registers].copy_from_slice(&self.values[..self.registers]);
+        registers
+    }
 }
 
-// A further exit: a `set` of its next state, a 19 for the next state, then one for each register.
-fn exit(
-    wires: &mut [u32],
-    values: &mut [u32],
-    front: BlockProgress,
-    state: u32,
-    taken: u32,
-    source: &[u32],
-) -> BlockProgress
-    requires source_len { length source.now ≡ length values.old }
-    requires room { Room (front.wires + 2 + length values.old) wires.old }
-    ensures { Held (exit_to state (along taken source.now) (block_build_in front.arrival values.old front.wires wires.old)) wires.old result.arrival values.new result.wires wires.new }
-{
-    let at = front.wires;
-    wires::emit(wires, at, wires::set_wire(state));
-    wires::emit(
-        wires,
-        at + 1,
-        wires::select_wire(taken, wires::reference(at), front.arrival),
-    );
-    wires::select(wires, at + 2, taken, source, values);
-    BlockProgress {
-        arrival: wires::reference(at + 1),
-        wires: at + 2 + values.len(),
+impl<'a> WireList<'a> {
+    // The exits of a state: the next state and the next registers.
+    pub fn leave(&mut self, edges: &Edges, groups: &Groups) -> Exit
+        requires { Room (length (close_state groups.now (towards (leaves groups.now) (pending self.old.registers edges.now)) (wires_in self.old.count self.old.words.now)).wires) self.old.words.now }
+        ensures same { SameWords self.old self.new }
+        ensures held { Held (close_state groups.now (towards (leaves groups.now) (pending self.old.registers edges.now)) (wires_in self.old.count self.old.words.now)) self.old.words.now result.next (take result.used result.registers) result.wires self.new.words.now }
+        ensures registers { (result.used ≤ self.old.registers) × (result.registers ≡ take result.used result.registers ++ replicate (max_registers - result.used) 0) }
+    {
+        match groups.first_exit(edges) {
+            None => Exit {
+                next: 0,
+                registers: [0; MachineTable::REGISTERS],
+                used: 0,
+                wires: self.count,
+            },
+            Some(first) => {
+                let entries = edges.entries();
+                let mut last = BlockProgress::first_exit(self, groups, &entries[first]);
+                last.exit_all(self, groups, &entries[first + 1..]);
+                Exit {
+                    next: last.arrival,
+                    registers: last.next_registers(),
+                    used: last.registers,
+                    wires: self.count,
+                }
+            }
+        }
     }
-}
 
-// The exits from number `from` up after what stands there.
-fn exit_all(
-    wires: &mut [u32],
-    values: &mut [u32],
-    front: BlockProgress,
-    targets: &[u32],
-    rows: &[u32],
-    starters: &[u8],
-    states: &[u8],
-    from: usize,
-    count: usize,
-) -> BlockProgress
-    requires edged { Edged targets.now rows.now count }
-    requires grouped_bytes { GroupedBytes starters.now states.now }
-    requires from_le_count { (from ≤ count) × (length values.old ≤ max_registers) × Room front.wires wires.old }
-    requires room { Room (length (exits_of (groups_in starters.now states.now) (towards (leaves_of (groups_in starters.now states.now)) (edges_in (length values.old) targets.now rows.now from (count - from))) (block_build_in front.arrival values.old front.wires wires.old)).wires) wires.old }
-    ensures { Held (exits_of (groups_in starters.now states.now) (towards (leaves_of (groups_in starters.now states.now)) (edges_in (length values.old) targets.now rows.now from (count - from))) (block_build_in front.arrival values.old front.wires wires.old)) wires.old result.arrival values.new result.wires wires.new }
-{
-    let mut made = front;
-    let mut i = next_exit(targets, from, count, starters, states);
-    while i < count {
-        let row = StateProgress::ROW * i;
-        let state = next_state(starters, states, targets[i]);
-        let next = exit(
-            wires,
-            values,
-            made,
-            state,
-            rows[row],
-            &rows[row + 1..row + 1 + values.len()],
-        );
-        made = next;
-        i = next_exit(targets, i + 1, count, starters, states);
-    }
-    made
-}
-
-// The exits of a state: the next state and the next registers.
-pub fn leave(
-    wires: &mut [u32],
-    values: &mut [u32],
-    targets: &[u32],
-    rows: &[u32],
-    starters: &[u8],
-    states: &[u8],
-    made: StateProgress,
-) -> Exit
-    requires edged { Edged targets.now rows.now made.edges }
-    requires grouped_bytes { GroupedBytes starters.now states.now }
-    requires values_len_bound { (length values.old ≤ max_registers) × Room made.wires wires.old }
-    requires room { Room (length (close_state (groups_in starters.now states.now) (towards (leaves_of (groups_in starters.now states.now)) (pending (length values.old) targets.now rows.now made.edges)) (wires_in made.wires wires.old)).wires) wires.old }
-    ensures held { Held (close_state (groups_in starters.now states.now) (towards (leaves_of (groups_in starters.now states.now)) (pending (length values.old) targets.now rows.now made.edges)) (wires_in made.wires wires.old)) wires.old result.next (take result.registers values.new) result.wires wires.new }
-    ensures registers_in_bounds { result.registers ≤ length values.old }
-{
-    let at = made.wires;
-    let count = made.edges;
-    let i = next_exit(targets, 0, count, starters, states);
-    if i == count {
-        return Exit {
-            next: 0,
-            registers: 0,
-            wires: at,
-        };
-    }
-    let row = StateProgress::ROW * i;
-    buffers::copy_words(values, 0, &rows[row + 1..row + 1 + values.len()]);
-    wires::emit(
-        wires,
-        at,
-        wires::set_wire(next_state(starters, states, targets[i])),
-    );
-    let first = BlockProgress {
-        arrival: wires::reference(at),
-        wires: at + 1,
-    };
-    let last = exit_all(
-        wires,
-        values,
-        first,
-        targets,
-        rows,
-        starters,
-        states,
-        i + 1,
-        count,
-    );
-    Exit {
-        next: last.arrival,
-        registers: values.len(),
-        wires: last.wires,
+    // The blocks of `order` placed, from nothing, and then the exits.
+    // Edges and arrivals stand beside the list of wires: of a struct that holds a struct with a `&mut`, a caller learns nothing.
+    pub fn finish(
+        &mut self,
+        edges: &mut Edges,
+        graph: AdmittedGraph,
+        order: &[u8],
+        groups: &Groups,
+        arrivals: &mut [u32; MachineTable::BLOCKS],
+    ) -> Exit
+        requires blocks { AllBelow graph.words.now order.now }
+        requires nothing { (self.old.count ≡ 0) × (edges.old.count ≡ 0) }
+        requires room { Room (length (state_blocks self.old.registers graph.words.now groups.now.starters groups.now.states order.now).wires) self.old.words.now }
+        ensures same { SameWords self.old self.new }
+        ensures held { Held (state_blocks self.old.registers graph.entry.words.now groups.now.starters groups.now.states order.now) self.old.words.now result.next (take result.used result.registers) result.wires self.new.words.now }
+        ensures registers { (result.used ≤ self.old.registers) × (result.registers ≡ take result.used result.registers ++ replicate (max_registers - result.used) 0) }
+        ensures arrivals { arrivals.new ≡ with_arrivals self.old.registers graph.entry.words.now groups.now.starters order.now nothing arrivals.old }
+    {
+        self.place_all(edges, graph, order, groups, arrivals);
+        self.leave(edges, groups)
     }
 }

@@ -1,125 +1,119 @@
 // How a block's arrival and values come about: a start, or joins of its incoming edges.
-ghost use Rattle.std.specs.Prelude.{◌≡◌, List, [], ◌∷◌, ◌+◌, ◌-◌, ◌*◌, ◌≤◌, ◌<◌, length};
-ghost use Rattle.runs.specs.Lists.{up_from};
-ghost use Rattle.fsmd.specs.Layout.{max_registers, max_blocks};
-ghost use Rattle.state.specs.Wires.{«set_wire», join as joined, joins, enter as entered, leads_to, towards};
-ghost use Rattle.state.specs.Making.{appended, Room, block_build_in, Held, along, edges_in, Edged, state_build_in};
+ghost use Rattle.std.specs.Prelude.{◌≤◌};
+ghost use Rattle.fsmd.specs.Layout.{max_registers};
 
-use crate::{BlockProgress, StateProgress, edges, wires};
+use crate::edges::{EdgeEntry, Edges};
+use crate::wires::{WireList, wire};
+use fsmd::MachineTable;
+use word::Code;
 
-// Each register's value is the one at the start of the cycle.
-fn number(values: &mut [u32])
-    requires { length values.old ≤ max_registers }
-    ensures { values.new ≡ up_from 0 (length values.old) }
-{
-    let mut r = 0;
-    while r < values.len() {
-        values[r] = r as u32;
-        r += 1;
-    }
+// A block in the making: the reference of its arrival, and those of its registers. Their number is the graph's, and no list grows here.
+#[derive(Clone, Copy)]
+pub struct BlockProgress {
+    pub arrival: u32,
+    pub values: [u32; MachineTable::REGISTERS],
+    pub registers: usize,
+    ghost few: { registers ≤ max_registers },
 }
 
-// A wire `set` of the arrival, and the start values.
-pub fn begin(wires: &mut [u32], values: &mut [u32], at: usize, arrival: u32) -> BlockProgress
-    requires room { Room (at + 1) wires.old }
-    requires values_len_bound { length values.old ≤ max_registers }
-    ensures arrival_value { (result.arrival ≡ max_registers + at) × (result.wires ≡ at + 1) }
-    ensures values_after { values.new ≡ up_from 0 (length values.old) }
-    ensures wires_after { wires.new ≡ appended at («set_wire» arrival ∷ []) wires.old }
-{
-    wires::emit(wires, at, wires::set_wire(arrival));
-    number(values);
-    BlockProgress {
-        arrival: wires::reference(at),
-        wires: at + 1,
-    }
-}
+impl BlockProgress {
+    ghost use Rattle.std.specs.Prelude.{◌≡◌, [], ◌∷◌, ◌+◌, ◌≤◌, length, take};
+    ghost use Rattle.std.specs.List.{position};
+    ghost use Rattle.runs.specs.Lists.{up_from};
+    ghost use Rattle.fsmd.specs.Layout.{max_registers};
+    ghost use Rattle.state.specs.Wires.{set_wire, selects, join as joined, joins, enter as entered, leads_to};
+    ghost use Rattle.state.specs.Making.{Room};
+    ghost use Rattle.state.specs.EdgeList.{edge_of, entries, passes, leading};
+    ghost use Rattle.state.specs.Steps.{Adds, Becomes, values_of, block_in, state_in};
 
-// A further incoming edge: an `or` for the arrival, then a 19 for each register.
-pub fn join(
-    wires: &mut [u32],
-    values: &mut [u32],
-    front: BlockProgress,
-    taken: u32,
-    source: &[u32],
-) -> BlockProgress
-    requires source_len { length source.now ≡ length values.old }
-    requires room { Room (front.wires + 1 + length values.old) wires.old }
-    ensures { Held (joined (along taken source.now) (block_build_in front.arrival values.old front.wires wires.old)) wires.old result.arrival values.new result.wires wires.new }
-{
-    let at = front.wires;
-    wires::emit(wires, at, wires::or_wire(front.arrival, taken));
-    wires::select(wires, at + 1, taken, source, values);
-    BlockProgress {
-        arrival: wires::reference(at),
-        wires: at + 1 + values.len(),
-    }
-}
+    // At the start of the cycle each register's value is the one of its own number.
+    const START: [u32; MachineTable::REGISTERS] = [
+        0, 1, 2, 3, 4, 5, 6, 7, 8, 9, 10, 11, 12, 13, 14, 15,
+    ];
 
-// The edges to `x` from number `from` up joined to what stands there.
-fn join_all(
-    wires: &mut [u32],
-    values: &mut [u32],
-    front: BlockProgress,
-    targets: &[u32],
-    rows: &[u32],
-    from: usize,
-    count: usize,
-    x: u32,
-) -> BlockProgress
-    requires edged { Edged targets.now rows.now count }
-    requires from_le_count { (from ≤ count) × (length values.old ≤ max_registers) × (x < max_blocks) }
-    requires room { Room front.wires wires.old }
-    requires room_2 { Room (length (joins (towards (leads_to x) (edges_in (length values.old) targets.now rows.now from (count - from))) (block_build_in front.arrival values.old front.wires wires.old)).wires) wires.old }
-    ensures { Held (joins (towards (leads_to x) (edges_in (length values.old) targets.now rows.now from (count - from))) (block_build_in front.arrival values.old front.wires wires.old)) wires.old result.arrival values.new result.wires wires.new }
-{
-    let mut made = front;
-    let mut i = edges::next_edge(targets, from, count, x);
-    while i < count {
-        let row = StateProgress::ROW * i;
-        let next = join(
-            wires,
-            values,
-            made,
-            rows[row],
-            &rows[row + 1..row + 1 + values.len()],
-        );
-        made = next;
-        i = edges::next_edge(targets, i + 1, count, x);
+    // A wire `set` of the arrival, and the values at the start of the cycle.
+    pub fn begin(wires: &mut WireList, arrival: u32) -> BlockProgress
+        requires { Room (wires.old.count + 1) wires.old.words.now }
+        ensures arrival { result.arrival ≡ max_registers + wires.old.count }
+        ensures registers { result.registers ≡ wires.old.registers }
+        ensures values { values_of result ≡ up_from 0 wires.old.registers }
+        ensures wires { Adds (set_wire arrival ∷ []) wires.old wires.new }
+    {
+        let arrival = wires.emit(wire(Code::SET, arrival, 0, 0));
+        BlockProgress {
+            arrival,
+            values: BlockProgress::START,
+            registers: wires.registers,
+        }
     }
-    made
-}
 
-// A starter's arrival and values, or those of the edges that lead to block `x`.
-pub fn enter(
-    wires: &mut [u32],
-    values: &mut [u32],
-    targets: &[u32],
-    rows: &[u32],
-    made: StateProgress,
-    x: u32,
-    starter: bool,
-) -> BlockProgress
-    requires edged { Edged targets.now rows.now made.edges }
-    requires values_len_bound { (length values.old ≤ max_registers) × (x < max_blocks) }
-    requires room { Room made.wires wires.old }
-    requires room_2 { Room (length (entered (length values.old) starter x (state_build_in (length values.old) targets.now rows.now made.edges made.wires wires.old)).wires) wires.old }
-    ensures { Held (entered (length values.old) starter x (state_build_in (length values.old) targets.now rows.now made.edges made.wires wires.old)) wires.old result.arrival values.new result.wires wires.new }
-{
-    let at = made.wires;
-    let count = made.edges;
-    if starter {
-        return begin(wires, values, at, 1);
+    // For each register in rising order: the edge's value where the edge is taken, else the one so far.
+    pub fn select(&mut self, wires: &mut WireList, edge: &EdgeEntry)
+        requires { Room (wires.old.count + self.old.registers) wires.old.words.now }
+        ensures kept { (self.new.arrival ≡ self.old.arrival) × (self.new.registers ≡ self.old.registers) }
+        ensures values { values_of self.new ≡ up_from (max_registers + wires.old.count) self.old.registers }
+        ensures wires { Adds (selects edge.now.taken (take self.old.registers edge.now.values) (values_of self.old)) wires.old wires.new }
+    {
+        // By index: of a struct with an invariant no field is lent as `&mut`.
+        for r in 0..self.registers {
+            self.values[r] = wires.emit(wire(
+                Code::SELECT,
+                edge.taken,
+                edge.values[r],
+                self.values[r],
+            ));
+        }
     }
-    let i = edges::next_edge(targets, 0, count, x);
-    if i == count {
-        return begin(wires, values, at, 0);
+
+    // A further incoming edge: an `or` for the arrival, then a 19 for each register.
+    pub fn join(&mut self, wires: &mut WireList, edge: &EdgeEntry)
+        requires { Room (length (joined (edge_of self.old.registers edge.now) (block_in self.old wires.old)).wires) wires.old.words.now }
+        ensures { Becomes (joined (edge_of self.old.registers edge.now) (block_in self.old wires.old)) self.old.registers self.new wires.old wires.new }
+    {
+        let arrival = wires.emit(wire(Code::OR, self.arrival, edge.taken, 0));
+        self.select(wires, edge);
+        self.arrival = arrival;
     }
-    let row = StateProgress::ROW * i;
-    buffers::copy_words(values, 0, &rows[row + 1..row + 1 + values.len()]);
-    let front = BlockProgress {
-        arrival: rows[row],
-        wires: at,
-    };
-    join_all(wires, values, front, targets, rows, i + 1, count, x)
+
+    // Those of the edges that lead to block `x` joined to what stands there.
+    fn join_all(&mut self, wires: &mut WireList, edges: &[EdgeEntry], x: u32)
+        requires { Room (length (joins (leading self.old.registers (leads_to x) edges.now) (block_in self.old wires.old)).wires) wires.old.words.now }
+        ensures { Becomes (joins (leading self.old.registers (leads_to x) edges.now) (block_in self.old wires.old)) self.old.registers self.new wires.old wires.new }
+    {
+        for edge in edges {
+            if edge.leads_to(x) {
+                self.join(wires, edge);
+            }
+        }
+    }
+
+    // A starter's arrival and values, or those of the edges that lead to block `x`, of which the first stands at `first`.
+    pub fn enter(
+        wires: &mut WireList,
+        edges: &Edges,
+        starter: bool,
+        first: Option<usize>,
+        x: u32,
+    ) -> BlockProgress
+        requires first { first ≡ position (passes (leads_to x)) (entries edges.now) }
+        requires room { Room (length (entered wires.old.registers starter x (state_in edges.now wires.old)).wires) wires.old.words.now }
+        ensures { Becomes (entered wires.old.registers starter x (state_in edges.now wires.old)) wires.old.registers result wires.old wires.new }
+    {
+        if starter {
+            return BlockProgress::begin(wires, 1);
+        }
+        match first {
+            None => BlockProgress::begin(wires, 0),
+            Some(first) => {
+                let entries = edges.entries();
+                let mut block = BlockProgress {
+                    arrival: entries[first].taken,
+                    values: entries[first].values,
+                    registers: wires.registers,
+                };
+                block.join_all(wires, &entries[first + 1..], x);
+                block
+            }
+        }
+    }
 }

@@ -1,100 +1,46 @@
-// The wires of a state in the making: one wire, a register's selections, a join.
-ghost use Rattle.std.specs.Prelude.{◌≡◌, List, [], ◌∷◌, ◌+◌, ◌≤◌, ◌<◌, length};
-ghost use Rattle.runs.specs.Lists.{up_from};
-ghost use Rattle.fsmd.specs.Layout.{max_registers, max_wires};
-ghost use Rattle.state.specs.Wires.{«set_wire», «and_wire», «or_wire», «and_not_wire», «select_wire», selects};
-ghost use Rattle.state.specs.Making.{appended, Room};
+// The wires of a state in the making.
+ghost use Rattle.std.specs.Prelude.{◌≡◌, ◌≤◌};
+ghost use Rattle.fsmd.specs.Layout.{max_registers};
+ghost use Rattle.state.specs.Wires.{wire as wire_of};
 
 use fsmd::{MachineTable, Wire};
-use word::Code;
 
-pub fn set_wire(word: u32) -> Wire
-    ensures { result ≡ «set_wire» word }
-{
-    Wire {
-        code: Code::SET,
-        a: word,
-        b: 0,
-        c: 0,
-    }
+// The wires of a state so far, from the front of some words; each of its blocks has so many registers.
+// Words and a count, and no list of wires: they are written where they stay, in the machine table that C lends.
+#[derive(Drop)]
+pub struct WireList<'a> {
+    pub words: &'a mut [u32],
+    pub count: usize,
+    pub registers: usize,
+    ghost few: { registers ≤ max_registers },
 }
 
-pub fn and_wire(a: u32, b: u32) -> Wire
-    ensures { result ≡ «and_wire» a b }
+// A wire of these words.
+#[inline]
+pub fn wire(code: u32, a: u32, b: u32, c: u32) -> Wire
+    ensures { result ≡ wire_of code a b c }
 {
-    Wire {
-        code: Code::AND,
-        a,
-        b,
-        c: 0,
-    }
+    Wire { code, a, b, c }
 }
 
-pub fn or_wire(a: u32, b: u32) -> Wire
-    ensures { result ≡ «or_wire» a b }
-{
-    Wire {
-        code: Code::OR,
-        a,
-        b,
-        c: 0,
-    }
-}
+// `Room` for what comes stands in each contract and in no invariant: every wire takes some of it.
+impl<'a> WireList<'a> {
+    ghost use Rattle.std.specs.Prelude.{◌≡◌, [], ◌∷◌, ◌+◌};
+    ghost use Rattle.fsmd.specs.Layout.{max_registers};
+    ghost use Rattle.state.specs.Making.{Room};
+    ghost use Rattle.state.specs.Steps.{Adds};
 
-pub fn and_not_wire(a: u32, b: u32) -> Wire
-    ensures { result ≡ «and_not_wire» a b }
-{
-    Wire {
-        code: Code::AND_NOT,
-        a,
-        b,
-        c: 0,
-    }
-}
-
-// b where a is nonzero, else c.
-pub fn select_wire(a: u32, b: u32, c: u32) -> Wire
-    ensures { result ≡ «select_wire» a b c }
-{
-    Wire {
-        code: Code::SELECT,
-        a,
-        b,
-        c,
-    }
-}
-
-// The reference of wire `at` of the state.
-pub fn reference(at: usize) -> u32
-    requires { at ≤ max_wires }
-    ensures { result ≡ max_registers + at }
-{
-    (MachineTable::REGISTERS + at) as u32
-}
-
-// Wire `at` of the state, after those before it.
-pub fn emit(wires: &mut [u32], at: usize, w: Wire)
-    requires { Room (at + 1) wires.old }
-    ensures { wires.new ≡ appended at (w ∷ []) wires.old }
-{
-    let start = Wire::WORDS * at;
-    wires[start] = w.code;
-    wires[start + Wire::A] = w.a;
-    wires[start + Wire::B] = w.b;
-    wires[start + Wire::C] = w.c;
-}
-
-// For each register in rising order: the source's value where the edge is taken, else the one so far.
-pub fn select(wires: &mut [u32], at: usize, taken: u32, source: &[u32], values: &mut [u32])
-    requires source_len { length source.now ≡ length values.old }
-    requires room { Room (at + length values.old) wires.old }
-    ensures wires_after { wires.new ≡ appended at (selects taken source.now values.old) wires.old }
-    ensures values_after { values.new ≡ up_from (max_registers + at) (length source.now) }
-{
-    let mut r = 0;
-    while r < values.len() {
-        emit(wires, at + r, select_wire(taken, source[r], values[r]));
-        values[r] = reference(at + r);
-        r += 1;
+    // One more wire; its reference.
+    #[inline]
+    pub fn emit(&mut self, w: Wire) -> u32
+        requires { Room (self.old.count + 1) self.old.words.now }
+        ensures added { Adds (w ∷ []) self.old self.new }
+        ensures reference { result ≡ max_registers + self.old.count }
+    {
+        let start = Wire::WORDS * self.count;
+        self.words[start..start + Wire::WORDS].copy_from_slice(&[w.code, w.a, w.b, w.c]);
+        let reference = MachineTable::REGISTERS + self.count;
+        self.count += 1;
+        reference as u32
     }
 }

@@ -1,11 +1,10 @@
 -- A block that is no starter has an incoming edge when it is placed, and every state has an exit: the clauses of `arrive` and `close_state`
 -- for no edge are never used. Assumes nothing.
-use Prim.Native.Nat.{ℕ, ◌<◌}
+use Prim.Native.Nat.{ℕ}
 use mathlib.Core.Path.{◌≡◌, refl, sym, ap, ◌∙◌}
 use mathlib.Core.Logic.{◌⊎◌, inl, inr, ◌≢◌}
 use mathlib.Core.Bool.{Bool, true, false, not, false≢true}
 use mathlib.Core.List.{List, [], ◌∷◌, ◌++◌}
-use lib.ListN.{length}
 use borrow.Author.Tests.{eqb-true, eq-eqb, ne_eqb}
 use Rattle.runs.specs.Lists.{mem, keep}
 use Rattle.runs.specs.Runs.{Place, standing, halted}
@@ -14,11 +13,8 @@ use Rattle.cfg.specs.declared.Ending.{Ending}
 use Rattle.cfg.specs.declared.Ending.TheVariants.{Goto, Ite, Halt}
 use Rattle.cfg.specs.Graph.{CFG, block_of, targets, successors}
 use Rattle.grouping.specs.Grouping.{Groups}
-use Rattle.grouping.proofs.Reach.{Closed}
-use Rattle.grouping.proofs.GroupingLaws.{Grouped}
 use Rattle.placement.specs.Placement.{order}
 use Rattle.state.specs.Wires.{Edge, BlockBuild, StateBuild, close, leads_to, towards, after, put, build, leaves}
-use Rattle.placement.proofs.PlacementLaws.{placed}
 use Rattle.placement.proofs.StateOrder.{Ahead, Ordered, StateOrder}
 
 -- some edge's target passes a test
@@ -101,16 +97,6 @@ distinct_before : (xs : List ℕ) (x : ℕ) (ys : List ℕ) → Distinct (xs ++ 
 distinct_before [] x ys d i = i
 distinct_before (z ∷ xs) x ys d (inl e) = d.0 (rw (← e) (in_right x xs (x ∷ ys) (inl refl)))
 distinct_before (z ∷ xs) x ys d (inr i) = distinct_before xs x ys d.1 i
-
-pub incoming_found : (g : CFG) → Closed g → (s : Groups) → Grouped g s → (k : ℕ) → k < length s.starters → (x : ℕ) → (In x s.starters → ⊥)
-    → (before later : List ℕ) → order g s k ≡ before ++ (x ∷ later)
-    → Found (leads_to x) (build g s before (record { wires = []; edges = [] })).edges
-incoming_found g a s G k h x o before later e =
-    let p = placed g a s G k h in
-    let u = p.entered x o before later e in
-    let d : Distinct (before ++ (x ∷ later)) = rw e at p.distinct in
-    some_found (leads_to x) (build g s before (record { wires = []; edges = [] })).edges
-    (build_leads g s x before (record { wires = []; edges = [] }) u.0 u.1 u.2 (distinct_before before x later d))
 
 -- ---- exits: the edges of the block that is placed last
 

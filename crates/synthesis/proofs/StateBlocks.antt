@@ -1,5 +1,5 @@
--- A state made from a graph table and lists is the state of the table's graph; its blocks can be placed. Assumes nothing.
-use Prim.Native.Nat.{ℕ, ◌≤◌, ◌<◌}
+-- A state made from a graph table and lists is the state of the table's graph; its blocks are the graph's. Assumes nothing.
+use Prim.Native.Nat.{ℕ, ◌<◌}
 use native.Mathlib.Omega.{arith}
 use native.Mathlib.Decide.{dec_lt}
 use mathlib.Core.Bool.{true}
@@ -9,21 +9,18 @@ use mathlib.Core.List.{List, [], ◌∷◌}
 use lib.ListN.{length, get_or, get_or-eq_default}
 use Rattle.runs.specs.Lists.{mem}
 use Rattle.runs.proofs.Sets.{In, get_or-in}
-use Rattle.cfg.specs.declared.Ending.{Ending}
-use Rattle.cfg.specs.declared.Ending.TheVariants.{Goto, Ite, Halt}
 use Rattle.cfg.specs.declared.Block.{Block}
-use Rattle.cfg.specs.Layout.{block_offset}
 use Rattle.cfg.specs.Table.{block_at, graph_of, admitted_graph}
-use Rattle.cfg.proofs.Admitted.{admitted_facts, ValidEnding, block_below, registers_are, blocks_length}
-use Rattle.fsmd.specs.Layout.{max_blocks, absent}
+use Rattle.cfg.proofs.Admitted.{block_below, registers_are, blocks_length}
+use Rattle.fsmd.specs.Layout.{absent}
 use Rattle.fsmd.specs.Machine.{State}
 use Rattle.grouping.specs.Grouping.{Groups}
 use Rattle.grouping.proofs.Reach.{Closed, admitted_closed}
 use Rattle.grouping.proofs.GroupingLaws.{Grouped}
 use Rattle.placement.specs.Placement.{order}
 use Rattle.state.specs.Wires.{StateBuild, BlockBuild, nothing, put, build, state_made}
-use Rattle.state.specs.Making.{Aims, Placeable, put_block}
-use Rattle.state.specs.BlocksMaking.{build_blocks, AllPlaceable, state_blocks}
+use Rattle.state.specs.Making.{put_block}
+use Rattle.state.specs.BlocksMaking.{build_blocks, AllBelow, state_blocks}
 use Rattle.placement.proofs.PlacementLaws.{order_length, placed}
 use Rattle.placement.proofs.PlacedOrder.{members_few}
 
@@ -49,15 +46,6 @@ module _ (t : List ℕ) (s : Groups) where
   unfolding state_blocks state_made
   state_alike k f = rw (build_alike (order (graph_of t) s k) f nothing) refl
 
-aims : (b r : ℕ) (e : Ending) → b ≤ max_blocks → ValidEnding b r e → Aims e
-aims b r (Goto t) h v = omega arith
-aims b r (Ite c t f) h v = (omega (arith, v.holds), omega (arith, v.fails))
-aims b r Halt h v = tt
-
-count_is : (t : List ℕ) (x : ℕ) → (block_at t x).count ≡ get_or t (block_offset x) 0
-unfolding block_at
-count_is t x = refl
-
 module _ (t : List ℕ) (a : admitted_graph t ≡ true) (s : Groups) (G : Grouped (graph_of t) s) (k : ℕ) (below : k < length s.starters) where
   closed : Closed (graph_of t)
   closed = admitted_closed t a
@@ -77,19 +65,13 @@ module _ (t : List ℕ) (a : admitted_graph t ≡ true) (s : Groups) (G : Groupe
           let d : get_or s.states x absent ≡ absent = get_or-eq_default s.states absent {n = x} (omega arith) in
           absurd (omega arith)
 
-  pub all_placeable : (xs : List ℕ) → xs ≡ order (graph_of t) s k → AllPlaceable t xs
-  all_placeable xs e = rw e (record { few = let l = order_length (graph_of t) s k in let m = members_few (graph_of t) closed s G k below in omega arith; each = each })
-    where
-      each : (i : ℕ) → i < length (order (graph_of t) s k) → Placeable t (get_or (order (graph_of t) s k) i 0)
-      each i h =
-          let x = get_or (order (graph_of t) s k) i 0 in
-          let l = block_low x (get_or-in (order (graph_of t) s k) i 0 h) in
-          let d = admitted_facts t a in
-          let v = d.block x l in
-          let b = d.few_blocks in
-          let c = count_is t x in
-          let n = v.few in
-          record { known = omega arith; whole = d.long; short = omega arith; aims = aims (get_or t 0 0) (get_or t 1 0) (block_at t x).ending b v.ended }
+  pub all_below : (xs : List ℕ) → xs ≡ order (graph_of t) s k → AllBelow t xs
+  all_below xs e =
+      rw e
+      (record {
+        few = let l = order_length (graph_of t) s k in let m = members_few (graph_of t) closed s G k below in omega arith;
+        each = λ i h. block_low (get_or (order (graph_of t) s k) i 0) (get_or-in (order (graph_of t) s k) i 0 h);
+      })
 
   pub state_is : (r : ℕ) (starters states xs : List ℕ) → r ≡ get_or t 1 0 → starters ≡ s.starters → states ≡ s.states → xs ≡ order (graph_of t) s k
       → state_blocks r t starters states xs ≡ point_of (state_made (graph_of t) s k)

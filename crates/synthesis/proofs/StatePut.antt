@@ -5,10 +5,9 @@ use mathlib.Core.Bool.{true}
 use mathlib.Core.Path.{◌≡◌, refl, sym, ◌∙◌, ap, ap₂, subst}
 use mathlib.Core.List.{List, [], ◌∷◌, ◌++◌, append_assoc, append-nil}
 use lib.ListN.{length, get_or, take, drop, replicate, length-drop, drop_of_length-le}
-use lib.Seq.{take_all, take_at, length-take-le, drop-drop, sets, sets-eq}
+use lib.Seq.{take_all, take_at, length-take-le, drop-drop, drop-append-add, sets, sets-eq}
 use Rattle.runs.specs.Lists.{padded, concat_map}
 use Rattle.runs.proofs.ListLaws.{padded_append}
-use Rattle.cfg.specs.Layout.{graph_words}
 use Rattle.cfg.specs.Table.{graph_of, admitted_graph}
 use Rattle.cfg.proofs.Admitted.{admitted_facts, valid_graph_lem, admitted_halves, registers_are}
 use Rattle.fsmd.specs.Layout.{max_states, max_registers, max_wires, wire_words, records_offset, record_offset, wire_offset, absent}
@@ -23,7 +22,7 @@ use Rattle.grouping.proofs.GroupingLaws.{Grouped}
 use Rattle.state.specs.Wires.{BlockBuild}
 use Rattle.state.specs.Making.{wires_in, stored, Room, Held, GroupedBytes}
 use Rattle.state.proofs.StoredWires.{length-wires_in}
-use Rattle.synthesis.specs.StateWords.{with_states, first_states, Filled, Prepared}
+use Rattle.synthesis.specs.StateWords.{with_states, first_states, Filled}
 use Rattle.synthesis.proofs.SynthesisedMachine.{made_valid}
 use Rattle.synthesis.proofs.StateBlocks.{point_of}
 use Rattle.synthesis.proofs.TableWords.{state_written}
@@ -99,9 +98,15 @@ module _ (t : List ℕ) (a : admitted_graph t ≡ true) (s : Groups) (G : Groupe
 
 -- ---- what making a state asks
 
-pub groups_held : (t : List ℕ) (s : Groups) → Grouped (graph_of t) s → (edges starts starters states : List ℕ) → Prepared t s edges starts starters states
+-- an admitted graph table, whose grouping s is at hand in two lists
+pub record Known (t : List ℕ) (s : Groups) (starters states : List ℕ) : Type 0 where
+  pub admits : admitted_graph t ≡ true
+  pub its_starters : starters ≡ s.starters
+  pub its_states : states ≡ s.states
+
+pub groups_held : (t : List ℕ) (s : Groups) → Grouped (graph_of t) s → (starters states : List ℕ) → Known t s starters states
     → GroupedBytes starters states
-groups_held t s G edges starts starters states p =
+groups_held t s G starters states p =
     let c = admitted_closed t p.admits in
     let b = c.few_blocks_lem in
     let n = G.few_states_lem in
@@ -115,9 +120,21 @@ drop_zeros zero n h = let e : n - 0 ≡ n = omega arith in rw e refl
 drop_zeros (suc r) zero h = absurd (omega arith)
 drop_zeros (suc r) (suc n) h = let e : suc n - suc r ≡ n - r = omega arith in rw e (drop_zeros r n (omega arith))
 
+-- behind the registers that are used stand zeros
+pub zeros_behind : (r m : ℕ) (regs : List ℕ) → m ≤ r → r ≤ max_registers → length regs ≡ max_registers → regs ≡ take m regs ++ replicate (max_registers - m) 0 → drop r regs ≡ replicate (max_registers - r) 0
+zeros_behind r m regs few small long e =
+    let l : length (take m regs) ≡ m = length-take-le m regs (omega arith) in
+    let n : length (take m regs) + (r - m) ≡ r = omega (arith, l) in
+    let k : max_registers - m - (r - m) ≡ max_registers - r = omega arith in
+    ap (drop r) e
+    ∙ ap (λ (i : ℕ). drop i (take m regs ++ replicate (max_registers - m) 0)) (sym n)
+    ∙ drop-append-add (take m regs) (replicate (max_registers - m) 0) (r - m)
+    ∙ drop_zeros (r - m) (max_registers - m) (omega arith)
+    ∙ ap (λ (i : ℕ). replicate {A = ℕ} i 0) k
+
 -- ---- a state made and put
 
-module _ (t : List ℕ) (s : Groups) (G : Grouped (graph_of t) s) (edges starts starters states : List ℕ) (p : Prepared t s edges starts starters states) (table : List ℕ) (k first : ℕ) (f : Filled t s table k first) (low : k < length starters) where
+module _ (t : List ℕ) (s : Groups) (G : Grouped (graph_of t) s) (starters states : List ℕ) (p : Known t s starters states) (table : List ℕ) (k first : ℕ) (f : Filled t s table k first) (low : k < length starters) where
   pub below : k < length s.starters
   below = let e = ap length p.its_starters in omega arith
 
@@ -133,9 +150,6 @@ module _ (t : List ℕ) (s : Groups) (G : Grouped (graph_of t) s) (edges starts 
 
   pub registers_low : get_or t 1 0 ≤ max_registers
   registers_low = (admitted_facts t p.admits).few_registers
-
-  pub words_long : graph_words ≤ length t
-  words_long = (admitted_facts t p.admits).long
 
   -- the words from the state's first wire on
   pub rest_of : take (length table - (wire_offset first)) (drop (wire_offset first) table) ≡ drop (wire_offset first) table

@@ -1,2 +1,3 @@
 pub mod Synthesis
 pub mod StateWords
+pub mod Plans

@@ -1,15 +1,12 @@
 -- A machine table before its arrivals, of which some states are written, which the contracts of the table code cite. Assumes nothing.
-use Rattle.std.specs.Prelude.{ℕ, ◌≡◌, true, List, ◌++◌, map, length, get_or, take, ltb}
+use Rattle.std.specs.Prelude.{ℕ, ◌≡◌, List, ◌++◌, map, length, get_or, take, ltb}
 use Rattle.word.specs.Word.{choose}
-use Rattle.runs.specs.Lists.{up_from, mem, padded}
-use Rattle.cfg.specs.Graph.{successors}
-use Rattle.cfg.specs.Table.{graph_of, admitted_graph}
+use Rattle.runs.specs.Lists.{up_from, padded}
+use Rattle.cfg.specs.Table.{graph_of}
 use Rattle.fsmd.specs.Layout.{max_blocks, absent, all_record_words, all_wire_words, records_offset, arrivals_offset}
 use Rattle.fsmd.specs.Machine.{State, wire_count}
 use Rattle.fsmd.specs.Table.{records_of, wires_of}
 use Rattle.grouping.specs.Grouping.{Groups}
-use Rattle.grouping.specs.Bytes.{edges_in}
-use Rattle.placement.specs.PlacementBytes.{marked}
 use Rattle.state.specs.Wires.{state_made, arrival_made}
 
 -- the words of a table before its arrivals: `head` before the records, then the records and wires of the states qs and no others
@@ -26,14 +23,6 @@ first_states t s k = map (state_made (graph_of t) s) (up_from 0 k)
 unfoldable pub first_arrivals : List ℕ → Groups → ℕ → List ℕ
 unfolding graph_of arrival_made
 first_arrivals t s k = map (λ x. choose (ltb (get_or s.states x absent) k) (arrival_made (graph_of t) s x) 0) (up_from 0 max_blocks)
-
--- what the code knows of a graph table t whose grouping is s: its successors, its starters marked, its starters and its blocks' states
-pub record Prepared (t : List ℕ) (s : Groups) (edges starts starters states : List ℕ) : Type 0 where
-  pub admits : admitted_graph t ≡ true
-  pub leading : (n : ℕ) → edges_in edges n ≡ successors (graph_of t) n
-  pub starting : (x : ℕ) → marked starts x ≡ mem x s.starters
-  pub its_starters : starters ≡ s.starters
-  pub its_states : states ≡ s.states
 
 -- such words with the first k states, and the number of the next wire
 pub record Filled (t : List ℕ) (s : Groups) (table : List ℕ) (k first : ℕ) : Type 0 where

@@ -1,5 +1,8 @@
 -- "Synthesise" of paper 01: the machine of a graph, the answer and the final machine table, on all inputs. Assumes nothing.
-use Rattle.std.specs.Prelude.{ℕ, not, ◌||◌, List, ◌++◌, map, length, drop, ltb}
+use Rattle.std.specs.Prelude.{ℕ, not, ◌||◌, List, ◌++◌, map, length, drop, ltb, Result, Ok, Err}
+use Rattle.refusal.specs.declared.Refusal.{Refusal}
+use Rattle.refusal.specs.declared.Refusal.TheVariants.{BadGraph, ShortBuffer}
+use Rattle.refusal.specs.Refusal.{number}
 use Rattle.word.specs.Word.{choose}
 use Rattle.runs.specs.Lists.{up_from}
 use Rattle.cfg.specs.Layout.{graph_words}
@@ -10,8 +13,6 @@ use Rattle.fsmd.specs.Machine.{FSMD}
 use Rattle.fsmd.specs.Table.{machine_table_of}
 use Rattle.grouping.specs.Grouping.{Groups, groups}
 use Rattle.state.specs.Wires.{state_made, arrival_made}
-use Rattle.synthesis.specs.declared.SynthesisAnswer.{SynthesisAnswer}
-use Rattle.synthesis.specs.declared.SynthesisAnswer.TheVariants.{Refused, Made}
 
 -- the machine of a graph whose grouping is s
 unfoldable pub machine_for : CFG → Groups → FSMD
@@ -29,16 +30,16 @@ unfoldable pub machine : CFG → FSMD
 unfolding machine_for groups
 machine g = machine_for g (groups g)
 
--- 7 a short table, the graph's before the machine's; 6 a graph table that is not admitted
-unfoldable pub synthesis_answer : List ℕ → List ℕ → SynthesisAnswer
+-- a short table is refused before a graph table that is not admitted
+unfoldable pub synthesis_answer : List ℕ → List ℕ → Result (Unit {0}) Refusal
 unfolding admitted_graph
 synthesis_answer t m =
-    choose (ltb (length t) graph_words || ltb (length m) machine_words) (Refused 7)
-    (choose (not (admitted_graph t)) (Refused 6) Made)
+    choose (ltb (length t) graph_words || ltb (length m) machine_words) (Err ShortBuffer)
+    (choose (not (admitted_graph t)) (Err BadGraph) (Ok tt))
 
-abbrev pub made : SynthesisAnswer → List ℕ → List ℕ → List ℕ
-made (Refused n) new old = old
-made Made new old = new
+abbrev pub made : Result (Unit {0}) Refusal → List ℕ → List ℕ → List ℕ
+made (Err refusal) new old = old
+made (Ok done) new old = new
 
 -- the words past the table stay
 unfoldable pub synthesis_words : List ℕ → List ℕ → List ℕ
@@ -46,6 +47,6 @@ unfolding synthesis_answer machine graph_of machine_table_of
 synthesis_words t m = made (synthesis_answer t m) (machine_table_of (machine (graph_of t)) ++ drop machine_words m) m
 
 -- paper 01's field of the answer: its number
-abbrev pub synthesis_number : SynthesisAnswer → ℕ
-synthesis_number (Refused n) = n
-synthesis_number Made = 0
+abbrev pub synthesis_number : Result (Unit {0}) Refusal → ℕ
+synthesis_number (Err refusal) = number refusal
+synthesis_number (Ok done) = 0

@@ -7,16 +7,16 @@ use mathlib.Core.Path.{◌≡◌, refl, sym, ap, ◌∙◌}
 use lib.Dec.{ltb}
 use lib.ListN.{length}
 use borrow.Author.Tests.{ltb-true, ltb-false}
+use Rattle.std.specs.Prelude.{Ok}
 use Rattle.runs.specs.Lists.{up_from, first}
 use Rattle.fsmd.specs.Layout.{machine_words}
 use Rattle.fsmd.specs.Touch.{touches}
 use Rattle.fsmd.specs.Machine.{State}
 use Rattle.fsmd.specs.Table.{state_count, admitted_machine}
 use Rattle.fsmd.proofs.PastTable.{past_whole, past_admitted, past_count, past_state}
-use Rattle.touching.specs.declared.TouchesAnswer.TheVariants as touched
-use Rattle.touching.specs.Touching.{touches_at, touches_answer, found, first_touching_answer}
+use Rattle.touching.specs.Touching.{touches_at, touches_answer, first_touching_answer}
 use Rattle.touching.proofs.Searches.{first_same}
-use Rattle.touching.proofs.Answers.{touches-other, touches-no-state, touches-answered, first_other, first-answered}
+use Rattle.touching.proofs.Answers.{touches_other, touches_no_state, touches_answered, first_other, first_answered}
 
 module _ (t u : List ℕ) (whole : machine_words ≤ length t) (i : ℕ) where
   past_touches_at : admitted_machine t ≡ true → (k : ℕ) → k < state_count t → touches_at (t ++ u) i k ≡ touches_at t i k
@@ -27,14 +27,14 @@ module _ (t u : List ℕ) (whole : machine_words ≤ length t) (i : ℕ) where
   past_touches k = go (admitted_machine t) (ltb k (state_count t)) refl refl
     where
       go : (b c : Bool) → admitted_machine t ≡ b → ltb k (state_count t) ≡ c → touches_answer (t ++ u) k i ≡ touches_answer t k i
-      go false c e d = touches-other (t ++ u) k i (past_whole t u whole) (past_admitted t u whole ∙ e) ∙ sym (touches-other t k i whole e)
+      go false c e d = touches_other (t ++ u) k i (past_whole t u whole) (past_admitted t u whole ∙ e) ∙ sym (touches_other t k i whole e)
       go true false e d =
           let h = ltb-false k (state_count t) d in
-          touches-no-state (t ++ u) k i (past_whole t u whole) (past_admitted t u whole ∙ e) (omega (arith, h, past_count t u whole)) ∙ sym (touches-no-state t k i whole e h)
+          touches_no_state (t ++ u) k i (past_whole t u whole) (past_admitted t u whole ∙ e) (omega (arith, h, past_count t u whole)) ∙ sym (touches_no_state t k i whole e h)
       go true true e d =
           let h = ltb-true k (state_count t) d in
-          touches-answered (t ++ u) k i (past_whole t u whole) (past_admitted t u whole ∙ e) (omega (arith, h, past_count t u whole))
-          ∙ ap (λ (b : Bool). touched.Answered b) (past_touches_at e k h) ∙ sym (touches-answered t k i whole e h)
+          touches_answered (t ++ u) k i (past_whole t u whole) (past_admitted t u whole ∙ e) (omega (arith, h, past_count t u whole))
+          ∙ ap Ok (past_touches_at e k h) ∙ sym (touches_answered t k i whole e h)
 
   pub past_first : first_touching_answer (t ++ u) i ≡ first_touching_answer t i
   past_first = go (admitted_machine t) refl
@@ -42,7 +42,7 @@ module _ (t u : List ℕ) (whole : machine_words ≤ length t) (i : ℕ) where
       go : (b : Bool) → admitted_machine t ≡ b → first_touching_answer (t ++ u) i ≡ first_touching_answer t i
       go false e = first_other (t ++ u) i (past_whole t u whole) (past_admitted t u whole ∙ e) ∙ sym (first_other t i whole e)
       go true e =
-          first-answered (t ++ u) i (past_whole t u whole) (past_admitted t u whole ∙ e)
-          ∙ ap (λ (n : ℕ). found (first (touches_at (t ++ u) i) (up_from 0 n))) (past_count t u whole)
-          ∙ ap found (first_same (touches_at (t ++ u) i) (touches_at t i) 0 (state_count t) (λ k lo h. past_touches_at e k (omega arith)))
-          ∙ sym (first-answered t i whole e)
+          first_answered (t ++ u) i (past_whole t u whole) (past_admitted t u whole ∙ e)
+          ∙ ap (λ (n : ℕ). Ok (first (touches_at (t ++ u) i) (up_from 0 n))) (past_count t u whole)
+          ∙ ap Ok (first_same (touches_at (t ++ u) i) (touches_at t i) 0 (state_count t) (λ k lo h. past_touches_at e k (omega arith)))
+          ∙ sym (first_answered t i whole e)

@@ -1,8 +1,6 @@
--- Differences of two natural numbers as integers: equal, summed, negated, their size. Assumes nothing.
-use Rattle.std.proofs.Common.{◌≡◌, ℕ, zero, suc, ◌+◌, ◌-◌, ◌^◌, ◌<◌, ◌≤◌, Bool, true, false, ◌||◌, ltb, leb, pos, negsuc, ◌+ℤ◌, neg_ℤ, refl, ap, ◌∙◌, true≢false, arith, ltb-false, ltb-true, le-ltb, lt-ltb, leb-false, leb-true}
+-- Differences of two natural numbers as integers: equal, summed, negated, inside the range. Assumes nothing.
+use Rattle.std.proofs.Common.{◌≡◌, ℕ, zero, suc, ◌+◌, ◌-◌, ◌^◌, ◌<◌, ◌≤◌, Bool, true, false, ◌||◌, ltb, pos, negsuc, ◌+ℤ◌, neg_ℤ, refl, ap, ◌∙◌, true≢false, arith, ltb-false, ltb-true, le-ltb, lt-ltb}
 use lib.IntN.{sub_ℕ}
-use lib.Signed.{mag}
-use borrow.Author.Tests.{lt-leb}
 use Rattle.word.specs.Word.{outside}
 
 pub same_difference : (a b c d : ℕ) → a + d ≡ c + b → sub_ℕ a b ≡ sub_ℕ c d
@@ -52,34 +50,11 @@ neg_difference a b = go (ltb a b) refl
         let l = ltb-false a b h in
         rw h (neg_pos (a - b) ∙ same_difference 0 (a - b) b a (omega arith))
 
--- ---- size
-
-pub mag_difference : (a b : ℕ) → mag (sub_ℕ a b) ≤ a + b
-mag_difference a b = go (ltb a b) refl
-  where
-    go : (t : Bool) → ltb a b ≡ t → mag (sub_ℕ a b) ≤ a + b
-    go true h = rw h (omega arith)
-    go false h = rw h (omega arith)
+-- ---- inside the range
 
 neither : (s t : Bool) → (s || t) ≡ false → (s ≡ false) × (t ≡ false)
 neither true t e = absurd (true≢false e)
 neither false t e = (refl, e)
-
--- outside the range, by the two numbers
-pub outside_difference : (a b : ℕ) → outside (sub_ℕ a b) ≡ (ltb (a + 2 ^ 31) b || leb (b + 2 ^ 31) a)
-outside_difference a b = go (ltb a b) refl
-  where
-    below : (t : Bool) → ltb (a + 2 ^ 31) b ≡ t → a < b → (ltb (2 ^ 31 - 1) (b - suc a) || false) ≡ (t || leb (b + 2 ^ 31) a)
-    below true e l = let p = ltb-true (a + 2 ^ 31) b e in rw (lt-ltb (2 ^ 31 - 1) (b - suc a) (omega arith))
-    below false e l = let p = ltb-false (a + 2 ^ 31) b e in rw (le-ltb (2 ^ 31 - 1) (b - suc a) (omega arith), lt-leb (b + 2 ^ 31) a (omega arith))
-
-    above : (t : Bool) → leb (b + 2 ^ 31) a ≡ t → b ≤ a → ltb (2 ^ 31 - 1) (a - b) ≡ (ltb (a + 2 ^ 31) b || t)
-    above true e l = let p = leb-true (b + 2 ^ 31) a e in rw (le-ltb (a + 2 ^ 31) b (omega arith)) (lt-ltb (2 ^ 31 - 1) (a - b) (omega arith))
-    above false e l = let p = leb-false (b + 2 ^ 31) a e in rw (le-ltb (a + 2 ^ 31) b (omega arith)) (le-ltb (2 ^ 31 - 1) (a - b) (omega arith))
-
-    go : (t : Bool) → ltb a b ≡ t → outside (sub_ℕ a b) ≡ (ltb (a + 2 ^ 31) b || leb (b + 2 ^ 31) a)
-    go true h = rw h (below (ltb (a + 2 ^ 31) b) refl (ltb-true a b h))
-    go false h = rw h (above (leb (b + 2 ^ 31) a) refl (ltb-false a b h))
 
 -- a - b is from -2 ^ 31 to 2 ^ 31 - 1
 pub record Inside (a b : ℕ) : Type 0 where

@@ -1,11 +1,11 @@
 -- Sums that go over: which codes can, what it says of the word that they give, and how the code tells. Assumes nothing.
-use Rattle.std.proofs.Common.{◌≡◌, ℕ, zero, suc, ◌+◌, ◌-◌, ◌%◌, ◌^◌, ◌<◌, Bool, true, false, not, ◌||◌, eqb, ltb, leb, ◌⊎◌, pos, negsuc, ◌+ℤ◌, ◌-ℤ◌, sym, refl, ap, ◌∙◌, ap₂, inl, inr, arith, lit<, w64, SFits, ltb-false, ltb-true, le-ltb, lt-ltb, eqb-true, le-leb}
-use mathlib.Core.Bool.{beq, false≢true}
-use borrow.Author.Tests.{lt-leb, eqb-false}
-use Rattle.word.specs.Word.{choose, signed_of, add_of, sub_of, compare_of, add_code, sub_code, eval_of, outside, exact_of, over_of, arity}
-use Rattle.word.specs.declared.Comparison.TheVariants.{Lt}
-use Rattle.word.proofs.Differences.{mag_difference, outside_difference, inside_difference}
-use Rattle.word.proofs.Levels.{level, lt_level, level_difference, sum_level, difference_level, AddStays, add_level, SubStays, sub_level}
+use Rattle.std.proofs.Common.{◌≡◌, ℕ, zero, suc, ◌+◌, ◌-◌, ◌%◌, ◌^◌, ◌<◌, Bool, true, false, not, eqb, ltb, ◌⊎◌, pos, negsuc, ◌+ℤ◌, ◌-ℤ◌, sym, refl, ap, ◌∙◌, inl, inr, arith, lit<, w32, SFits, ℤ, ltb-false, ltb-true, le-ltb, eqb-true}
+use Rattle.std.specs.Prelude.{Option, Some, None, SomeIff, is_some}
+use mathlib.Core.Bool.{false≢true, or-false}
+use borrow.Author.Tests.{eqb-false}
+use Rattle.word.specs.Word.{choose, signed_of, add_of, sub_of, add_code, sub_code, eval_of, outside, exact_of, over_of, arity}
+use Rattle.word.proofs.Differences.{inside_difference}
+use Rattle.word.proofs.Levels.{level, level_difference, sum_level, difference_level, AddStays, add_level, SubStays, sub_level}
 
 -- ---- the codes that can
 
@@ -104,38 +104,24 @@ exact_not_over s k a b c e = go (kind k)
     go (is_sub i) = sym (ap outside e) ∙ rw i (signed_inside (sub_of a b) (wrapped (a + (2 ^ 32 - b))))
     go (other p q) = over_other k a b p q
 
--- ---- how the code tells
+-- ---- how the code tells: by whether 32 bits hold the result
 
--- a difference goes over where its word's sign is not that of the order of a and b
-pub difference_order : (a b : ℕ) → a < 2 ^ 32 → b < 2 ^ 32
-    → not (beq (compare_of Lt a b) (compare_of Lt (sub_of a b) 0)) ≡ over_of sub_code a b
-unfolding over_of exact_of
-difference_order a b h k =
-    ap₂ (λ (s t : Bool). not (beq s t)) (lt_level a b h k) (lt_level (sub_of a b) 0 (wrapped (a + (2 ^ 32 - b))) (omega arith))
-    ∙ go (ltb (level a) (level b)) (ltb (level (sub_of a b)) (level 0)) refl refl
-    ∙ sym (ap outside (difference_level a b h k) ∙ outside_difference (level a + 2 ^ 31) (2 ^ 31 + level b))
+fits_inside : (z : ℤ) → SFits w32 z → outside z ≡ false
+fits_inside (pos n) f = let h = f.sfits in le-ltb (2 ^ 31 - 1) n (omega arith)
+fits_inside (negsuc n) f = let h = f.sfits in rw (le-ltb (2 ^ 31 - 1) n (omega arith)) refl
+
+inside_fits : (z : ℤ) → outside z ≡ false → SFits w32 z
+inside_fits (pos n) e = let h = ltb-false (2 ^ 31 - 1) n e in record { sfits = omega arith }
+inside_fits (negsuc n) e = let h = ltb-false (2 ^ 31 - 1) n (sym (or-false (ltb (2 ^ 31 - 1) n)) ∙ e) in record { sfits = omega arith }
+
+-- an operation that gives its result where it fits gives none where it is outside
+pub none_outside : (r : Option ℤ) (z : ℤ) (t : Bool) → SomeIff r (SFits w32 z) z → is_some r ≡ not t → t ≡ outside z
+none_outside r z t h e = go (outside z) refl t r e h
   where
-    go : (s t : Bool) → ltb (level a) (level b) ≡ s → ltb (level (sub_of a b)) (level 0) ≡ t
-        → not (beq s t) ≡ (ltb (level a + 2 ^ 31 + 2 ^ 31) (2 ^ 31 + level b) || leb (2 ^ 31 + level b + 2 ^ 31) (level a + 2 ^ 31))
-    go true true e f =
-        let p = ltb-true (level a) (level b) e in
-        let q = ltb-true (level (sub_of a b)) (level 0) f in
-        rw (le-ltb (level a + 2 ^ 31 + 2 ^ 31) (2 ^ 31 + level b) (omega arith), lt-leb (2 ^ 31 + level b + 2 ^ 31) (level a + 2 ^ 31) (omega arith))
-    go true false e f =
-        let p = ltb-true (level a) (level b) e in
-        let q = ltb-false (level (sub_of a b)) (level 0) f in
-        rw (lt-ltb (level a + 2 ^ 31 + 2 ^ 31) (2 ^ 31 + level b) (omega arith))
-    go false true e f =
-        let p = ltb-false (level a) (level b) e in
-        let q = ltb-true (level (sub_of a b)) (level 0) f in
-        rw (le-ltb (level a + 2 ^ 31 + 2 ^ 31) (2 ^ 31 + level b) (omega arith), le-leb (2 ^ 31 + level b + 2 ^ 31) (level a + 2 ^ 31) (omega arith))
-    go false false e f =
-        let p = ltb-false (level a) (level b) e in
-        let q = ltb-false (level (sub_of a b)) (level 0) f in
-        rw (le-ltb (level a + 2 ^ 31 + 2 ^ 31) (2 ^ 31 + level b) (omega arith), lt-leb (2 ^ 31 + level b + 2 ^ 31) (level a + 2 ^ 31) (omega arith))
-
--- 64 bits hold a sum
-pub sum_fits : (a b : ℕ) → a < 2 ^ 32 → b < 2 ^ 32 → SFits w64 (signed_of a +ℤ signed_of b)
-sum_fits a b h k =
-    let m = mag_difference (level a + level b) (2 ^ 31 + 2 ^ 31) in
-    rw (sum_level a b h k) (record { sfits = omega arith })
+    go : (o : Bool) → outside z ≡ o → (t : Bool) (r : Option ℤ) → is_some r ≡ not t → SomeIff r (SFits w32 z) z → t ≡ o
+    go true p true r e h = refl
+    go false p false r e h = refl
+    go true p false None e h = absurd (false≢true e)
+    go true p false (Some x) e h = absurd (false≢true (sym (fits_inside z h.0) ∙ p))
+    go false p true (Some x) e h = absurd (false≢true (sym e))
+    go false p true None e h = absurd (h (inside_fits z p))

@@ -7,10 +7,12 @@ use mathlib.Core.List.{List, [], ◌++◌}
 use lib.ListN.{length, take, drop, length-append}
 use lib.Seq.{length-take-le}
 use borrow.Author.Tests.{le-ltb}
+use Rattle.std.specs.Prelude.{Ok}
 use Rattle.word.specs.Word.{eval_of}
 use Rattle.runs.specs.Lists.{concat_map}
 use Rattle.runs.specs.Runs.{Contents, Configuration, stands_at, start_at, unread, Runner, step, times, steps_run, answer}
-use Rattle.runs.specs.declared.RunAnswer.TheVariants.{Spent}
+use Rattle.runs.specs.declared.RunEnd.{RunEnd}
+use Rattle.runs.specs.declared.RunEnd.TheVariants.{Spent}
 use Rattle.runs.proofs.OperationLaws.{accepted}
 use Rattle.cfg.specs.Layout.{graph_words}
 use Rattle.cfg.specs.Graph.{run_block, graph_runner, wordless_graph}
@@ -83,26 +85,26 @@ module _ (rest : List ℕ) where
   machine_admitted = refl
 
   module _ (buffer : List ℕ) (full : max_registers ≤ length buffer) (k : ℕ) where
-    graph_spent : graph_answer graph_with buffer 0 k ≡ Spent k 0 false
+    graph_spent : graph_answer graph_with buffer 0 k ≡ Ok (Spent k 0 false)
     unfolding graph_of graph_table_of concat_map wordless_graph P11
     graph_spent =
         accepted (graph_runner (graph_of graph_with) []) unread buffer 0 k (graph_refusal graph_with buffer 0)
         (none_refused graph_with buffer 0 (admitted_facts graph_with graph_admitted).long full graph_admitted refl (omega arith))
-        ∙ graph_endless (take max_registers buffer) k
+        ∙ ap (λ (end : RunEnd). Ok end) (graph_endless (take max_registers buffer) k)
 
-    machine_spent : machine_answer machine_with buffer 0 k ≡ Spent k 0 false
+    machine_spent : machine_answer machine_with buffer 0 k ≡ Ok (Spent k 0 false)
     unfolding machine_of machine_table_of concat_map wordless_machine machine clock P11
     machine_spent =
         accepted (machine_runner (machine_of machine_with)) unread buffer 0 k (machine_refusal machine_with buffer 0)
         (refuse_none machine_with buffer 0 machine_long full machine_admitted refl (omega arith))
-        ∙ machine_endless (take max_registers buffer) (length-take-le max_registers buffer full) k
+        ∙ ap (λ (end : RunEnd). Ok end) (machine_endless (take max_registers buffer) (length-take-le max_registers buffer full) k)
 
 module _ (graph : List ℕ) (long : graph_words ≤ length graph) where
   text_read : read_words p11_text graph ≡ graph_table_of P11 ++ drop graph_words graph
   unfolding read_words p11_text P11
   text_read = rw (le-ltb (length graph) graph_words long)
 
-  pub run_graph_endless : (buffer : List ℕ) → max_registers ≤ length buffer → (k : ℕ) → graph_answer (read_words p11_text graph) buffer 0 k ≡ Spent k 0 false
+  pub run_graph_endless : (buffer : List ℕ) → max_registers ≤ length buffer → (k : ℕ) → graph_answer (read_words p11_text graph) buffer 0 k ≡ Ok (Spent k 0 false)
   run_graph_endless buffer full k = rw text_read (graph_spent (drop graph_words graph) buffer full k)
 
   module _ (made : List ℕ) (room : machine_words ≤ length made) where
@@ -113,5 +115,5 @@ module _ (graph : List ℕ) (long : graph_words ≤ length graph) where
         rw text_read (made_words t made (admitted_made t made (graph_admitted (drop graph_words graph)) room))
 
     pub run_machine_endless : (buffer : List ℕ) → max_registers ≤ length buffer → (k : ℕ)
-        → machine_answer (synthesis_words (read_words p11_text graph) made) buffer 0 k ≡ Spent k 0 false
+        → machine_answer (synthesis_words (read_words p11_text graph) made) buffer 0 k ≡ Ok (Spent k 0 false)
     run_machine_endless buffer full k = rw table_made (machine_spent (drop machine_words made) buffer full k)

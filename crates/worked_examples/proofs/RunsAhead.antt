@@ -5,6 +5,7 @@ use mathlib.Core.Bool.{true, false}
 use mathlib.Core.List.{List, ◌∷◌}
 use mathlib.Core.Path.{◌≡◌, refl, sym, ap, ◌∙◌}
 use lib.ListN.{get_or, replicate}
+use Rattle.std.specs.Prelude.{Ok}
 use Rattle.word.specs.Word.{eval_of}
 use Rattle.runs.specs.Lists.{concat_map}
 use Rattle.runs.specs.Runs.{halted, Contents, Configuration, stands_at, start_at, unread, Runner, step, times, steps_run}
@@ -16,7 +17,6 @@ use Rattle.fsmd.specs.Machine.{clock, machine_runner}
 use Rattle.fsmd.specs.Table.{machine_table_of, machine_of, admitted_machine}
 use Rattle.grouping.specs.Grouping.{groups}
 use Rattle.synthesis.specs.Synthesis.{machine, synthesis_answer, synthesis_words}
-use Rattle.synthesis.specs.declared.SynthesisAnswer.TheVariants.{Made}
 use Rattle.agreement.specs.Agreement.{Agreement, AgreementWithoutWords}
 use Rattle.agreement.proofs.TableAgreement.{without_words, synthesised_agrees}
 use Rattle.worked_examples.specs.Graphs.{Twice}
@@ -106,7 +106,7 @@ halting_refuted = runs_ahead_refuted halting halting_runs_ahead
 
 -- ---- and the machine that Synthesise makes is not refuted
 
-twice_made : synthesis_answer (graph_table_of Twice) no_machine ≡ Made
+twice_made : synthesis_answer (graph_table_of Twice) no_machine ≡ Ok tt
 unfolding synthesis_answer graph_table_of concat_map Twice
 twice_made = refl
 

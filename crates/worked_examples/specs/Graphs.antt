@@ -1,7 +1,7 @@
 -- The graphs of the worked examples. Where paper 01 leaves a comparison or a register open, any will do. Assumes nothing.
 use Rattle.std.specs.Prelude.{ℕ, List, [], ◌∷◌, length}
 use Rattle.word.specs.declared.Comparison.{Comparison}
-use Rattle.word.specs.declared.Comparison.TheVariants.{Eq, Ne, Lt, Ge, Ltu, Geu}
+use Rattle.word.specs.declared.Comparison.TheVariants.{Eq, Ne, Lt, Ltu, Geu}
 use Rattle.runs.specs.Lists.{padded}
 use Rattle.cfg.specs.declared.Instruction.{Instruction}
 use Rattle.cfg.specs.declared.Ending.{Ending}

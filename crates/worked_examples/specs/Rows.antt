@@ -1,9 +1,10 @@
 -- A row of the table, and what its tests read: the fields of answers. Assumes nothing.
-use Rattle.std.specs.Prelude.{ℕ, Bool, List, [], ◌∷◌, replicate}
+use Rattle.std.specs.Prelude.{ℕ, Bool, List, [], ◌∷◌, replicate, Result}
 use Prim.Native.String.{String}
 use Rattle.runs.specs.Lists.{same}
 use Rattle.runs.specs.Runs.{run_number, run_outcome, run_count, run_next, run_flag}
-use Rattle.runs.specs.declared.RunAnswer.{RunAnswer}
+use Rattle.refusal.specs.declared.Refusal.{Refusal}
+use Rattle.runs.specs.declared.RunEnd.{RunEnd}
 use Rattle.cfg.specs.Layout.{graph_words}
 use Rattle.capture.specs.Capture.{compare_captures, refusal_number, faulty_recording, faulty_line, shared_count, differs_flag, differing_cycle}
 use Rattle.cfg_text.specs.Read.{read_answer, read_number, read_line}
@@ -33,11 +34,11 @@ abbrev pub read_result : List ℕ → List ℕ
 read_result text = reading_into no_graph text
 
 -- number, outcome, count, next and flag of a run
-abbrev pub fields : RunAnswer → List ℕ
+abbrev pub fields : Result RunEnd Refusal → List ℕ
 fields r = run_number r ∷ run_outcome r ∷ run_count r ∷ run_next r ∷ run_flag r ∷ []
 
 -- a run that is refused with number n: zero in every other field
-abbrev pub refused_with : ℕ → RunAnswer → Bool
+abbrev pub refused_with : ℕ → Result RunEnd Refusal → Bool
 refused_with n r = same (fields r) (n ∷ 0 ∷ 0 ∷ 0 ∷ 0 ∷ [])
 
 -- sixteen register words

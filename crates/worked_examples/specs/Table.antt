@@ -1,10 +1,10 @@
 -- The worked examples P1 to P13, answers of R-1, placements of R-3 and captures of R-12 as computed tests; with those of the other files one table, and one statement of all. Assumes nothing.
-use Rattle.std.specs.Prelude.{ℕ, ◌≤◌, Bool, true, false, not, ◌&&◌, List, [], ◌∷◌, ◌++◌, map, ◌≡◌, length, replicate, T, eqb}
+use Rattle.std.specs.Prelude.{ℕ, ◌≤◌, Bool, true, false, ◌&&◌, List, [], ◌∷◌, ◌++◌, map, ◌≡◌, length, replicate, T, eqb, Ok}
 use Rattle.word.specs.Word.{eval_of}
 use Rattle.runs.specs.Lists.{same, every, concat_map}
 use Rattle.runs.specs.Runs.{start_at, unread, answer}
 use Rattle.runs.specs.Operations.{answered, registers_left}
-use Rattle.runs.specs.declared.RunAnswer.TheVariants.{Spent}
+use Rattle.runs.specs.declared.RunEnd.TheVariants.{Spent}
 use Rattle.cfg.specs.Layout.{graph_words}
 use Rattle.cfg.specs.Graph.{CFG, run_block, graph_runner}
 use Rattle.cfg.specs.Table.{graph_table_of, graph_of, admitted_graph}
@@ -178,6 +178,6 @@ pub record WorkedExamples : Type 0 where
   pub machine_endless : (rs : List ℕ) → length rs ≡ max_registers → (k : ℕ) → answer (machine_runner (machine P11)) unread k (start_at 0 rs) ≡ Spent k 0 false
   -- and so the operations answer, from its text on, whatever the tables and the register buffer held
   pub run_graph_endless : (graph : List ℕ) → graph_words ≤ length graph
-      → (buffer : List ℕ) → max_registers ≤ length buffer → (k : ℕ) → graph_answer (read_words p11_text graph) buffer 0 k ≡ Spent k 0 false
+      → (buffer : List ℕ) → max_registers ≤ length buffer → (k : ℕ) → graph_answer (read_words p11_text graph) buffer 0 k ≡ Ok (Spent k 0 false)
   pub run_machine_endless : (graph : List ℕ) → graph_words ≤ length graph → (made : List ℕ) → machine_words ≤ length made
-      → (buffer : List ℕ) → max_registers ≤ length buffer → (k : ℕ) → machine_answer (synthesis_words (read_words p11_text graph) made) buffer 0 k ≡ Spent k 0 false
+      → (buffer : List ℕ) → max_registers ≤ length buffer → (k : ℕ) → machine_answer (synthesis_words (read_words p11_text graph) made) buffer 0 k ≡ Ok (Spent k 0 false)

@@ -3,8 +3,8 @@ use Rattle.capture.specs.Steps.{left}
 use Rattle.capture.proofs.Answers.{Reached}
 use Rattle.capture.proofs.compare_captures.Given as goal
 
-abbrev pub invariant-loop-n : goal.invariant-loop-n
-invariant-loop-n l = Reached l.registers l.first l.second l.m
+abbrev pub invariant-loop-next : goal.invariant-loop-next
+invariant-loop-next l = Reached l.registers l.first l.second l.m
 
-abbrev pub decreases-loop-n : goal.decreases-loop-n
-decreases-loop-n l = left l.first l.second l.m
+abbrev pub decreases-loop-next : goal.decreases-loop-next
+decreases-loop-next l = left l.first l.second l.m

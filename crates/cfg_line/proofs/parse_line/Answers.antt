@@ -1,47 +1,37 @@
 -- `cfg_line::parse_line` meets its contract. Assumes nothing.
-use mathlib.Core.Path.{◌∙◌, sym, ap}
-use native.Mathlib.Omega.{arith}
-use lib.ListN.{drop}
+use Rattle.std.proofs.Common.{◌∙◌, drop, sym, ap, arith, rules}
+use Rattle.std.specs.Prelude.{Option}
+use Rattle.cfg_line.specs.declared.Line.{Line}
 use Rattle.cfg_line.specs.Form.{form_of}
 use Rattle.cfg_line.specs.Cursor.{parsed}
-use Rattle.cfg_line.specs.declared.Line.{Line}
-use mathlib.Core.List.{[], ◌∷◌}
-use Rattle.cfg_line.specs.declared.Keyword.{Keyword}
-use Rattle.cfg_line.specs.Cursor.{parsed_at}
-use Rattle.cfg_line.proofs.Names.{named, field_bytes, unnamed_line, more_fields, alone}
+use Rattle.cfg_line.proofs.Names.{unnamed_line, no_word, more_fields, name_alone}
 use Rattle.cfg_line.proofs.Otherwise.{not_halt}
 use Rattle.cfg_line.proofs.parse_line.Goals as goal
 
+pub returns-in_err-name : goal.returns-in_err-name
+returns-in_err-name c =
+    rw c.from_residual.ensures (unnamed_line c.args.at (drop c.args.at c.args.text.now) (sym c.name_at.ensures ∙ c.in_err-name.was))
+
+pub returns-in_err-word : goal.returns-in_err-word
+returns-in_err-word c =
+    let t = c.args.text.now in
+    rw c.from_residual-in_err-word.ensures
+    (no_word t c.args.at (λ i. omega (arith, c.type_inv.text i)) c.in_ok-name.name (sym c.name_at.ensures ∙ c.in_ok-name.was) c.keyword_of.result c.keyword_of.ensures c.in_err-word.was)
+
+pub returns-then-name-eq44 : goal.returns-then-name-eq44
+returns-then-name-eq44 c =
+    let t = c.args.text.now in
+    c.form.ensures
+    ∙ more_fields t c.args.at (λ i. omega (arith, c.type_inv.text i)) c.in_ok-name.name (sym c.name_at.ensures ∙ c.in_ok-name.was) c.keyword_of.result c.keyword_of.ensures c.in_ok-word.was c.if-name-eq44.true
+
+pub returns-in-Halt : goal.returns-in-Halt
+unfolding form_of
+returns-in-Halt c =
+    let t = c.args.text.now in
+    rw c.in-Halt.is at (name_alone t c.args.at (λ i. omega (arith, c.type_inv.text i)) c.in_ok-name.name (sym c.name_at.ensures ∙ c.in_ok-name.was) c.keyword_of.result c.keyword_of.ensures c.in_ok-word.was c.if-name-eq44.false)
+
 pub returns-in_default : goal.returns-in_default
 returns-in_default c =
-    let a = c.args in
-    let t = a.text.now in
-    c.no_form.ensures ∙ sym (unnamed_line a.at (drop a.at t) (sym c.name_at.ensures ∙ c.in_default.is))
-
-pub returns-then-stop-eq44 : goal.returns-then-stop-eq44
-returns-then-stop-eq44 c =
-    let a = c.args in
-    let t = a.text.now in
-    let n = named a.at (drop a.at t) (sym c.name_at.ensures ∙ c.in-Packed.is) in
-    let g = field_bytes t a.at n.f (c.in-Packed.stop ∷ n.t) (λ i. omega (arith, c.type_inv.text i)) n.front_is in
-    let w = c.keyword_of-word.ensures n.f g n.key_is in
-    c.form.ensures ∙ ap (λ (k : Keyword). parsed_at (form_of k) c.in-Packed.next (drop c.in-Packed.next t)) w ∙ sym (more_fields t a.at c.in-Packed.key c.in-Packed.next c.in-Packed.stop n c.if-stop-eq44.true)
-
-pub returns-in_default-word : goal.returns-in_default-word
-returns-in_default-word c =
-    let a = c.args in
-    let t = a.text.now in
-    let n = named a.at (drop a.at t) (sym c.name_at.ensures ∙ c.in-Packed.is) in
-    let g = field_bytes t a.at n.f (c.in-Packed.stop ∷ n.t) (λ i. omega (arith, c.type_inv.text i)) n.front_is in
-    let w = c.keyword_of-word.ensures n.f g n.key_is in
-    c.no_form-in_default-word.ensures ∙ sym (alone t a.at c.in-Packed.key c.in-Packed.next c.in-Packed.stop n c.if-stop-eq44.false ∙ ap (λ (l : Line). parsed l c.in-Packed.next) (ap (λ (k : Keyword). form_of k []) (sym w) ∙ not_halt c.keyword_of-word.result c.in_default-word.not-Halt))
-
-pub returns : goal.returns
-unfolding form_of
-returns c =
-    let a = c.args in
-    let t = a.text.now in
-    let n = named a.at (drop a.at t) (sym c.name_at.ensures ∙ c.in-Packed.is) in
-    let g = field_bytes t a.at n.f (c.in-Packed.stop ∷ n.t) (λ i. omega (arith, c.type_inv.text i)) n.front_is in
-    let w = c.keyword_of-word.ensures n.f g n.key_is in
-    sym (alone t a.at c.in-Packed.key c.in-Packed.next c.in-Packed.stop n c.if-stop-eq44.false ∙ ap (λ (k : Keyword). parsed (form_of k []) c.in-Packed.next) (sym w ∙ c.in-Halt.is))
+    let t = c.args.text.now in
+    ap (λ (o : Option Line). parsed o c.in_ok-name.name.next) (sym (not_halt c.in_ok-word.word (search rules)))
+    ∙ name_alone t c.args.at (λ i. omega (arith, c.type_inv.text i)) c.in_ok-name.name (sym c.name_at.ensures ∙ c.in_ok-name.was) c.keyword_of.result c.keyword_of.ensures c.in_ok-word.was c.if-name-eq44.false

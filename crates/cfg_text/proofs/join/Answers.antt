@@ -1,24 +1,13 @@
--- `cfg_text::join` meets its contract. Assumes nothing.
-use native.Mathlib.Omega.{arith}
-use mathlib.Core.Path.{◌∙◌, sym}
-use Rattle.cfg_text.specs.Walk.{next}
-use Rattle.cfg_text.proofs.Steps.{joins, bad_register}
+-- The instruction's words are stored behind the block's others. Assumes nothing.
+use Rattle.std.proofs.Common.{refl, sym, ◌∙◌, ◌+◌, ◌*◌, arith}
+use Rattle.cfg.specs.Layout.{block_offset, code_offset, instruction_words}
+use Rattle.cfg.specs.Table.{instruction_words_of}
+use Rattle.cfg_text.proofs.Steps.{joins, stored}
 use Rattle.cfg_text.proofs.join.Goals as goal
 
-pub returns-then-registers_below : goal.returns-then-registers_below
-unfolding next
-returns-then-registers_below c =
-    let p = c.args.p in
-    let m = c.args.n in
-    let i = c.args.i in
-    let w = c.args.words.now in
-    λ b r bs is s. joins p w b r bs is s m i _ (omega arith) (sym c.registers_below.ensures ∙ c.if-registers_below.true) c.put_four.ensures
-
 pub returns : goal.returns
-unfolding next
 returns c =
-    let p = c.args.p in
-    let m = c.args.n in
-    let i = c.args.i in
-    let w = c.args.words.now in
-    λ b r bs is s. bad_register p w b r bs is s m i w (omega arith) (sym c.registers_below.ensures ∙ c.if-registers_below.false)
+    let at = block_offset c.args.block.before.done + code_offset + instruction_words * c.args.block.count in
+    λ b r bs is s.
+    joins c.args.block c.args.words.now b r bs is s c.args.i _ _ (omega arith) (sym c.registers_below.ensures ∙ c.if-not-registers_below.false) refl refl
+    (stored c.args.words.now (instruction_words_of c.args.i) at (at + instruction_words) (omega arith) (omega arith) c.copy_from_slice.ensures.after)

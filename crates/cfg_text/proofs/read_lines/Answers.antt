@@ -1,45 +1,44 @@
--- `cfg_text::read_lines` meets its contract. Assumes nothing.
-use mathlib.Core.Path.{◌∙◌, refl}
-use native.Mathlib.Omega.{arith}
-use Rattle.cfg_text.proofs.Reached.{reached_start, reached_room, reached_end, reached_next, reached_ahead, reached_stop}
+-- Each line: none, one that is refused, or one more; and the end of the text. Assumes nothing.
+use Rattle.std.proofs.Common.{◌∙◌, sym, arith, rules}
+use Rattle.std.proofs.lemmas.Result.{err_from_is_err_and}
+use Rattle.cfg_text.proofs.Reached.{Told, reached_start, reached_few, reached_end, reached_none, reached_next, reached_ahead, reached_stop}
 use Rattle.cfg_text.proofs.read_lines.Goals as goal
 
 pub loop-at-init : goal.loop-at-init
-loop-at-init c = (refl, reached_start c.args.text.now c.args.words.now c.requires.1)
+loop-at-init c = reached_start c.args.text.now c.args.words.now c.requires.1
 
-pub step-moved-requires : goal.step-moved-requires
-step-moved-requires c =
+pub returns-in_default : goal.returns-in_default
+returns-in_default c =
     let l = c.loop-at in
-    let t = c.args.text.now in
-    let R = l.invariant.1 in
-    reached_room t l.words l.p l.at l.n R
+    reached_none c.args.text.now l.words l.p l.at l.line l.invariant c.loop-at-test.true l.words (sym c.parse_line.ensures ∙ c.in_default.is)
 
-pub returns-in-Stop : goal.returns-in-Stop
-returns-in-Stop c =
+pub step-requires : goal.step-requires
+step-requires c =
     let l = c.loop-at in
-    let t = c.args.text.now in
-    let R = l.invariant.1 in
-    reached_stop t l.words l.p l.at l.n R c.loop-at-test.true c.parse_line-parsed.result c.parse_line-parsed.ensures c.step-moved.new.words c.in-Stop.refusal (rw c.in-Stop.is at (c.step-moved.ensures R.progress R.stands))
+    reached_few c.args.text.now l.words l.p l.at l.line l.invariant c.loop-at-test.true l.words c.in-Some.parsed (sym c.parse_line.ensures ∙ c.in-Some.is)
+
+pub returns-in_err-p : goal.returns-in_err-p
+returns-in_err-p c =
+    let l = c.loop-at in
+    let p = err_from_is_err_and c.from_residual.result c.from_residual.ensures.1 in
+    let t : Told c.step.result l.line c.map_err.result = search rules in
+    rw (p.1, p.2)
+    (reached_stop c.args.text.now l.words l.p l.at l.line l.invariant c.loop-at-test.true c.step.new.words c.in-Some.parsed (sym c.parse_line.ensures ∙ c.in-Some.is) c.step.result c.map_err.result t c.in_err-p.was (c.step.ensures l.invariant.progress l.invariant.stands))
 
 pub loop-at-smaller : goal.loop-at-smaller
 loop-at-smaller c =
     let l = c.loop-at in
-    let t = c.args.text.now in
-    let R = l.invariant.1 in
-    let g = reached_ahead t l.words l.p l.at l.n R c.loop-at-test.true c.parse_line-parsed.result c.parse_line-parsed.ensures c.step-moved.new.words c.in-Go.q (rw c.in-Go.is at (c.step-moved.ensures R.progress R.stands)) in
+    let g = reached_ahead c.args.text.now l.words l.p l.at l.line l.invariant c.loop-at-test.true l.words c.in-Some.parsed (sym c.parse_line.ensures ∙ c.in-Some.is) in
     let h = c.loop-at-test.true in
     omega arith
 
 pub loop-at-preserved : goal.loop-at-preserved
 loop-at-preserved c =
     let l = c.loop-at in
-    let t = c.args.text.now in
-    let R = l.invariant.1 in
-    (c.step-moved.auto.words ∙ l.invariant.0, reached_next t l.words l.p l.at l.n R c.loop-at-test.true c.parse_line-parsed.result c.parse_line-parsed.ensures c.step-moved.new.words c.in-Go.q (rw c.in-Go.is at (c.step-moved.ensures R.progress R.stands)))
+    let t : Told c.step.result l.line c.map_err.result = search rules in
+    reached_next c.args.text.now l.words l.p l.at l.line l.invariant c.loop-at-test.true c.step.new.words c.in-Some.parsed (sym c.parse_line.ensures ∙ c.in-Some.is) c.step.result c.map_err.result t c.in_ok-p.was (c.step.ensures l.invariant.progress l.invariant.stands)
 
 pub returns : goal.returns
 returns c =
     let l = c.loop-at in
-    let t = c.args.text.now in
-    let R = l.invariant.1 in
-    reached_end t l.words l.p l.at l.n R c.at_end.result c.loop-at-test.false (c.at_end.ensures R.progress l.words R.stands)
+    reached_end c.args.text.now l.words l.p l.at l.line l.invariant c.at_end.result c.loop-at-test.false (c.at_end.ensures l.invariant.progress l.words l.invariant.stands)

@@ -1,13 +1,7 @@
--- `cfg_text::read_text` meets its contract. Assumes nothing.
-use Rattle.cfg_text.specs.declared.ReadAnswer.TheVariants.{Read}
-use borrow.Author.Rules.{rules}
-use mathlib.Core.Path.{◌≡◌, ◌∙◌, ap}
-use mathlib.Core.List.{◌++◌}
-use Prim.Native.Nat.{ℕ}
-use native.Mathlib.Omega.{arith}
-use lib.ListN.{length, drop}
-use Rattle.buffers.proofs.Copies.{sets_front}
+-- The refusals in their order, or the table that the lines made. Assumes nothing.
+use Rattle.std.proofs.Common.{sym, ◌∙◌, ap, ◌++◌, List, ℕ, drop, arith, length-take}
 use Rattle.cfg.specs.Layout.{graph_words}
+use Rattle.std.proofs.lemmas.Result.{err_from_is_err_and}
 use Rattle.cfg_text.proofs.Answering.{blank, too_long, too_short, answered, stays, written_over}
 use Rattle.cfg_text.proofs.read_text.Goals as goal
 
@@ -23,31 +17,32 @@ returns-then-table-lt-WORDS-clause-value c = (too_short c.args.text.now c.args.t
 pub returns-then-table-lt-WORDS-clause-table_after : goal.returns-then-table-lt-WORDS-clause-table_after
 returns-then-table-lt-WORDS-clause-table_after c = (too_short c.args.text.now c.args.table.now c.if-text-gt-TEXT.false c.if-table-lt-WORDS.true).1
 
-pub read_lines-answer-requires : goal.read_lines-answer-requires
-read_lines-answer-requires c = (c.if-text-gt-TEXT.false, blank)
+pub read_lines-requires : goal.read_lines-requires
+read_lines-requires c = (c.if-text-gt-TEXT.false, blank)
 
-pub returns-in_default-clause-value : goal.returns-in_default-clause-value
-returns-in_default-clause-value c =
-    let q = c.read_lines-answer in
-    answered c.args.text.now c.args.table.now c.if-text-gt-TEXT.false c.if-table-lt-WORDS.false q.result q.new.words q.ensures
+pub returns-in_err-read_lines-clause-value : goal.returns-in_err-read_lines-clause-value
+returns-in_err-read_lines-clause-value c =
+    let q = c.read_lines in
+    let p = err_from_is_err_and c.from_residual.result c.from_residual.ensures.1 in
+    let a = answered c.args.text.now c.args.table.now c.if-text-gt-TEXT.false c.if-table-lt-WORDS.false q.result q.new.words q.ensures in
+    rw (p.1, p.2) (sym c.in_err-read_lines.was ∙ a)
 
-pub returns-in_default-clause-table_after : goal.returns-in_default-clause-table_after
-returns-in_default-clause-table_after c =
-    let q = c.read_lines-answer in
-    stays c.args.text.now c.args.table.now c.if-text-gt-TEXT.false c.if-table-lt-WORDS.false q.result q.new.words q.ensures (search rules)
+pub returns-in_err-read_lines-clause-table_after : goal.returns-in_err-read_lines-clause-table_after
+returns-in_err-read_lines-clause-table_after c =
+    let q = c.read_lines in
+    stays c.args.text.now c.args.table.now c.if-text-gt-TEXT.false c.if-table-lt-WORDS.false q.result q.new.words q.ensures c.in_err-read_lines.was
+
+pub copy_from_slice-requires : goal.copy_from_slice-requires
+copy_from_slice-requires c = omega (arith, length-take graph_words c.args.table.now)
 
 pub returns-clause-value : goal.returns-clause-value
 returns-clause-value c =
-    let q = c.read_lines-answer in
-    let told : Read ≡ q.result = search rules in
-    told ∙ answered c.args.text.now c.args.table.now c.if-text-gt-TEXT.false c.if-table-lt-WORDS.false q.result q.new.words q.ensures
+    let q = c.read_lines in
+    let a = answered c.args.text.now c.args.table.now c.if-text-gt-TEXT.false c.if-table-lt-WORDS.false q.result q.new.words q.ensures in
+    sym c.in_ok-read_lines.was ∙ a
 
 pub returns-clause-table_after : goal.returns-clause-table_after
 returns-clause-table_after c =
-    let q = c.read_lines-answer in
-    let w = c.args.table.now in
-    let v = q.new.words in
-    let whole : length v ≡ graph_words = omega arith in
-    let told : q.result ≡ Read = search rules in
-    written_over c.args.text.now w c.if-text-gt-TEXT.false c.if-table-lt-WORDS.false q.result v q.ensures c.copy_words.new.to told
-    (c.copy_words.ensures ∙ sets_front w v (omega arith) ∙ ap (λ (n : ℕ). v ++ drop n w) whole)
+    let q = c.read_lines in
+    written_over c.args.text.now c.args.table.now c.if-text-gt-TEXT.false c.if-table-lt-WORDS.false q.result q.new.words q.ensures _ c.in_ok-read_lines.was
+    (ap (λ (l : List ℕ). l ++ drop graph_words c.args.table.now) c.copy_from_slice.ensures.after)

@@ -1,15 +1,12 @@
 -- `write_text` passes on what writing promises, and that reading gives the table back follows from the bytes it leaves. Assumes nothing.
-use mathlib.Core.Path.{sym, ◌∙◌, subst}
+use mathlib.Core.Path.{sym, ◌∙◌}
 use Rattle.cfg_write.proofs.Whole.{all_words_lem}
 use Rattle.cfg_write.proofs.RoundTrip.{write_then_read}
-use Rattle.compiler.specs.Answers.{WriteValues}
 use Rattle.compiler.proofs.Values.{write_values}
 use Rattle.compiler.proofs.write_text.Goals as goal
 
 pub returns-clause-write_values : goal.returns-clause-write_values
-returns-clause-write_values c =
-    let a = c.args in
-    subst (WriteValues a.table.now a.out.now) (sym c.write_text.ensures.value) (write_values a.table.now a.out.now)
+returns-clause-write_values c = rw c.write_text.ensures.value (write_values c.args.table.now c.args.out.now)
 
 pub returns-clause-read_again : goal.returns-clause-read_again
 returns-clause-read_again c =

@@ -11,6 +11,3 @@ invariant-loop-i l =
     × Left l.at l.i l.left l.out (sets l.initial.out l.at (decimal_of l.n))
     × (length l.out ≡ length l.initial.out)
     × (l.i ≤ l.end)
-
-abbrev pub decreases-loop-i : goal.decreases-loop-i
-decreases-loop-i l = l.i

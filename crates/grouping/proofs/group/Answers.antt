@@ -10,23 +10,28 @@ use Rattle.grouping.proofs.group.Goals as goal
 
 pub loop-block-init : goal.loop-block-init
 loop-block-init c =
-    let e = c.edges_of-edges in
-    let l = c.loop_starters-starters in
-    (round_first (graph_of c.args.table.now) (admitted_closed c.args.table.now c.requires) e.result e.ensures l.result l.ensures.0 l.ensures.1, c.populate-states.ensures)
+    (round_first (graph_of c.args.graph.words.now) (admitted_closed c.args.graph.words.now c.args.graph.admitted) c.edges_of-edges.result c.edges_of-edges.ensures c.loop_starters-starters.result c.loop_starters-starters.ensures, c.populate-states.ensures)
 
-pub returns-in_default : goal.returns-in_default
-unfolding grouping_of
-returns-in_default c =
+pub add-requires : goal.add-requires
+add-requires c =
     let l = c.loop-block in
-    round_last (graph_of c.args.table.now) (admitted_closed c.args.table.now c.requires) c.edges_of-edges.result c.edges_of-edges.ensures (groups (graph_of c.args.table.now)) l.starters l.invariant.0 l.states l.invariant.1 (sym c.detect-found.ensures ∙ c.in_default.is)
-
-pub with-more-requires : goal.with-more-requires
-with-more-requires c =
-    let l = c.loop-block in
-    (l.invariant.0.listed, illegal_low (graph_of c.args.table.now) (admitted_closed c.args.table.now c.requires) c.edges_of-edges.result c.edges_of-edges.ensures (groups (graph_of c.args.table.now)) l.starters l.invariant.0 l.states l.invariant.1 c.in-IllegalTo.block (sym c.detect-found.ensures ∙ c.in-IllegalTo.is))
+    illegal_low (graph_of c.args.graph.words.now) (admitted_closed c.args.graph.words.now c.args.graph.admitted) c.edges_of-edges.result c.edges_of-edges.ensures (groups (graph_of c.args.graph.words.now)) l.starters l.invariant.0 l.states l.invariant.1 c.in-Some.block (sym c.in-Some.ensures)
 
 pub loop-block-smaller : goal.loop-block-smaller
-loop-block-smaller c = let n = round_on (graph_of c.args.table.now) (admitted_closed c.args.table.now c.requires) c.edges_of-edges.result c.edges_of-edges.ensures (groups (graph_of c.args.table.now)) c.loop-block.starters c.loop-block.invariant.0 c.loop-block.states c.loop-block.invariant.1 c.in-IllegalTo.block (sym c.detect-found.ensures ∙ c.in-IllegalTo.is) c.with-more.result c.with-more.ensures.0 c.with-more.ensures.1 in omega (arith, n.1, round_few (admitted_closed c.args.table.now c.requires) n.0)
+loop-block-smaller c =
+    let l = c.loop-block in
+    let a = admitted_closed c.args.graph.words.now c.args.graph.admitted in
+    let n = round_on (graph_of c.args.graph.words.now) a c.edges_of-edges.result c.edges_of-edges.ensures (groups (graph_of c.args.graph.words.now)) l.starters l.invariant.0 l.states l.invariant.1 c.in-Some.block (sym c.in-Some.ensures) c.add.new.self c.add.ensures in
+    omega (arith, n.1, round_few a n.0)
 
 pub loop-block-preserved : goal.loop-block-preserved
-loop-block-preserved c = ((round_on (graph_of c.args.table.now) (admitted_closed c.args.table.now c.requires) c.edges_of-edges.result c.edges_of-edges.ensures (groups (graph_of c.args.table.now)) c.loop-block.starters c.loop-block.invariant.0 c.loop-block.states c.loop-block.invariant.1 c.in-IllegalTo.block (sym c.detect-found.ensures ∙ c.in-IllegalTo.is) c.with-more.result c.with-more.ensures.0 c.with-more.ensures.1).0, c.populate-fresh.ensures)
+loop-block-preserved c =
+    let l = c.loop-block in
+    let a = admitted_closed c.args.graph.words.now c.args.graph.admitted in
+    ((round_on (graph_of c.args.graph.words.now) a c.edges_of-edges.result c.edges_of-edges.ensures (groups (graph_of c.args.graph.words.now)) l.starters l.invariant.0 l.states l.invariant.1 c.in-Some.block (sym c.in-Some.ensures) c.add.new.self c.add.ensures).0, c.populate-states-in-Some.ensures)
+
+pub returns : goal.returns
+unfolding grouping_of
+returns c =
+    let l = c.loop-block in
+    round_last (graph_of c.args.graph.words.now) (admitted_closed c.args.graph.words.now c.args.graph.admitted) c.edges_of-edges.result c.edges_of-edges.ensures (groups (graph_of c.args.graph.words.now)) l.starters l.invariant.0 l.states l.invariant.1 (sym c.detect.ensures ∙ c.in_default.is)

@@ -13,19 +13,17 @@ use Rattle.listing.proofs.list_graph.Goals as goal
 long : machine_words ≤ length (replicate {A = ℕ} machine_words 0)
 long = omega (arith, length-replicate {A = ℕ} machine_words 0)
 
-pub list_machine-requires : goal.list_machine-requires
-list_machine-requires c = made_listable c.args.graph.now _ c.requires long _ c.synthesise.ensures.1
+pub invariant_of-list_machine : goal.invariant_of-list_machine
+invariant_of-list_machine c =
+    let l = made_listable c.args.graph.words.now _ c.args.graph.admitted long _ c.synthesise.ensures.1 in
+    record { some_state = l.some_state; few_states = l.few_states; few_wires = l.few_wires }
 
-pub returns-clause-value : goal.returns-clause-value
-returns-clause-value c =
-    let same = made_listing c.args.graph.now _ c.requires long _ c.synthesise.ensures.1 in
-    c.list_machine.ensures.value ∙ ap (λ (l : List ℕ). answer_for l c.args.out.now) same
-
-pub returns-clause-out_after : goal.returns-clause-out_after
-returns-clause-out_after c =
-    let same = made_listing c.args.graph.now _ c.requires long _ c.synthesise.ensures.1 in
-    c.list_machine.ensures.out_after ∙ ap (λ (l : List ℕ). output_for l c.args.out.now) same
-
-pub returns-clause-graph_len_bound : goal.returns-clause-graph_len_bound
-returns-clause-graph_len_bound c =
-    omega (arith, c.list_machine.ensures.machine_len_bound, ap length (made_listing c.args.graph.now _ c.requires long _ c.synthesise.ensures.1))
+pub returns : goal.returns
+returns c =
+    let same = made_listing c.args.graph.words.now _ c.args.graph.admitted long _ c.synthesise.ensures.1 in
+    let got = c.list_machine.ensures in
+    record {
+      value = got.value ∙ ap (λ (l : List ℕ). answer_for l c.args.out.now) same;
+      out_after = got.out_after ∙ ap (λ (l : List ℕ). output_for l c.args.out.now) same;
+      graph_len_bound = omega (arith, got.machine_len_bound, ap length same);
+    }

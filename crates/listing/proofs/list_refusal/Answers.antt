@@ -11,4 +11,4 @@ use Rattle.listing.proofs.list_refusal.Goals as goal
 pub returns-clause-out_after : goal.returns-clause-out_after
 returns-clause-out_after c =
     let room : c.put_refused-n.result ≤ length (replicate {A = ℕ} 32 0) = rw (length-replicate 32) (omega (arith, c.put_refused-n.ensures.near)) in
-    c.hand_over.ensures.out_after ∙ ap (λ (l : List ℕ). output_for l c.args.out.now) (put_front c.put_refused-n.ensures room)
+    rw c.from.ensures at (c.hand_over.ensures.out_after ∙ ap (λ (l : List ℕ). output_for l c.args.out.now) (put_front c.put_refused-n.ensures room))

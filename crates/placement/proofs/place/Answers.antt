@@ -1,49 +1,42 @@
 -- `placement::place` meets its contract: what is placed so far, and what the counts choose of those left, are the whole. Assumes nothing.
-use mathlib.Core.Path.{◌≡◌, refl, ◌∙◌}
+use mathlib.Core.Path.{◌≡◌, sym, ap, ◌∙◌}
 use native.Mathlib.Omega.{arith}
-use lib.ListN.{length, take}
-use lib.Seq.{length-take-le}
-use Rattle.fsmd.specs.Layout.{max_blocks}
-use Rattle.placement.proofs.CountSteps.{zeros}
-use Rattle.placement.proofs.PlacementSteps.{placing_begins, left_length, stops_in, full_in, enough_in, on_in}
+use lib.ListN.{length, drop, length-drop}
+use Rattle.std.specs.Prelude.{Some, position}
+use Rattle.runs.proofs.Sets.{mem→In}
+use Rattle.placement.specs.PlacementBytes.{is_ready}
+use Rattle.placement.proofs.PlacementSteps.{tail_of, members_low, placing_begins, stops_in, chosen_low, enough_in, on_in, written}
 use Rattle.placement.proofs.place.Goals as goal
 
-pub count_edges-requires : goal.count_edges-requires
-count_edges-requires c =
-    let blocks = c.members-n.new.blocks in
-    let n = c.members-n.result in
-    let long : length blocks ≡ max_blocks = c.members-n.auto.blocks ∙ c.requires.2 in
-    let there : length (take n blocks) ≡ n = length-take-le n blocks (omega (arith, long, c.members-n.ensures.0)) in
-    (omega (arith, there, c.members-n.ensures.0), refl, zeros)
+pub count-waits-requires : goal.count-waits-requires
+count-waits-requires c = (c.as_slice.ensures.fits, λ x e. members_low c.args.states.now c.args.k x (mem→In x _ (rw (c.as_slice.ensures.value, c.members-blocks.ensures) at e)))
 
-pub loop-count-init : goal.loop-count-init
-loop-count-init c =
+pub loop-i-init : goal.loop-i-init
+loop-i-init c =
     let a = c.args in
-    let w = c.count_edges in
-    let m = c.members-n in
-    let long : length m.new.blocks ≡ max_blocks = m.auto.blocks ∙ c.requires.2 in
-    placing_begins a.edges.now a.starts.now a.states.now a.k m.result m.new.blocks w.new.waits m.ensures.0 long m.ensures.1 w.auto.waits w.ensures
+    let m = c.members-blocks in
+    placing_begins a.edges.now a.starters.now a.states.now a.k m.result.items c.count-waits.result (omega (arith, ap length c.as_slice.ensures.value, c.as_slice.ensures.fits)) m.ensures (rw c.as_slice.ensures.value at c.count-waits.ensures)
 
-pub lower_edges-requires : goal.lower_edges-requires
-lower_edges-requires c =
-    let l = c.loop-count in
-    let f = c.to_front in
-    (c.byte_index.ensures.1, l.invariant.counts_64, enough_in l.invariant c.choose-i.result (omega (arith, c.if-n-count.false)) f.ensures c.byte_index.ensures.0)
+pub pass-requires : goal.pass-requires
+pass-requires c =
+    let l = c.loop-i in
+    let s = c.as_slice-in-loop-i in
+    let m = c.as_mut_slice in
+    let chosen : position (is_ready l.waits) (drop l.count l.blocks.items) ≡ Some c.in-Some.i = ap (position (is_ready l.waits)) (sym (tail_of s.result.now l.blocks.items l.count s.ensures.value)) ∙ sym c.in-Some.ensures in
+    let moved = rw (tail_of m.result.now l.blocks.items l.count m.ensures.value) at c.to_front.ensures in
+    (chosen_low l.invariant c.in-Some.i chosen moved, enough_in l.invariant c.in-Some.i chosen moved)
 
-pub loop-count-preserved : goal.loop-count-preserved
-loop-count-preserved c =
-    let l = c.loop-count in
-    let f = c.to_front in
-    let o = c.choose-i in
-    let w = c.lower_edges in
-    on_in l.invariant o.result (omega (arith, c.if-n-count.false)) f.ensures c.byte_index.ensures.0 o.ensures w.new.waits w.ensures.0 w.ensures.1
+pub loop-i-preserved : goal.loop-i-preserved
+loop-i-preserved c =
+    let l = c.loop-i in
+    let s = c.as_slice-in-loop-i in
+    let m = c.as_mut_slice in
+    let chosen : position (is_ready l.waits) (drop l.count l.blocks.items) ≡ Some c.in-Some.i = ap (position (is_ready l.waits)) (sym (tail_of s.result.now l.blocks.items l.count s.ensures.value)) ∙ sym c.in-Some.ensures in
+    let moved = rw (tail_of m.result.now l.blocks.items l.count m.ensures.value) at c.to_front.ensures in
+    on_in l.invariant c.in-Some.i chosen moved _ (written l.blocks.items m.result.now c.to_front.new.left l.count m.ensures.value l.invariant.within (c.to_front.auto.left ∙ ap length (tail_of m.result.now l.blocks.items l.count m.ensures.value) ∙ length-drop l.count l.blocks.items)) c.pass.new.waits c.pass.ensures
 
-pub returns-after-loop-count : goal.returns-after-loop-count
-returns-after-loop-count c =
-    let l = c.loop-count in
-    (omega (arith, l.invariant.within, l.invariant.few), full_in l.invariant c.loop-count-test.false)
-
-pub returns-then-n-count : goal.returns-then-n-count
-returns-then-n-count c =
-    let l = c.loop-count in
-    (omega (arith, l.invariant.within, l.invariant.few), stops_in l.invariant (c.choose-i.ensures.all_wait (omega (arith, c.if-n-count.true, left_length l.invariant))))
+pub returns : goal.returns
+returns c =
+    let l = c.loop-i in
+    let s = c.as_slice-in-loop-i in
+    c.truncate.ensures.items ∙ stops_in l.invariant (ap (position (is_ready l.waits)) (sym (tail_of s.result.now l.blocks.items l.count s.ensures.value)) ∙ sym c.choose.ensures ∙ c.in_default.is)

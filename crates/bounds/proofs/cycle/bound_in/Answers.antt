@@ -1,28 +1,26 @@
 -- `bounds::cycle::bound_in` meets its contract: registers, wires and next registers, over ranges. Assumes nothing.
-use Rattle.std.proofs.Common.{◌≡◌, ℕ, ◌+◌, ◌≤◌, List, ◌++◌, length, take, ap, ◌∙◌, ap₂, length-take-le, take_at}
-use Rattle.fsmd.specs.Layout.{max_registers}
-use Rattle.fsmd.proofs.Windows.{wires_from}
-use Rattle.bounds.specs.Bounds.{first_bounds, bounded}
+use Rattle.std.proofs.Common.{◌≡◌, ℕ, ◌+◌, ◌-◌, length, take, drop, ap, ◌∙◌, arith}
+use Rattle.fsmd.specs.Layout.{max_registers, next_registers_offset}
+use Rattle.fsmd.proofs.Windows.{window_length, wires_from}
+use Rattle.bounds.specs.Bounds.{Bounds, bounded}
+use Rattle.bounds.specs.Cycle.{bounds_of}
 use Rattle.bounds.proofs.CycleBounds.{cycled}
 use Rattle.bounds.proofs.cycle.bound_in.Goals as goal
-
--- a file loaded from a buffer and stored at the front of the room
-loaded : (buffer file room rest : List ℕ) → max_registers ≤ length buffer → file ≡ take max_registers buffer → room ≡ file ++ rest → take max_registers room ≡ take max_registers buffer
-loaded buffer file room rest h e f = ap (take max_registers) f ∙ take_at file rest max_registers (ap length e ∙ length-take-le max_registers buffer h) ∙ e
 
 pub returns : goal.returns
 returns c =
     let a = c.args in
-    let t = a.table.now in
-    let ls = a.lowest.now in
-    let hs = a.highest.now in
-    let f = c.first_wire in
-    let n = c.wire_count-count in
-    let p = c.record-next in
-    let m = c.word_index-registers in
-    cycled t a.k f.ensures.0 n.ensures.0 p.ensures m.ensures.0 ls hs (first_bounds (max_registers + n.result) c.work.new.lows c.work.new.highs)
-    (c.work.ensures ∙ ap₂ (λ (l m : List ℕ). bounded (record { lowest = l; highest = m }) (wires_from t f.result n.result))
-    (loaded ls _ _ _ c.requires.max_registers_in_bounds c.load.ensures c.store.ensures)
-    (loaded hs _ _ _ c.requires.max_registers_in_bounds_2 c.load-2.ensures c.store-2.ensures))
-    c.put_next.ensures
-    c.put_next-2.ensures
+    let t = a.machine.words.now in
+    let first = c.first_wire in
+    let count = c.wire_count-count in
+    let r = c.head-registers.result.registers in
+    let at = c.record-next.result + next_registers_offset in
+    let e : at + r - at ≡ r = omega arith in
+    let next = ap (λ (n : ℕ). take n (drop at t)) e in
+    cycled t a.k first.ensures.value count.ensures.value c.record-next.ensures c.head-registers.ensures.registers_value a.lowest.now a.highest.now
+    (bounds_of (take (max_registers + count.result) c.work.new.room)) (take (at + r - at) (drop at t))
+    (c.work.ensures ∙ ap (λ (b : Bounds). bounded b (wires_from t first.result count.result)) c.load.ensures)
+    next
+    (ap length next ∙ window_length t at r (omega arith))
+    c.put_next.ensures.lowest_after
+    c.put_next.ensures.highest_after

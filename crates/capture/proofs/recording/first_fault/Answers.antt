@@ -1,10 +1,10 @@
 -- `capture::recording::first_fault` meets its contract: the fault from q on is the fault from p on. Assumes nothing.
-use mathlib.Core.Path.{◌∙◌, sym}
-use Rattle.capture.proofs.Positions.{stopped}
+use Rattle.std.proofs.Common.{◌∙◌, sym}
+use Rattle.capture.proofs.Positions.{ended_here}
 use Rattle.capture.proofs.recording.first_fault.Goals as goal
 
-pub returns-in-Stop : goal.returns-in-Stop
-returns-in-Stop c =
-    let l = c.loop-cycle in
+pub returns-in-Ok-None : goal.returns-in-Ok-None
+returns-in-Ok-None c =
     let a = c.args in
-    sym (stopped a.registers a.text.now l.q c.in-Stop.fault (rw c.in-Stop.is at c.advance-step.ensures)) ∙ l.invariant.1
+    let l = c.loop-read in
+    sym (ended_here a.registers a.text.now l.q (rw (c.in-Ok-None.is, c.in-Ok-None.field-0-is) at c.advance.ensures)) ∙ l.invariant.1

@@ -12,6 +12,5 @@ returns c =
     let a = c.args in
     let l = c.loop-i in
     let is = l.block.instructions in
-    let h = l.invariant.1 in
     let e : l.i ≡ max_instructions = omega (arith, c.loop-i-test.false) in
-    rw (c.ending_at-ending.ensures, all_decoded (instruction_at a.table.now (block_offset a.n)) is h (λ j b. l.invariant.2 j (omega arith)))
+    rw (c.ending_at-block.ensures, all_decoded (instruction_at a.table.now (block_offset a.n)) is l.invariant.0 (λ j b. l.invariant.1 j (omega arith)))

@@ -15,7 +15,7 @@ abbrev there : List ℕ → List ℕ → ℕ → Bool
 there words table b = not (eqb (read_in words (arrival_at table b)) 0)
 
 abbrev pub invariant-loop-b : goal.invariant-loop-b
-invariant-loop-b l = Along l.chains (there l.words l.table) (blocks_from l.table l.k 0) l.n l.b
+invariant-loop-b g l = Along l.chains (there l.room.words l.table.words.now) (blocks_from l.table.words.now l.k 0) l.n l.b
 
 abbrev pub decreases-loop-b : goal.decreases-loop-b
-decreases-loop-b l = max_blocks - l.b
+decreases-loop-b g l = max_blocks - l.b

@@ -11,12 +11,12 @@ use Rattle.fsmd.proofs.Windows.{put_more}
 use Rattle.fsmd.proofs.clock.taken.Goals as goal
 
 pub loop-i-preserved : goal.loop-i-preserved
-loop-i-preserved c =
+loop-i-preserved g c =
     let a = c.args in
     let i = c.loop-i.i in
     let q : i < a.count = omega arith in
     let l : length a.registers.words ≡ max_registers = search rules in (
       omega arith,
-      ap (λ (l : List ℕ). set l i c.word_at.result) c.loop-i.invariant.1
-          ∙ put_more a.table.now a.at a.count (search rules) (read_in a.words.now) a.registers.words i c.word_at.result q (omega arith) c.word_at.ensures,
+      ap (λ (l : List ℕ). set l i c.read.result) c.loop-i.invariant.1
+          ∙ put_more a.table.now a.at a.count (search rules) (read_in a.room.now.words) a.registers.words i c.read.result q (omega arith) c.read.ensures,
     )

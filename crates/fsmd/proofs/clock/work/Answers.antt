@@ -13,16 +13,16 @@ use Rattle.fsmd.proofs.Windows.{wires_from, wire_valid, wires_pass}
 use Rattle.fsmd.proofs.clock.work.Goals as goal
 
 pub loop-n-preserved : goal.loop-n-preserved
-loop-n-preserved c =
+loop-n-preserved g c =
     let a = c.args in
-    let t = a.table.now in
+    let t = a.table.words.now in
     let n = c.loop-n.n in
-    let l = c.loop-n.words in
+    let l = c.loop-n.room.words in
     let r = get_or t 1 0 in
     let i = c.wire in
     let w = wire_at t (a.first + n) in
     let below = c.loop-n-test.true in
-    let valid = wire_valid t a.first a.count r n below c.loop-n.invariant.2 in
+    let valid = wire_valid t a.first a.count r n below c.loop-n.invariant.1 in
     let f : ℕ → ℕ = read_in l in
     let g : ℕ → ℕ = λ x. get_or (take (max_registers + n) l) x 0 in
     let given = c.evaluated-given.result in
@@ -30,29 +30,28 @@ loop-n-preserved c =
     let o = c.evaluated-given.ensures.over_value
     ∙ ap (λ (x : Bool). c.loop-n.over || x) (ap (wire_over f) i.ensures ∙ over_within a.sampled l r n w (omega arith) (omega arith) valid) in
     let rest = wires_over a.sampled (take (max_registers + (n + 1)) (set l (max_registers + n) given.word)) (drop (n + 1) (wires_from t a.first a.count)) in (
-      omega arith,
-      length-set l (max_registers + n) given.word ∙ c.loop-n.invariant.1,
-      sym (wires_pass t a.first a.count r n below valid) ∙ c.loop-n.invariant.2,
-      sym (work_next a.sampled t a.first a.count n l given.word below (omega arith) v) ∙ c.loop-n.invariant.3,
+      length-set l (max_registers + n) given.word ∙ c.loop-n.invariant.0,
+      sym (wires_pass t a.first a.count r n below valid) ∙ c.loop-n.invariant.1,
+      sym (work_next a.sampled t a.first a.count n l given.word below (omega arith) v) ∙ c.loop-n.invariant.2,
       ap (λ (x : Bool). x || rest) o
           ∙ or_assoc c.loop-n.over (wire_over g w) rest
           ∙ ap (λ (x : Bool). c.loop-n.over || x) (sym (over_next a.sampled t a.first a.count n l given.word below (omega arith) v))
-          ∙ c.loop-n.invariant.4,
+          ∙ c.loop-n.invariant.3,
     )
 
-pub returns-clause-words_after : goal.returns-clause-words_after
-returns-clause-words_after c =
+pub returns-clause-room_after : goal.returns-clause-room_after
+returns-clause-room_after g c =
     let a = c.args in
     let n = c.loop-n.n in
     let e : n ≡ a.count = omega arith in
-    ap (λ (i : ℕ). take (max_registers + i) c.loop-n.words) (sym e)
-    ∙ sym (work_done a.sampled a.table.now a.first a.count n (take (max_registers + n) c.loop-n.words) (omega arith))
-    ∙ c.loop-n.invariant.3
+    ap (λ (i : ℕ). take (max_registers + i) c.loop-n.room.words) (sym e)
+    ∙ sym (work_done a.sampled a.table.words.now a.first a.count n (take (max_registers + n) c.loop-n.room.words) (omega arith))
+    ∙ c.loop-n.invariant.2
 
-pub returns-clause-value : goal.returns-clause-value
-returns-clause-value c =
+pub returns-clause-over_value : goal.returns-clause-over_value
+returns-clause-over_value g c =
     let a = c.args in
     let n = c.loop-n.n in
     sym (or-false c.loop-n.over)
-    ∙ ap (λ (x : Bool). c.loop-n.over || x) (sym (over_done a.sampled a.table.now a.first a.count n (take (max_registers + n) c.loop-n.words) (omega arith)))
-    ∙ c.loop-n.invariant.4
+    ∙ ap (λ (x : Bool). c.loop-n.over || x) (sym (over_done a.sampled a.table.words.now a.first a.count n (take (max_registers + n) c.loop-n.room.words) (omega arith)))
+    ∙ c.loop-n.invariant.3

@@ -1,10 +1,6 @@
--- `grouping::population::populate` meets its contract. Assumes nothing.
-use Prim.Native.Nat.{◌-◌}
-use Rattle.grouping.proofs.PopulationSearch.{Populating}
+-- `grouping::population::populate` meets its contract: one state after another, as `PopulationTracks` has them. Assumes nothing.
+use Rattle.grouping.proofs.PopulationTracks.{Populating}
 use Rattle.grouping.proofs.population.populate.Given as goal
 
-abbrev pub invariant-loop-list : goal.invariant-loop-list
-invariant-loop-list l = Populating l.edges (record { count = l.count; list = l.list; marks = l.marks }) l.states l.k
-
-abbrev pub decreases-loop-list : goal.decreases-loop-list
-decreases-loop-list l = l.count - l.k
+abbrev pub invariant-loop-root : goal.invariant-loop-root
+invariant-loop-root l = Populating l.edges l.starters l.search l.root-index

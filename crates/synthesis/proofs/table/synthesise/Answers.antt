@@ -1,26 +1,33 @@
 -- `synthesis::table::synthesise` meets its contract. Assumes nothing.
-use mathlib.Core.Path.{sym, ◌∙◌}
+use mathlib.Core.Bool.{true}
+use mathlib.Core.List.{List}
+use mathlib.Core.Path.{ap, subst, ◌≡◌, ◌∙◌}
+use Prim.Native.Nat.{ℕ}
 use lib.Seq.{length-take-le}
+use Rattle.std.proofs.lemmas.Result.{err_from_is_err_and}
+use Rattle.cfg.specs.Table.{graph_of, admitted_graph}
 use Rattle.fsmd.specs.Layout.{machine_words}
-use Rattle.synthesis.proofs.TableFilled.{short_graph_lem, short_machine_lem, not_admitted, machine_made}
+use Rattle.fsmd.specs.Table.{machine_table_of}
+use Rattle.synthesis.specs.Synthesis.{machine}
+use Rattle.synthesis.proofs.TableFilled.{short_machine_lem, refused_table, machine_made}
 use Rattle.synthesis.proofs.table.synthesise.Goals as goal
 
-pub returns-then-graph-lt-WORDS : goal.returns-then-graph-lt-WORDS
-returns-then-graph-lt-WORDS c = let a = c.args in short_graph_lem a.graph.now a.machine.now c.if-graph-lt-WORDS.true
-
 pub returns-then-machine-lt-WORDS : goal.returns-then-machine-lt-WORDS
-returns-then-machine-lt-WORDS c = let a = c.args in short_machine_lem a.graph.now a.machine.now c.if-graph-lt-WORDS.false c.if-machine-lt-WORDS.true
+returns-then-machine-lt-WORDS c = short_machine_lem c.args.graph.now c.args.machine.now c.if-machine-lt-WORDS.true
 
-pub returns-then-not-is_admitted : goal.returns-then-not-is_admitted
-returns-then-not-is_admitted c =
+pub returns-in_err-admitted : goal.returns-in_err-admitted
+returns-in_err-admitted c =
     let a = c.args in
-    not_admitted a.graph.now a.machine.now c.if-graph-lt-WORDS.false c.if-machine-lt-WORDS.false (sym c.is_admitted.ensures ∙ c.if-not-is_admitted.true)
+    let p = err_from_is_err_and c.from_residual.result c.from_residual.ensures.1 in
+    rw (p.1, p.2) (refused_table a.graph.now a.machine.now c.if-machine-lt-WORDS.false c.in_err-admitted.field-0.0 c.in_err-admitted.ensures)
 
 pub fill-requires : goal.fill-requires
-fill-requires c =
-    (sym c.is_admitted.ensures ∙ c.if-not-is_admitted.false, length-take-le machine_words c.args.machine.now c.if-machine-lt-WORDS.false)
+fill-requires c = length-take-le machine_words c.args.machine.now c.if-machine-lt-WORDS.false
 
 pub returns : goal.returns
 returns c =
     let a = c.args in
-    machine_made a.graph.now a.machine.now c.if-machine-lt-WORDS.false (sym c.is_admitted.ensures ∙ c.if-not-is_admitted.false) c.fill.new.table c.fill.ensures
+    let g = c.in_ok-admitted.admitted in
+    let e : g.words.now ≡ a.graph.now = c.in_ok-admitted.ensures in
+    machine_made a.graph.now a.machine.now c.if-machine-lt-WORDS.false (subst (λ (t : List ℕ). admitted_graph t ≡ true) e g.admitted) c.fill.new.table
+    (c.fill.ensures ∙ ap (λ (t : List ℕ). machine_table_of (machine (graph_of t))) e)

@@ -1,0 +1,69 @@
+// The starters of a grouping.
+ghost use Rattle.std.specs.Prelude.{◌≡◌, true, ℕ, [], ◌∷◌, ◌<◌, ◌≤◌, length};
+ghost use Rattle.runs.specs.Lists.{mem};
+ghost use Rattle.cfg.specs.Layout.{max_blocks};
+ghost use Rattle.grouping.specs.Bytes.{with_starter};
+
+use arrayvec::ArrayVec;
+use cfg::GraphTable;
+use std::marker::Model;
+
+// The starters in order, and a mark at each of them, so that `contains` looks at one.
+#[derive(Drop)]
+pub struct Starters {
+    list: ArrayVec<u8, { GraphTable::BLOCKS }>,
+    marks: [bool; GraphTable::BLOCKS],
+}
+
+// In contracts the list alone.
+impl Model for Starters {
+    ghost use Rattle.std.specs.Prelude.{List, ℕ};
+    ghost use Rattle.grouping.specs.Marks.{Marking};
+
+    ghost Value = { List ℕ };
+
+    ghost view = { λ s. s.list.items };
+
+    ghost invariant = { λ s. Marking s.list.items s.marks };
+}
+
+impl Starters {
+    // Block 0 alone.
+    pub(crate) fn entry() -> Starters
+        ensures { result ≡ 0 ∷ [] }
+    {
+        let mut list = ArrayVec::new();
+        list.push(0);
+        let mut marks = [false; GraphTable::BLOCKS];
+        marks[0] = true;
+        Starters { list, marks }
+    }
+
+    pub fn list(&self) -> &[u8]
+        ensures list { result.now ≡ self.now }
+        ensures few { length self.now ≤ max_blocks }
+        ensures low { (x : ℕ) → mem x self.now ≡ true → x < max_blocks }
+    {
+        self.list.as_slice()
+    }
+
+    // The bound of a block's number stands in each contract: a type for such numbers would be made and taken apart at every call.
+    pub fn contains(&self, block: u8) -> bool
+        requires { block < max_blocks }
+        ensures { result ≡ mem block self.now }
+    {
+        let at = usize::from(block);
+        self.marks[at]
+    }
+
+    // A block becomes the newest starter when it isn't one already.
+    pub(crate) fn add(&mut self, block: u8)
+        requires { block < max_blocks }
+        ensures { self.new ≡ with_starter block self.old }
+    {
+        if !self.marks[usize::from(block)] {
+            self.list.push(block);
+            self.marks[usize::from(block)] = true;
+        }
+    }
+}

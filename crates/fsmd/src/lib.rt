@@ -11,9 +11,9 @@ pub mod table; // table.rt: words of a machine table
 pub mod touch; // touch.rt: the touch word of a state
 pub mod admission; // admission.rt: which machine tables are admitted
 pub mod sampling; // sampling.rt: whether a machine reads the sampled word
-mod chains; // chains.rt: the blocks of each state
-mod room; // room.rt: what references read in a cycle
-mod clock; // clock.rt: one cycle
+pub mod chains; // chains.rt: the blocks of each state
+pub mod room; // room.rt: what references read in a cycle
+pub mod clock; // clock.rt: one cycle
 pub mod run; // run.rt: a run with a budget
 
 // The head of a machine table: how many states and registers the machine has.

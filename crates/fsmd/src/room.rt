@@ -1,6 +1,6 @@
 // The room of a cycle: the words that references read, the registers and then the state's wires.
 ghost use Rattle.std.specs.Prelude.{◌≡◌, ◌++◌, ◌≤◌, take, drop, length};
-ghost use Rattle.fsmd.specs.Layout.{max_registers, room_words};
+ghost use Rattle.fsmd.specs.Layout.{max_registers};
 ghost use Rattle.fsmd.specs.Clock.{read_in};
 
 use super::MachineTable;
@@ -11,14 +11,12 @@ pub struct Room<const N: usize> {
     pub words: [u32; N],
     pub ghost whole: { length words ≡ N },
     pub ghost registers_fit: { max_registers ≤ N },
-    pub ghost few_words: { N ≤ room_words },
 }
 
 impl<const N: usize> Room<N> {
     // A room that begins with these registers.
     pub fn of(registers: Registers) -> Room<N>
-        requires registers_fit { max_registers ≤ N }
-        requires few_words { N ≤ room_words }
+        requires { max_registers ≤ N }
         ensures { take max_registers result.words ≡ registers.words }
     {
         let mut words = [0; N];

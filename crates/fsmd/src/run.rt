@@ -25,49 +25,41 @@ pub struct MachineRun {
 
 // What the cycles of a run leave: the registers, and how the run ends.
 #[derive(Clone, Copy)]
-struct Ran {
-    registers: Registers,
-    run: MachineRun,
+pub struct Ran {
+    pub registers: Registers,
+    pub run: MachineRun,
 }
 
 // The cycles of an admitted machine from a state that it has, on the words of a list for the first `limit` arrivals. Each cycle is an
-// arrival, and the limit is within the budget, so that the loop tests one bound. The limit stands before the words so that it comes in a
-// register.
-// Six parameters and no struct: the clauses set each of them into `answer`, and would take a struct apart again.
-fn run<const ROOM: usize>(
+// arrival, and the limit is within the budget, so that the loop tests one bound. The limit stands before the words and the room so that
+// it comes in a register. What the room holds before is all one.
+// Seven parameters and no struct: the clauses set each of them into `answer`, and would take a struct apart again.
+pub fn run<const N: usize>(
     machine: AdmittedMachine,
     registers: Registers,
     start: u32,
     budget: u32,
     limit: u32,
     words: &[u32],
+    room: &mut Room<N>,
 ) -> Ran
     requires start_bound { start < state_count machine.table.words.now }
     requires limit_le_budget { limit ≤ budget }
-    requires registers_fit { max_registers ≤ ROOM }
-    requires few_words { ROOM ≤ room_words }
-    requires roomy { Roomy machine.table.words.now ROOM }
+    requires roomy { Roomy machine.table.words.now N }
     ensures end_value { result.run.end ≡ answer (machine_runner (machine_of machine.entry.table.words.now)) (up_to limit words.now) budget (start_at start registers.words) }
     ensures registers_value { result.registers.words ≡ registers_after (machine_runner (machine_of machine.entry.table.words.now)) (up_to limit words.now) budget (start_at start registers.words) }
     ensures blocks_value { result.run.blocks ≡ total (machine_runner (machine_of machine.entry.table.words.now)) (up_to limit words.now) (blocks_run (machine_of machine.entry.table.words.now)) budget (start_at start registers.words) }
 {
     let states = machine.table.head().states;
     let chains = chains_of(machine.table);
-    let mut room = Room::<ROOM>::of(registers);
+    runs::store(&mut room.words, registers);
     let mut file = registers;
     let mut state = start;
     let mut flag = false;
     let mut blocks: u64 = 0;
     for count in 0..limit {
         let sampled = runs::sampled(words, count);
-        let next = cycle(
-            &mut room,
-            machine.table,
-            &chains,
-            state as usize,
-            file,
-            sampled,
-        );
+        let next = cycle(room, machine.table, &chains, state as usize, file, sampled);
         file = next.registers;
         state = next.state;
         flag |= next.over;
@@ -92,6 +84,29 @@ fn run<const ROOM: usize>(
         registers: file,
         run: MachineRun { end, blocks },
     }
+}
+
+// A run in a room that is made here: of two rooms in one function both are cleared, whichever is used.
+// Six parameters and no struct, as above.
+fn run_in_room<const N: usize>(
+    machine: AdmittedMachine,
+    registers: Registers,
+    start: u32,
+    budget: u32,
+    limit: u32,
+    words: &[u32],
+) -> Ran
+    requires start_bound { start < state_count machine.table.words.now }
+    requires limit_le_budget { limit ≤ budget }
+    requires registers_fit { max_registers ≤ N }
+    requires few_words { N ≤ room_words }
+    requires roomy { Roomy machine.table.words.now N }
+    ensures end_value { result.run.end ≡ answer (machine_runner (machine_of machine.entry.table.words.now)) (up_to limit words.now) budget (start_at start registers.words) }
+    ensures registers_value { result.registers.words ≡ registers_after (machine_runner (machine_of machine.entry.table.words.now)) (up_to limit words.now) budget (start_at start registers.words) }
+    ensures blocks_value { result.run.blocks ≡ total (machine_runner (machine_of machine.entry.table.words.now)) (up_to limit words.now) (blocks_run (machine_of machine.entry.table.words.now)) budget (start_at start registers.words) }
+{
+    let mut room = Room::<N>::of(registers);
+    run(machine, registers, start, budget, limit, words, &mut room)
 }
 
 // Whether the small room has space for the registers and the wires of every state.
@@ -123,9 +138,9 @@ fn run_from(
 {
     let file = runs::load(registers);
     let ran = if fits_small(machine) {
-        run::<{ MachineTable::SMALL_ROOM }>(machine, file, start, budget, limit, words)
+        run_in_room::<{ MachineTable::SMALL_ROOM }>(machine, file, start, budget, limit, words)
     } else {
-        run::<{ MachineTable::ROOM }>(machine, file, start, budget, limit, words)
+        run_in_room::<{ MachineTable::ROOM }>(machine, file, start, budget, limit, words)
     };
     runs::store(registers, ran.registers);
     ran.run

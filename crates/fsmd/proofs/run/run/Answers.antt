@@ -3,7 +3,8 @@ use Prim.Native.Nat.{ℕ, ◌+◌, ◌<◌}
 use native.Mathlib.Omega.{arith}
 use mathlib.Core.Bool.{true}
 use mathlib.Core.Path.{◌≡◌, refl, sym, ap, ◌∙◌, subst}
-use lib.ListN.{length, get_or}
+use lib.ListN.{length, get_or, take}
+use lib.Seq.{take_at}
 use borrow.Author.Rules.{rules}
 use borrow.Author.Tests.{le-ltb}
 use Rattle.runs.proofs.RunLaws.{Reached, reached_start, reached_spent, registers_spent, reached_halted, reached_dry, registers_ended, halted_ends, dry_ends}
@@ -31,7 +32,7 @@ loop-count-init g c =
       reached_start (machine_runner m) ws a.budget c₀,
       totalled_start (machine_runner m) ws (blocks_run m) a.budget c₀,
       omega arith,
-      c.of-room.ensures,
+      ap (take max_registers) c.store.ensures ∙ take_at rs _ max_registers all,
     )
 
 pub cycle-next-requires : goal.cycle-next-requires

@@ -8,7 +8,7 @@ ghost use Rattle.fsmd.specs.Touch.{touch_word};
 ghost use Rattle.fsmd.specs.Table.{state_count, machine_register_count, block_state_at, arrival_at, wire_at, state_at, first_wire_at, wire_count_at, touch_at, valid_reference, valid_wire, valid_wires, valid_state, within as within_of, apart as apart_of, right_touch, right_block, right_blocks, admitted_machine, table_refusal};
 
 use super::table::{MachineWords, record};
-use super::touch::touch_word;
+use super::touch::with_bit;
 use super::{MachineTable, Wire};
 use refusal::Refusal;
 use word::Code;
@@ -68,10 +68,20 @@ impl Scope {
             || MachineTable::REGISTERS <= i && i - MachineTable::REGISTERS < self.wires
     }
 
-    fn has_all(self, references: &[u32]) -> bool
-        ensures { result ≡ every (valid_reference self.registers self.wires) references.now }
+    // The touch word of next references, where each is one. One pass for both: the last comes first, as a touch word is made.
+    fn touch_of(self, next: &[u32]) -> Option<u32>
+        requires { length next.now ≤ max_registers }
+        ensures { let valid = every (valid_reference self.registers self.wires) next.now in
+            MatchOption result (valid ≡ false) (λ touch. (valid ≡ true) × (touch ≡ touch_word next.now)) }
     {
-        references.iter().all(|x| self.has(*x))
+        let mut touch: u32 = 0;
+        for i in (0..next.len()).rev() {
+            if !self.has(next[i]) {
+                return None;
+            }
+            touch = with_bit(touch, i, next[i]);
+        }
+        Some(touch)
     }
 
     // Word number `place` of a wire, where the wire reads that many.
@@ -201,9 +211,13 @@ impl<'a> Counted<'a> {
         let scope = self.scope(wires);
         let at = record(k);
         let next = &self.table.words[at + MachineTable::NEXT_REGISTERS..][..self.registers];
-        scope.has(self.table.words[at + MachineTable::NEXT_STATE])
-            && scope.has_all(next)
-            && self.table.touch(k) == touch_word(next)
+        if !scope.has(self.table.words[at + MachineTable::NEXT_STATE]) {
+            return false;
+        }
+        let Some(touch) = scope.touch_of(next) else {
+            return false;
+        };
+        self.table.touch(k) == touch
     }
 
     // The wires, next references and touch word of state k.

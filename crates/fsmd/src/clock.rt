@@ -36,9 +36,13 @@ fn sum(sampled: u32, code: u32, a: u32, b: u32, c: u32, over: bool) -> Output
     ensures word_value { result.word ≡ eval_of sampled code a b c }
     ensures over_value { result.over ≡ (over || (over_of code a b && not (eqb c 0))) }
 {
+    let word = word::eval(sampled, code, a, b, c);
+    if !word::over(code, a, b) {
+        return Output { word, over };
+    }
     Output {
-        word: word::eval(sampled, code, a, b, c),
-        over: over | (word::over(code, a, b) && c != 0),
+        word,
+        over: over | (c != 0),
     }
 }
 
@@ -54,12 +58,11 @@ fn evaluated<const N: usize>(room: &Room<N>, w: Wire, sampled: u32, over: bool) 
     }
     let a = room.read(w.a);
     let b = room.read(w.b);
-    let c = room.read(w.c);
     match code {
-        Code::ADD => sum(sampled, Code::ADD, a, b, c, over),
-        Code::SUB => sum(sampled, Code::SUB, a, b, c, over),
+        Code::ADD => sum(sampled, Code::ADD, a, b, room.read(w.c), over),
+        Code::SUB => sum(sampled, Code::SUB, a, b, room.read(w.c), over),
         _ => Output {
-            word: word::eval(sampled, code, a, b, c),
+            word: word::eval(sampled, code, a, b, room.read(w.c)),
             over,
         },
     }

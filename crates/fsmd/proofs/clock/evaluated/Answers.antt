@@ -19,31 +19,31 @@ pub returns-in-3-clause-word_value : goal.returns-in-3-clause-word_value
 returns-in-3-clause-word_value g c =
     let a = c.args in
     c.sum.ensures.word_value
-    ∙ value_other a.sampled (read_in a.room.now.words) a.w c.read-a.result c.read-b.result c.read-c.result c.read-a.ensures c.read-b.ensures c.read-c.ensures add_code c.in-3.is (λ h. omega arith)
+    ∙ value_other a.sampled (read_in a.room.now.words) a.w c.read-a.result c.read-b.result c.read.result c.read-a.ensures c.read-b.ensures c.read.ensures add_code c.in-3.is (λ h. omega arith)
 
 pub returns-in-3-clause-over_value : goal.returns-in-3-clause-over_value
 returns-in-3-clause-over_value g c =
     let a = c.args in
     c.sum.ensures.over_value
-    ∙ ap (λ (o : Bool). a.over || o) (over_sum a.sampled (read_in a.room.now.words) a.w c.read-a.result c.read-b.result c.read-c.result c.read-a.ensures c.read-b.ensures c.read-c.ensures add_code c.in-3.is)
+    ∙ ap (λ (o : Bool). a.over || o) (over_sum a.sampled (read_in a.room.now.words) a.w c.read-a.result c.read-b.result c.read.result c.read-a.ensures c.read-b.ensures c.read.ensures add_code c.in-3.is)
 
 pub returns-in-4-clause-word_value : goal.returns-in-4-clause-word_value
 returns-in-4-clause-word_value g c =
     let a = c.args in
     c.sum-in-4.ensures.word_value
-    ∙ value_other a.sampled (read_in a.room.now.words) a.w c.read-a.result c.read-b.result c.read-c.result c.read-a.ensures c.read-b.ensures c.read-c.ensures sub_code c.in-4.is (λ h. omega arith)
+    ∙ value_other a.sampled (read_in a.room.now.words) a.w c.read-a.result c.read-b.result c.read-in-4.result c.read-a.ensures c.read-b.ensures c.read-in-4.ensures sub_code c.in-4.is (λ h. omega arith)
 
 pub returns-in-4-clause-over_value : goal.returns-in-4-clause-over_value
 returns-in-4-clause-over_value g c =
     let a = c.args in
     c.sum-in-4.ensures.over_value
-    ∙ ap (λ (o : Bool). a.over || o) (over_sum a.sampled (read_in a.room.now.words) a.w c.read-a.result c.read-b.result c.read-c.result c.read-a.ensures c.read-b.ensures c.read-c.ensures sub_code c.in-4.is)
+    ∙ ap (λ (o : Bool). a.over || o) (over_sum a.sampled (read_in a.room.now.words) a.w c.read-a.result c.read-b.result c.read-in-4.result c.read-a.ensures c.read-b.ensures c.read-in-4.ensures sub_code c.in-4.is)
 
 pub returns-in_default-clause-word_value : goal.returns-in_default-clause-word_value
 returns-in_default-clause-word_value g c =
     let a = c.args in
     c.eval.ensures
-    ∙ value_other a.sampled (read_in a.room.now.words) a.w c.read-a.result c.read-b.result c.read-c.result c.read-a.ensures c.read-b.ensures c.read-c.ensures a.w.code refl c.if-code-eq-SET.false
+    ∙ value_other a.sampled (read_in a.room.now.words) a.w c.read-a.result c.read-b.result c.read-in_default.result c.read-a.ensures c.read-b.ensures c.read-in_default.ensures a.w.code refl c.if-code-eq-SET.false
 
 pub returns-in_default-clause-over_value : goal.returns-in_default-clause-over_value
 returns-in_default-clause-over_value g c =

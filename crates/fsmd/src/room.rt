@@ -19,9 +19,10 @@ impl<const N: usize> Room<N> {
         requires { max_registers ≤ N }
         ensures { take max_registers result.words ≡ registers.words }
     {
-        let mut words = [0; N];
-        runs::store(&mut words, registers);
-        Room { words }
+        // Made where it is answered: a list filled beside it would be copied into it.
+        let mut room = Room { words: [0; N] };
+        runs::store(&mut room.words, registers);
+        room
     }
 
     // What reference x reads, modulo the number of words: that costs no branch, and where it is a power of two no division. What an admitted

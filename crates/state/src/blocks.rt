@@ -1,9 +1,10 @@
 // What a block adds to its state: its instructions, its ending.
 ghost use Rattle.std.specs.Prelude.{◌≡◌, [], ◌∷◌, ◌+◌, ◌≤◌, ◌<◌, length, get_or, eqb, ltb};
 ghost use Rattle.word.specs.Word.{choose, set_code, comparison_code};
-ghost use Rattle.fsmd.specs.Layout.{max_registers, max_wires};
+ghost use Rattle.fsmd.specs.Layout.{max_registers, max_blocks, max_wires};
+ghost use Rattle.cfg.specs.Layout.{block_offset, max_instructions};
 ghost use Rattle.cfg.specs.Graph.{instructions_of};
-ghost use Rattle.cfg.specs.Table.{block_count, block_at};
+ghost use Rattle.cfg.specs.Table.{block_at};
 ghost use Rattle.state.specs.Wires.{wire as wire_of, and_wire, and_not_wire, instruction_wire, assign as assigned, enter, assigns, close as closed, after};
 ghost use Rattle.state.specs.Making.{max_edges, Room, put_block};
 ghost use Rattle.state.specs.EdgeList.{pending};
@@ -71,7 +72,8 @@ impl BlockProgress {
 
     // The instructions of block `x`, in order.
     pub fn assign_all(&mut self, wires: &mut WireList, graph: AdmittedGraph, x: usize)
-        requires known { x < block_count graph.words.now }
+        requires known { x < max_blocks }
+        requires short { get_or graph.words.now (block_offset x) 0 ≤ max_instructions }
         requires room { Room (length (assigns (instructions_of (block_at graph.words.now x)) (block_in self.old wires.old)).wires) wires.old.words.now }
         ensures { Becomes (assigns (instructions_of (block_at graph.entry.words.now x)) (block_in self.old wires.old)) self.old.registers self.new wires.old wires.new }
     {
@@ -108,7 +110,7 @@ impl BlockProgress {
 
     // The ending of block `x`: its wires, and its edges after those before, true first.
     pub fn close(&self, wires: &mut WireList, edges: &mut Edges, graph: AdmittedGraph, x: usize)
-        requires known { x < block_count graph.words.now }
+        requires known { x < max_blocks }
         requires registers { self.now.registers ≡ wires.old.registers }
         requires room_of_edges { edges.old.count + 2 ≤ max_edges }
         requires room { Room (length (closed (block_at graph.words.now x).ending (block_in self.now wires.old)).wires) wires.old.words.now }

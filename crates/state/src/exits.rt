@@ -5,7 +5,7 @@ ghost use Rattle.state.specs.Wires.{leaves, exit as exit_of, exits, close_state,
 ghost use Rattle.state.specs.Making.{Room, wires_in, Held};
 ghost use Rattle.state.specs.EdgeList.{edge_of, leading, pending};
 ghost use Rattle.state.specs.Steps.{Becomes, SameWords, values_of, block_in};
-ghost use Rattle.state.specs.BlocksMaking.{with_arrivals, AllBelow, state_blocks};
+ghost use Rattle.state.specs.BlocksMaking.{with_arrivals, AllPlaceable, state_blocks};
 
 use crate::Exit;
 use crate::edges::{EdgeEntry, Edges};
@@ -104,7 +104,7 @@ impl<'a> WireList<'a> {
         groups: &Groups,
         arrivals: &mut [u32; MachineTable::BLOCKS],
     ) -> Exit
-        requires blocks { AllBelow graph.words.now order.now }
+        requires all_placeable { AllPlaceable graph.words.now order.now }
         requires nothing { (self.old.count ≡ 0) × (edges.old.count ≡ 0) }
         requires room { Room (length (state_blocks self.old.registers graph.words.now groups.now.starters groups.now.states order.now).wires) self.old.words.now }
         ensures same { SameWords self.old self.new }

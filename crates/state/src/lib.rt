@@ -14,7 +14,7 @@ ghost use Rattle.cfg.specs.Table.{graph_register_count};
 ghost use Rattle.fsmd.specs.Layout.{max_registers};
 ghost use Rattle.state.specs.Wires.{nothing};
 ghost use Rattle.state.specs.Making.{Room, Held};
-ghost use Rattle.state.specs.BlocksMaking.{with_arrivals, AllBelow, state_blocks};
+ghost use Rattle.state.specs.BlocksMaking.{with_arrivals, AllPlaceable, state_blocks};
 
 use crate::edges::Edges;
 use crate::groups::Groups;
@@ -44,7 +44,7 @@ pub fn make(
     edges: &mut Edges,
     arrivals: &mut [u32; MachineTable::BLOCKS],
 ) -> Exit
-    requires blocks { AllBelow graph.words.now order.now }
+    requires all_placeable { AllPlaceable graph.words.now order.now }
     requires room { Room (length (state_blocks (graph_register_count graph.words.now) graph.words.now groups.now.starters groups.now.states order.now).wires) wires.old }
     ensures held { Held (state_blocks (graph_register_count graph.entry.words.now) graph.entry.words.now groups.now.starters groups.now.states order.now) wires.old result.next (take result.used result.registers) result.wires wires.new }
     ensures registers { (result.used ≤ graph_register_count graph.entry.words.now) × (result.registers ≡ take result.used result.registers ++ replicate (max_registers - result.used) 0) }

@@ -7,16 +7,16 @@ use cfg::graph::AdmittedGraph;
 use fsmd::MachineTable;
 
 impl<'a> WireList<'a> {
-    ghost use Rattle.std.specs.Prelude.{◌≡◌, ◌+◌, ◌≤◌, ◌<◌, length, set};
-    ghost use Rattle.cfg.specs.Table.{block_count, block_at};
+    ghost use Rattle.std.specs.Prelude.{◌≡◌, ◌+◌, ◌≤◌, length, set};
+    ghost use Rattle.cfg.specs.Table.{block_at};
     ghost use Rattle.state.specs.Wires.{enter, nothing};
-    ghost use Rattle.state.specs.Making.{max_edges, Room, put_block};
+    ghost use Rattle.state.specs.Making.{max_edges, Room, Placeable, put_block};
     ghost use Rattle.state.specs.Steps.{Grown, state_in};
-    ghost use Rattle.state.specs.BlocksMaking.{build_blocks, with_arrivals, AllBelow};
+    ghost use Rattle.state.specs.BlocksMaking.{build_blocks, with_arrivals, AllPlaceable};
 
     // Block `x` placed: its arrival and joins, its instructions, its ending; the edges that lead to it are used up. The reference of its arrival.
     pub fn put(&mut self, edges: &mut Edges, graph: AdmittedGraph, starter: bool, x: u32) -> u32
-        requires known { x < block_count graph.words.now }
+        requires placeable { Placeable graph.words.now x }
         requires room_of_edges { edges.old.count + 2 ≤ max_edges }
         requires room { Room (length (put_block self.old.registers starter (block_at graph.words.now x) x (state_in edges.old self.old)).wires) self.old.words.now }
         ensures grown { Grown (put_block self.old.registers starter (block_at graph.entry.words.now x) x (state_in edges.old self.old)) edges.new self.old self.new }
@@ -43,7 +43,7 @@ impl<'a> WireList<'a> {
         groups: &Groups,
         arrivals: &mut [u32; MachineTable::BLOCKS],
     )
-        requires blocks { AllBelow graph.words.now order.now }
+        requires all_placeable { AllPlaceable graph.words.now order.now }
         requires nothing { (self.old.count ≡ 0) × (edges.old.count ≡ 0) }
         requires room { Room (length (build_blocks self.old.registers graph.words.now groups.now.starters order.now nothing).wires) self.old.words.now }
         ensures grown { Grown (build_blocks self.old.registers graph.entry.words.now groups.now.starters order.now nothing) edges.new self.old self.new }

@@ -20,7 +20,8 @@ use Rattle.placement.specs.PlacementBytes.{members_in, placed_in}
 use Rattle.placement.proofs.PlacedOrder.{placed_order}
 use Rattle.state.specs.Wires.{BlockBuild, nothing}
 use Rattle.state.specs.Making.{Held, Room, GroupedBytes, groups_in}
-use Rattle.state.specs.BlocksMaking.{state_blocks, AllBelow, with_arrivals}
+use Rattle.state.specs.BlocksMaking.{state_blocks, AllPlaceable, with_arrivals}
+use Rattle.state.proofs.PlaceableLaws.{all_placeable}
 use Rattle.synthesis.specs.declared.table.Plan.{Plan}
 use Rattle.synthesis.specs.Plans.{Prepared, words_in}
 use Rattle.synthesis.specs.StateWords.{with_states, first_states, first_arrivals, Filled}
@@ -95,8 +96,8 @@ module _ (p : Plan) (prepared : Prepared p) {table : List ℕ} {k first : ℕ} (
     end_is : end ≡ point_of (nth t (its t) k)
     end_is = state_is t admits (its t) done k one_below (get_or t 1 0) starters states xs refl known.its_starters known.its_states (ordered xs placed_by)
 
-    below_count : AllBelow t xs
-    below_count = all_below t admits (its t) done k one_below xs (ordered xs placed_by)
+    can_place : AllPlaceable t xs
+    can_place = all_placeable p.graph xs (all_below t admits (its t) done k one_below xs (ordered xs placed_by))
 
     abbrev behind : List ℕ
     behind = take (length table - (wire_offset first)) (drop (wire_offset first) table)
@@ -192,12 +193,12 @@ slice_bounds-make-count c = let s = small c.args.plan.now c.requires.prepared c.
 pub slice_bounds-make-start : goal.slice_bounds-make-start
 slice_bounds-make-start c = let s = small c.args.plan.now c.requires.prepared c.requires.written.0 c.requires.below in omega arith
 
-pub make-made-requires-clause-blocks : goal.make-made-requires-clause-blocks
-make-made-requires-clause-blocks c =
+pub make-made-requires-clause-all_placeable : goal.make-made-requires-clause-all_placeable
+make-made-requires-clause-all_placeable c =
     let q = c.requires in
     let y = ready c.args.plan.now c.args.k c.as_slice.result.now c.list-starters.result.now c.blocks-blocks.result c.new.result
     c.list-starters.ensures.list c.blocks-blocks.ensures (c.as_slice.ensures.value ∙ c.place-order.ensures) c.new.ensures in
-    below_count c.args.plan.now q.prepared q.written.0 q.below c.as_slice.result.now (placed_by y)
+    can_place c.args.plan.now q.prepared q.written.0 q.below c.as_slice.result.now (placed_by y)
 
 pub make-made-requires-clause-room : goal.make-made-requires-clause-room
 make-made-requires-clause-room c =

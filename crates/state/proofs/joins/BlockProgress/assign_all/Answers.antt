@@ -6,7 +6,6 @@ use Rattle.cfg.specs.Table.{block_at}
 use Rattle.state.specs.Wires.{assign, assigns}
 use Rattle.state.specs.Steps.{block_in}
 use Rattle.state.proofs.StepLaws.{walk_start}
-use Rattle.state.proofs.PlaceableLaws.{placeable}
 use Rattle.state.proofs.AssignLaws.{grow_assign, assigns_fold, assigning_room, assigning_next, assigning_done}
 use Rattle.state.proofs.joins.BlockProgress.assign_all.Goals as goal
 
@@ -18,27 +17,27 @@ loop-i-init c =
     walk_start assign grow_assign is (assigns is p) a.self.now a.wires.now (sym (assigns_fold is p)) c.requires.room
 
 pub assign-requires : goal.assign-requires
-assign-requires c = assigning_room c.args.graph.words.now c.args.x (placeable c.args.graph c.args.x c.requires.known).short c.loop-i.i c.loop-i.invariant c.loop-i-test.true c.requires.room
+assign-requires c = assigning_room c.args.graph.words.now c.args.x c.requires.short c.loop-i.i c.loop-i.invariant c.loop-i-test.true c.requires.room
 
 pub loop-i-preserved : goal.loop-i-preserved
 loop-i-preserved c =
-    assigning_next c.args.graph.words.now c.args.x (placeable c.args.graph c.args.x c.requires.known).short c.loop-i.i c.loop-i.invariant c.instruction_at.result c.assign.new.self c.assign.new.wires
+    assigning_next c.args.graph.words.now c.args.x c.requires.short c.loop-i.i c.loop-i.invariant c.instruction_at.result c.assign.new.self c.assign.new.wires
     c.loop-i-test.true c.instruction_at.ensures c.assign.ensures
 
 pub returns : goal.returns
-returns c = assigning_done c.args.graph.words.now c.args.x (placeable c.args.graph c.args.x c.requires.known).short c.loop-i.i c.loop-i.invariant c.loop-i-test.false
+returns c = assigning_done c.args.graph.words.now c.args.x c.requires.short c.loop-i.i c.loop-i.invariant c.loop-i-test.false
 
 pub overflow_mul-start : goal.overflow_mul-start
-overflow_mul-start c = let p = placeable c.args.graph c.args.x c.requires.known in omega (arith, p.known, p.whole)
+overflow_mul-start c = omega (arith, c.requires.known, c.args.graph.long)
 
 pub overflow_add-start : goal.overflow_add-start
-overflow_add-start c = let p = placeable c.args.graph c.args.x c.requires.known in omega (arith, p.known, p.whole)
+overflow_add-start c = omega (arith, c.requires.known, c.args.graph.long)
 
 pub offset_bounds-graph-start : goal.offset_bounds-graph-start
-offset_bounds-graph-start c = let p = placeable c.args.graph c.args.x c.requires.known in omega (arith, p.known, p.whole)
+offset_bounds-graph-start c = omega (arith, c.requires.known, c.args.graph.long)
 
 pub bounds-graph-start : goal.bounds-graph-start
-bounds-graph-start c = let p = placeable c.args.graph c.args.x c.requires.known in omega (arith, p.known, p.whole)
+bounds-graph-start c = omega (arith, c.requires.known, c.args.graph.long)
 
 pub instruction_at-requires : goal.instruction_at-requires
-instruction_at-requires c = let p = placeable c.args.graph c.args.x c.requires.known in (omega (arith, p.known, p.whole), omega (arith, p.short, c.loop-i-test.true))
+instruction_at-requires c = (omega (arith, c.requires.known, c.args.graph.long), omega (arith, c.requires.short, c.loop-i-test.true))

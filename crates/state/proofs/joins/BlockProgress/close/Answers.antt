@@ -1,11 +1,7 @@
 -- `state::joins::BlockProgress::close` meets its contract. Assumes nothing.
 use mathlib.Core.Path.{sym}
-use Rattle.state.proofs.PlaceableLaws.{placeable}
 use Rattle.state.proofs.CloseLaws.{close_goto, close_halt, close_ite, ite_room}
 use Rattle.state.proofs.joins.BlockProgress.close.Goals as goal
-
-pub ending-requires : goal.ending-requires
-ending-requires c = (placeable c.args.graph c.args.x c.requires.known).known
 
 pub branch-yes-requires : goal.branch-yes-requires
 branch-yes-requires c =

@@ -2,7 +2,6 @@
 use mathlib.Core.Path.{refl, ◌∙◌}
 use native.Mathlib.Omega.{arith}
 use lib.ListN.{length-set}
-use Rattle.state.proofs.PlaceableLaws.{all_placeable}
 use Rattle.state.proofs.BlocksLaws.{placing_first, placing_room, placing_next, placing_done, placing_listed}
 use Rattle.state.proofs.wires.WireList.place_all.Goals as goal
 
@@ -18,9 +17,7 @@ put-requires-clause-room c =
 
 pub bounds-arrivals-x : goal.bounds-arrivals-x
 bounds-arrivals-x c =
-    let a = c.args in
-    let p = all_placeable a.graph a.order.now c.requires.blocks in
-    omega (arith, (p.each c.loop-block.block-index c.loop-block-test.true).known, c.from-x.ensures)
+    omega (arith, (c.requires.all_placeable.each c.loop-block.block-index c.loop-block-test.true).known, c.from-x.ensures)
 
 pub loop-block-preserved : goal.loop-block-preserved
 loop-block-preserved c =

@@ -1,5 +1,5 @@
 // The starters of a grouping.
-ghost use Rattle.std.specs.Prelude.{◌≡◌, true, ℕ, [], ◌∷◌, ◌<◌, ◌≤◌, length};
+ghost use Rattle.std.specs.Prelude.{◌≡◌, true, false, ℕ, [], ◌∷◌, ◌<◌, ◌≤◌, length, get_or};
 ghost use Rattle.runs.specs.Lists.{mem};
 ghost use Rattle.cfg.specs.Layout.{max_blocks};
 ghost use Rattle.grouping.specs.Bytes.{with_starter};
@@ -45,6 +45,13 @@ impl Starters {
         ensures low { (x : ℕ) → mem x self.now ≡ true → x < max_blocks }
     {
         self.list.as_slice()
+    }
+
+    // The same by block: a mark at each starter.
+    pub fn marks(&self) -> &[bool; GraphTable::BLOCKS]
+        ensures { (x : ℕ) → get_or result.now x false ≡ mem x self.now }
+    {
+        &self.marks
     }
 
     // The bound of a block's number stands in each contract: a type for such numbers would be made and taken apart at every call.

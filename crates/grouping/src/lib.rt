@@ -16,7 +16,7 @@ pub mod starters; // starters.rt: the starters, in order and by block
 mod visit; // visit.rt: the depth-first visit of loops and population
 
 // The starters of the states, in order, and the state of each block, 255 where it has none.
-#[derive(Drop)]
+#[derive(Clone, Copy)]
 pub struct Grouping {
     pub starters: Starters,
     pub states: [u8; GraphTable::BLOCKS],

@@ -1,30 +1,37 @@
 // The starters of a grouping.
-ghost use Rattle.std.specs.Prelude.{◌≡◌, true, ℕ, [], ◌∷◌, ◌<◌, ◌≤◌, length};
+ghost use Rattle.std.specs.Prelude.{◌≡◌, true, false, ℕ, [], ◌∷◌, ◌<◌, ◌≤◌, length, get_or};
 ghost use Rattle.runs.specs.Lists.{mem};
 ghost use Rattle.cfg.specs.Layout.{max_blocks};
 ghost use Rattle.grouping.specs.Bytes.{with_starter};
 
-use arrayvec::ArrayVec;
 use cfg::GraphTable;
 use std::marker::Model;
 
-// The starters in order, and a mark at each of them, so that `contains` looks at one.
-#[derive(Drop)]
+// The starters in order, and a mark at each of them, so that `contains` looks at one. An array and its count, since no `ArrayVec` is `Copy`.
+#[derive(Clone, Copy)]
 pub struct Starters {
-    list: ArrayVec<u8, { GraphTable::BLOCKS }>,
+    // 0 behind the starters.
+    list: [u8; GraphTable::BLOCKS],
+    count: usize,
     marks: [bool; GraphTable::BLOCKS],
 }
 
 // In contracts the list alone.
 impl Model for Starters {
-    ghost use Rattle.std.specs.Prelude.{List, ℕ};
-    ghost use Rattle.grouping.specs.Marks.{Marking};
+    ghost use Rattle.std.specs.Prelude.{List, ℕ, length, take};
+    ghost use Rattle.runs.specs.Lists.{padded};
+    ghost use Rattle.cfg.specs.Layout.{max_blocks};
+    ghost use Rattle.grouping.specs.Listed.{Listed, marks_of, list_back, count_back, marks_back};
 
     ghost Value = { List ℕ };
 
-    ghost view = { λ s. s.list.items };
+    ghost view = { λ s. take s.count s.list };
 
-    ghost invariant = { λ s. Marking s.list.items s.marks };
+    ghost invariant = { λ s. Listed s.list s.count s.marks };
+
+    ghost inverse = { λ l. record { list = padded max_blocks 0 l; count = length l; marks = marks_of l } };
+
+    ghost inverse_ok = { λ s h i. record { list = list_back h i; count = count_back h i; marks = marks_back h i } };
 }
 
 impl Starters {
@@ -32,11 +39,13 @@ impl Starters {
     pub(crate) fn entry() -> Starters
         ensures { result ≡ 0 ∷ [] }
     {
-        let mut list = ArrayVec::new();
-        list.push(0);
         let mut marks = [false; GraphTable::BLOCKS];
         marks[0] = true;
-        Starters { list, marks }
+        Starters {
+            list: [0; GraphTable::BLOCKS],
+            count: 1,
+            marks,
+        }
     }
 
     pub fn list(&self) -> &[u8]
@@ -44,7 +53,14 @@ impl Starters {
         ensures few { length self.now ≤ max_blocks }
         ensures low { (x : ℕ) → mem x self.now ≡ true → x < max_blocks }
     {
-        self.list.as_slice()
+        &self.list[..self.count]
+    }
+
+    // The same by block: a mark at each starter.
+    pub fn marks(&self) -> &[bool; GraphTable::BLOCKS]
+        ensures { (x : ℕ) → get_or result.now x false ≡ mem x self.now }
+    {
+        &self.marks
     }
 
     // The bound of a block's number stands in each contract: a type for such numbers would be made and taken apart at every call.
@@ -62,7 +78,8 @@ impl Starters {
         ensures { self.new ≡ with_starter block self.old }
     {
         if !self.marks[usize::from(block)] {
-            self.list.push(block);
+            self.list[self.count] = block;
+            self.count += 1;
             self.marks[usize::from(block)] = true;
         }
     }

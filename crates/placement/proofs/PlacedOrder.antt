@@ -15,23 +15,25 @@ use Rattle.grouping.specs.Bytes.{edges_in}
 use Rattle.grouping.proofs.Reach.{Closed}
 use Rattle.grouping.proofs.GroupingLaws.{Grouped}
 use Rattle.placement.specs.Placement.{members, ready, place_next, placed_from, order}
-use Rattle.placement.specs.PlacementBytes.{of_state, members_in, next_in, placed_in}
+use Rattle.placement.specs.PlacementBytes.{marked, of_state, members_in, next_in, placed_in}
 use Rattle.placement.proofs.PlacementLaws.{order_rounds}
 
--- the same blocks are placed where the bytes say what the graph says
-place_alike : (g : CFG) (s : Groups) (edges : List (List ℕ)) (blocks : List ℕ) → ((n : ℕ) → edges_in edges n ≡ successors g n)
-    → (n : ℕ) (placed : List ℕ) → placed_in edges s.starters blocks n placed ≡ placed_from g s blocks n placed
+-- the same blocks are placed where the bytes say what the graph and its grouping say
+place_alike : (g : CFG) (s : Groups) (edges : List (List ℕ)) (starts : List Bool) (blocks : List ℕ) → ((n : ℕ) → edges_in edges n ≡ successors g n)
+    → ((x : ℕ) → marked starts x ≡ mem x s.starters) → (n : ℕ) (placed : List ℕ) → placed_in edges starts blocks n placed ≡ placed_from g s blocks n placed
 unfolding placed_in placed_from
-place_alike g s edges blocks e zero placed = refl
-place_alike g s edges blocks e (suc n) placed =
-    ap (λ (f : ℕ → List ℕ). place_next (first (next_in edges s.starters blocks (λ x. mem x placed)) blocks) f) (fun_ext (λ x. place_alike g s edges blocks e n (x ∷ placed)))
+place_alike g s edges starts blocks e m zero placed = refl
+place_alike g s edges starts blocks e m (suc n) placed =
+    ap (λ (f : ℕ → List ℕ). place_next (first (next_in edges starts blocks (λ x. mem x placed)) blocks) f) (fun_ext (λ x. place_alike g s edges starts blocks e m n (x ∷ placed)))
     ∙ ap (λ (p : ℕ → Bool). place_next (first p blocks) (λ x. placed_from g s blocks n (x ∷ placed))) (fun_ext due)
   where
     passing : (x u : ℕ) → (not (mem x (edges_in edges u)) || mem u placed) ≡ (not (mem x (successors g u)) || mem u placed)
     passing x u = ap (λ (l : List ℕ). not (mem x l) || mem u placed) (e u)
 
-    due : (x : ℕ) → next_in edges s.starters blocks (λ x. mem x placed) x ≡ (not (mem x placed) && ready g s blocks placed x)
-    due x = ap (λ (p : ℕ → Bool). not (mem x placed) && (mem x s.starters || every p blocks)) (fun_ext (passing x))
+    due : (x : ℕ) → next_in edges starts blocks (λ x. mem x placed) x ≡ (not (mem x placed) && ready g s blocks placed x)
+    due x =
+        ap (λ (b : Bool). not (mem x placed) && (b || every (λ u. not (mem x (edges_in edges u)) || mem u placed) blocks)) (m x)
+        ∙ ap (λ (p : ℕ → Bool). not (mem x placed) && (mem x s.starters || every p blocks)) (fun_ext (passing x))
 
 -- more numbers, none of which passes
 pub only_more : (p : ℕ → Bool) (k n m : ℕ) → ((x : ℕ) → k + n ≤ x → p x ≡ false) → only p (up_from k (n + m)) ≡ only p (up_from k n)
@@ -72,8 +74,9 @@ module _ (g : CFG) (a : Closed g) (s : Groups) (G : Grouped g s) (k : ℕ) (k_in
       let b = a.few_blocks_lem in
       omega (arith, length-up_from 0 (length g.blocks))
 
-  pub placed_order : (edges : List (List ℕ)) → ((n : ℕ) → edges_in edges n ≡ successors g n) → placed_in edges s.starters (members_in s.states k) max_blocks [] ≡ order g s k
-  placed_order edges e =
-      ap (λ (l : List ℕ). placed_in edges s.starters l max_blocks []) members_alike
-      ∙ place_alike g s edges (members g s k) e max_blocks []
+  pub placed_order : (edges : List (List ℕ)) (starts : List Bool) → ((n : ℕ) → edges_in edges n ≡ successors g n)
+      → ((x : ℕ) → marked starts x ≡ mem x s.starters) → placed_in edges starts (members_in s.states k) max_blocks [] ≡ order g s k
+  placed_order edges starts e m =
+      ap (λ (l : List ℕ). placed_in edges starts l max_blocks []) members_alike
+      ∙ place_alike g s edges starts (members g s k) e m max_blocks []
       ∙ order_rounds g a s G k k_in max_blocks members_few

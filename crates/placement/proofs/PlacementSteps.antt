@@ -3,7 +3,7 @@ use Prim.Native.Nat.{ℕ, zero, suc, ◌+◌, ◌-◌, ◌≤◌, ◌<◌}
 use native.Mathlib.Numerals.{add-one}
 use native.Mathlib.Omega.{arith}
 use mathlib.Core.Bool.{Bool, true, false, not}
-use mathlib.Core.Path.{◌≡◌, refl, sym, ◌∙◌, ap, subst}
+use mathlib.Core.Path.{◌≡◌, refl, sym, ◌∙◌, ap}
 use mathlib.Core.List.{List, [], ◌∷◌, ◌++◌, append-nil}
 use Rattle.std.specs.Prelude.{Some, None, position}
 use Rattle.std.specs.List.{position_or_len, refill}
@@ -12,19 +12,19 @@ use Rattle.std.proofs.lemmas.List.Quantifiers.{position-Some}
 use Rattle.std.proofs.lemmas.List.Sums.{fails_before_first}
 use mathlib.Core.Logic.{◌⊎◌, inl, inr}
 use lib.Dec.{eqb, ltb}
-use lib.ListN.{length, get_or, take, drop, get_or-eq_default, drop_of_length-le, length-append, length-drop, take-append-drop}
+use lib.ListN.{length, get_or, take, drop, get_or-eq_default, drop_of_length-le, length-append, length-drop}
 use lib.Seq.{append_snoc, length-take-le, take_at, take_all, drop_at}
 use borrow.Author.Tests.{eq-eqb, ne_eqb, ltb-false}
 use borrow.Rule.Slice.PartMut.{post_of}
-use Rattle.runs.specs.Lists.{up_from, mem, only, keep, first}
+use Rattle.runs.specs.Lists.{up_from, only, keep, first}
 use Rattle.runs.proofs.Tests.{true_or_false}
 use Rattle.runs.proofs.ListLaws.{up_from_cons}
-use Rattle.runs.proofs.Sets.{In, Distinct, get_or-any, get_or-in, in_left, in_right, in_append}
-use Rattle.runs.proofs.MembershipLaws.{only_in, in_up_from, distinct_only, distinct_up_from}
+use Rattle.runs.proofs.Sets.{Distinct, get_or-any, get_or-in}
+use Rattle.runs.proofs.MembershipLaws.{distinct_only, distinct_up_from}
 use Rattle.fsmd.specs.Layout.{max_blocks, absent}
 use Rattle.grouping.specs.Bytes.{edges_in}
 use Rattle.placement.specs.Counts.{waiting, lowered, without, blocks_of, run}
-use Rattle.placement.specs.PlacementBytes.{of_state, members_from, members_in, placed_in, targets_in, counts_in, is_ready}
+use Rattle.placement.specs.PlacementBytes.{marked, of_state, members_from, members_in, placed_in, targets_in, counts_in, is_ready}
 use Rattle.placement.proofs.CountLaws.{without_at, waits, waits_on, enough, choice, run_stops, run_on, run_places}
 use Rattle.placement.proofs.PlacedOrder.{only_more}
 
@@ -65,10 +65,6 @@ module _ {states blocks : List ℕ} {k x : ℕ} (m : Members states blocks k x) 
 
       none_left : members_from states k x (max_blocks - x) ≡ []
       none_left = let e : max_blocks - x ≡ 0 + (max_blocks - x) = omega arith in rw e (only_more (of_state states k) x 0 (max_blocks - x) outside)
-
--- they are blocks
-pub members_low : (states : List ℕ) (k x : ℕ) → In x (members_in states k) → x < max_blocks
-members_low states k x i = omega (arith, (in_up_from 0 max_blocks x (only_in (of_state states k) (up_from 0 max_blocks) x i).0).1)
 
 -- ---- the first block that waits for no edge
 
@@ -124,32 +120,30 @@ module _ {targets : ℕ → List ℕ} {whole front left counts : List ℕ} {roun
         others = rw add-one (without_at left i p.distinct h)
 
 -- the same, where they stand in one list, and the first `count` are placed
-pub record PlacingIn (edges : List (List ℕ)) (starters states : List ℕ) (k : ℕ) (blocks counts : List ℕ) (count : ℕ) : Type 0 where
+pub record PlacingIn (edges : List (List ℕ)) (starts : List Bool) (states : List ℕ) (k : ℕ) (blocks counts : List ℕ) (count : ℕ) : Type 0 where
   pub few : length blocks ≤ max_blocks
   pub within : count ≤ length blocks
-  pub low : (x : ℕ) → In x (drop count blocks) → x < max_blocks
-  pub placing : Placing (targets_in edges starters) (placed_in edges starters (members_in states k) max_blocks []) (take count blocks) (drop count blocks) counts (max_blocks - count)
+  pub placing : Placing (targets_in edges starts) (placed_in edges starts (members_in states k) max_blocks []) (take count blocks) (drop count blocks) counts (max_blocks - count)
 
-pub placing_begins : (edges : List (List ℕ)) (starters states : List ℕ) (k : ℕ) (blocks counts : List ℕ) → length blocks ≤ max_blocks → blocks ≡ members_in states k
-    → counts_in counts ≡ waits (targets_in edges starters) blocks → PlacingIn edges starters states k blocks counts 0
+pub placing_begins : (edges : List (List ℕ)) (starts : List Bool) (states : List ℕ) (k : ℕ) (blocks counts : List ℕ) → length blocks ≤ max_blocks → blocks ≡ members_in states k
+    → counts_in counts ≡ waits (targets_in edges starts) blocks → PlacingIn edges starts states k blocks counts 0
 unfolding placed_in
-placing_begins edges starters states k blocks counts f e w = record {
+placing_begins edges starts states k blocks counts f e w = record {
   few = f;
   within = omega arith;
-  low = λ x i. members_low states k x (subst (In x) e i);
   placing = record {
     distinct = rw e distinct;
     exact = w;
-    rest = rw e (sym (run_places (edges_in edges) (λ x. mem x starters) (members_in states k) distinct (placed_in edges starters (members_in states k)) (λ placed. refl) (λ n placed. refl) max_blocks));
+    rest = rw e (sym (run_places (edges_in edges) (marked starts) (members_in states k) distinct (placed_in edges starts (members_in states k)) (λ placed. refl) (λ n placed. refl) max_blocks));
   };
 }
   where
     distinct : Distinct (members_in states k)
     distinct = distinct_only (of_state states k) (up_from 0 max_blocks) (distinct_up_from 0 max_blocks)
 
-module _ {edges : List (List ℕ)} {starters states : List ℕ} {k : ℕ} {blocks counts : List ℕ} {count : ℕ} (p : PlacingIn edges starters states k blocks counts count) where
+module _ {edges : List (List ℕ)} {starts : List Bool} {states : List ℕ} {k : ℕ} {blocks counts : List ℕ} {count : ℕ} (p : PlacingIn edges starts states k blocks counts count) where
   -- no block left is ready
-  pub stops_in : position (is_ready counts) (drop count blocks) ≡ None → take count blocks ≡ placed_in edges starters (members_in states k) max_blocks []
+  pub stops_in : position (is_ready counts) (drop count blocks) ≡ None → take count blocks ≡ placed_in edges starts (members_in states k) max_blocks []
   stops_in e = placing_stops p.placing (first_nowhere (is_ready counts) (drop count blocks) e)
 
   -- the block at i of those left is chosen, and brought to their front
@@ -164,10 +158,7 @@ module _ {edges : List (List ℕ)} {starters states : List ℕ} {k : ℕ} {block
     at : (i < length old) × (first (is_ready counts) old ≡ Some (get_or old i 0))
     at = first_at (is_ready counts) old i chosen
 
-    pub chosen_low : get_or part 0 0 < max_blocks
-    chosen_low = rw moved (p.low (get_or old i 0) (get_or-in old i 0 at.0))
-
-    pub enough_in : (x : ℕ) → waiting (targets_in edges starters (get_or part 0 0)) x ≤ counts_in counts x
+    pub enough_in : (x : ℕ) → waiting (targets_in edges starts (get_or part 0 0)) x ≤ counts_in counts x
     enough_in = rw moved (placing_enough p.placing i at.0)
 
     others_length : length others + 1 ≡ length old
@@ -176,12 +167,11 @@ module _ {edges : List (List ℕ)} {starters states : List ℕ} {k : ℕ} {block
     front_length : length (take count blocks) ≡ count
     front_length = length-take-le count blocks p.within
 
-    pub on_in : (new : List ℕ) → new ≡ take count blocks ++ part → (lower : List ℕ) → counts_in lower ≡ lowered (targets_in edges starters (get_or part 0 0)) (counts_in counts)
-        → PlacingIn edges starters states k new lower (count + 1)
+    pub on_in : (new : List ℕ) → new ≡ take count blocks ++ part → (lower : List ℕ) → counts_in lower ≡ lowered (targets_in edges starts (get_or part 0 0)) (counts_in counts)
+        → PlacingIn edges starts states k new lower (count + 1)
     on_in new is lower w = record {
       few = omega (arith, new_length, p.few);
       within = omega (arith, new_length, length-drop count blocks, at.0);
-      low = λ x j. p.low x (others_in x (subst (In x) new_left j));
       placing = rw (new_front, new_left) (placing_on p.placing i at.0 at.1 lower (rw moved at w) (max_blocks - (count + 1)) (omega (arith, length-drop count blocks, p.few, at.0)));
     }
       where
@@ -202,13 +192,6 @@ module _ {edges : List (List ℕ)} {starters states : List ℕ} {k : ℕ} {block
 
         new_left : drop (count + 1) new ≡ others
         new_left = ap (drop (count + 1)) split ∙ drop_at front others (count + 1) front_is
-
-        others_in : (x : ℕ) → In x others → In x old
-        others_in x j = go (in_append x (take i old) (drop (i + 1) old) j)
-          where
-            go : In x (take i old) ⊎ In x (drop (i + 1) old) → In x old
-            go (inl a) = subst (In x) (take-append-drop i old) (in_left x (take i old) (drop i old) a)
-            go (inr b) = subst (In x) (take-append-drop (i + 1) old) (in_right x (take (i + 1) old) (drop (i + 1) old) b)
 
 -- what a write of the elements from `count` on leaves
 pub written : (blocks lent part : List ℕ) (count : ℕ) → lent ≡ blocks → count ≤ length blocks → length part ≡ length blocks - count

@@ -84,7 +84,12 @@ fn one_state(
     let blocks = plan.graph.blocks() as usize;
     let starters = plan.grouping.starters.list();
     let states = &plan.grouping.states[..blocks];
-    let order = placement::place(&plan.successors, &plan.grouping.starters, states, k as u8);
+    let order = placement::place(
+        &plan.successors,
+        plan.grouping.starters.marks(),
+        states,
+        k as u8,
+    );
     let at = MachineTable::WIRE_WORDS + Wire::WORDS * first;
     let made = state::make(
         plan.graph,

@@ -5,7 +5,7 @@ use Rattle.placement.proofs.PlacementSteps.{PlacingIn}
 use Rattle.placement.proofs.place.Given as goal
 
 abbrev pub invariant-loop-i : goal.invariant-loop-i
-invariant-loop-i l = PlacingIn l.edges l.starters l.states l.k l.blocks.items l.waits l.count
+invariant-loop-i l = PlacingIn l.edges l.starts l.states l.k l.blocks.items l.waits l.count
 
 abbrev pub decreases-loop-i : goal.decreases-loop-i
 decreases-loop-i l = length l.blocks.items - l.count

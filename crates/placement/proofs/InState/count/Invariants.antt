@@ -3,4 +3,4 @@ use Rattle.placement.proofs.CountSteps.{Counting}
 use Rattle.placement.proofs.InState.count.Given as goal
 
 abbrev pub invariant-loop-block : goal.invariant-loop-block
-invariant-loop-block l = Counting l.self.edges.now l.self.starters.now l.blocks l.waits l.block-index
+invariant-loop-block l = Counting l.self.edges.now l.self.starts.now l.blocks l.waits l.block-index

@@ -5,4 +5,4 @@ use Rattle.placement.proofs.InState.pass.Goals as goal
 pub returns : goal.returns
 returns c =
     let s = c.args.self in
-    pass_both s.edges.now s.starters.now c.args.waits.now c.args.u c.from.result s.whole c.requires.0 c.from.ensures c.requires.1 c.lower.new.waits c.lower.ensures c.lower-2.new.waits c.lower-2.ensures
+    pass_both s.edges.now s.starts.now c.args.waits.now c.args.u c.row.result c.row.ensures c.requires c.lower.new.waits c.lower.ensures c.lower-2.new.waits c.lower-2.ensures

@@ -1,6 +1,6 @@
 -- `synthesis::table::one_state` meets its contract. Assumes nothing.
 use mathlib.Core.Path.{◌≡◌, refl, sym, ap, ap₂, subst, ◌∙◌}
-use mathlib.Core.Bool.{true}
+use mathlib.Core.Bool.{Bool, true}
 use mathlib.Core.List.{List, [], ◌∷◌, ◌++◌}
 use Prim.Native.Nat.{ℕ, ◌+◌, ◌-◌, ◌≤◌, ◌<◌}
 use native.Mathlib.Omega.{arith}
@@ -12,11 +12,12 @@ use Rattle.cfg.proofs.Admitted.{admitted_facts}
 use Rattle.fsmd.specs.Layout.{max_states, max_blocks, max_registers, max_wires, records_offset, arrivals_offset, wire_offset, record_offset}
 use Rattle.fsmd.specs.Machine.{wire_count}
 use Rattle.fsmd.specs.Touch.{touch_word}
+use Rattle.runs.specs.Lists.{mem}
 use Rattle.grouping.specs.Grouping.{Groups}
 use Rattle.grouping.proofs.Reach.{admitted_closed}
 use Rattle.grouping.proofs.GroupingLaws.{Grouped}
 use Rattle.placement.specs.Placement.{order}
-use Rattle.placement.specs.PlacementBytes.{members_in, placed_in}
+use Rattle.placement.specs.PlacementBytes.{marked, members_in, placed_in}
 use Rattle.placement.proofs.PlacedOrder.{placed_order}
 use Rattle.state.specs.Wires.{BlockBuild, nothing}
 use Rattle.state.specs.Making.{Held, Room, GroupedBytes, groups_in}
@@ -44,6 +45,12 @@ starters_in p = p.grouping.starters
 
 abbrev states_in : Plan → List ℕ
 states_in p = take (get_or (words_in p) 0 0) p.grouping.states
+
+-- the blocks of state k in order, by a mark at each starter
+record Placed (p : Plan) (k : ℕ) (xs : List ℕ) : Type 0 where
+  marks : List Bool
+  starts : (x : ℕ) → marked marks x ≡ mem x (starters_in p)
+  blocks : xs ≡ placed_in p.successors marks (members_in (states_in p) k) max_blocks []
 
 module _ (p : Plan) (prepared : Prepared p) {table : List ℕ} {k first : ℕ} (f : Filled (words_in p) (its (words_in p)) table k first) (low : k < length p.grouping.starters) where
   abbrev t : List ℕ
@@ -82,14 +89,13 @@ module _ (p : Plan) (prepared : Prepared p) {table : List ℕ} {k first : ℕ} (
   grouped_bytes = groups_held t (its t) done starters states known
 
   -- the blocks in order
-  ordered : (xs : List ℕ) → xs ≡ placed_in p.successors starters (members_in states k) max_blocks [] → xs ≡ order (graph_of t) (its t) k
+  ordered : (xs : List ℕ) → Placed p k xs → xs ≡ order (graph_of t) (its t) k
   ordered xs e =
-      e
-      ∙ ap (λ (x : List ℕ). placed_in p.successors starters (members_in x k) max_blocks []) known.its_states
-      ∙ ap (λ (x : List ℕ). placed_in p.successors x (members_in (its t).states k) max_blocks []) known.its_starters
-      ∙ placed_order (graph_of t) (admitted_closed t admits) (its t) done k one_below p.successors prepared.leading
+      e.blocks
+      ∙ ap (λ (x : List ℕ). placed_in p.successors e.marks (members_in x k) max_blocks []) known.its_states
+      ∙ placed_order (graph_of t) (admitted_closed t admits) (its t) done k one_below p.successors e.marks prepared.leading (λ x. e.starts x ∙ ap (mem x) known.its_starters)
 
-  module _ (xs : List ℕ) (placed_by : xs ≡ placed_in p.successors starters (members_in states k) max_blocks []) where
+  module _ (xs : List ℕ) (placed_by : Placed p k xs) where
     abbrev end : BlockBuild
     end = state_blocks (get_or t 1 0) t starters states xs
 
@@ -142,19 +148,25 @@ module _ (p : Plan) (prepared : Prepared p) {table : List ℕ} {k first : ℕ} (
           (sym (take-append-drop r registers)) e)
 
 -- the blocks in order, and the groups, as the code has them
-record Ready (p : Plan) (k : ℕ) (xs list : List ℕ) (blocks : ℕ) (g : Groups) : Type 0 where
+record Ready (p : Plan) (k : ℕ) (xs list : List ℕ) (marks : List Bool) (blocks : ℕ) (g : Groups) : Type 0 where
   listed : list ≡ p.grouping.starters
+  starts : (x : ℕ) → marked marks x ≡ mem x p.grouping.starters
   counted : blocks ≡ get_or (words_in p) 0 0
-  placed : xs ≡ placed_in p.successors p.grouping.starters (members_in (take blocks p.grouping.states) k) max_blocks []
+  placed : xs ≡ placed_in p.successors marks (members_in (take blocks p.grouping.states) k) max_blocks []
   grouped : g ≡ groups_in list (take blocks p.grouping.states)
 
-ready : (p : Plan) (k : ℕ) (xs list : List ℕ) (blocks : ℕ) (g : Groups) → list ≡ p.grouping.starters → blocks ≡ get_or (words_in p) 0 0
-    → xs ≡ placed_in p.successors p.grouping.starters (members_in (take blocks p.grouping.states) k) max_blocks [] → g ≡ groups_in list (take blocks p.grouping.states) → Ready p k xs list blocks g
-ready p k xs list blocks g el eb ex eg = record { listed = el; counted = eb; placed = ex; grouped = eg }
+ready : (p : Plan) (k : ℕ) (xs list : List ℕ) (marks : List Bool) (blocks : ℕ) (g : Groups) → list ≡ p.grouping.starters → ((x : ℕ) → marked marks x ≡ mem x p.grouping.starters)
+    → blocks ≡ get_or (words_in p) 0 0 → xs ≡ placed_in p.successors marks (members_in (take blocks p.grouping.states) k) max_blocks [] → g ≡ groups_in list (take blocks p.grouping.states)
+    → Ready p k xs list marks blocks g
+ready p k xs list marks blocks g el em eb ex eg = record { listed = el; starts = em; counted = eb; placed = ex; grouped = eg }
 
-module _ {p : Plan} {k : ℕ} {xs list : List ℕ} {blocks : ℕ} {g : Groups} (y : Ready p k xs list blocks g) where
-  placed_by : xs ≡ placed_in p.successors (starters_in p) (members_in (states_in p) k) max_blocks []
-  placed_by = y.placed ∙ ap (λ (n : ℕ). placed_in p.successors p.grouping.starters (members_in (take n p.grouping.states) k) max_blocks []) y.counted
+module _ {p : Plan} {k : ℕ} {xs list : List ℕ} {marks : List Bool} {blocks : ℕ} {g : Groups} (y : Ready p k xs list marks blocks g) where
+  placed_by : Placed p k xs
+  placed_by = record {
+    marks = marks;
+    starts = y.starts;
+    blocks = y.placed ∙ ap (λ (n : ℕ). placed_in p.successors marks (members_in (take n p.grouping.states) k) max_blocks []) y.counted;
+  }
 
   groups_are : g ≡ groups_in (starters_in p) (states_in p)
   groups_are = y.grouped ∙ ap₂ groups_in y.listed (ap (λ (n : ℕ). take n p.grouping.states) y.counted)
@@ -196,23 +208,23 @@ slice_bounds-make-start c = let s = small c.args.plan.now c.requires.prepared c.
 pub make-made-requires-clause-all_placeable : goal.make-made-requires-clause-all_placeable
 make-made-requires-clause-all_placeable c =
     let q = c.requires in
-    let y = ready c.args.plan.now c.args.k c.as_slice.result.now c.list-starters.result.now c.blocks-blocks.result c.new.result
-    c.list-starters.ensures.list c.blocks-blocks.ensures (c.as_slice.ensures.value ∙ c.place-order.ensures) c.new.ensures in
+    let y = ready c.args.plan.now c.args.k c.as_slice.result.now c.list-starters.result.now c.marks.result.now c.blocks-blocks.result c.new.result
+    c.list-starters.ensures.list c.marks.ensures c.blocks-blocks.ensures (c.as_slice.ensures.value ∙ c.place-order.ensures.placed) c.new.ensures in
     can_place c.args.plan.now q.prepared q.written.0 q.below c.as_slice.result.now (placed_by y)
 
 pub make-made-requires-clause-room : goal.make-made-requires-clause-room
 make-made-requires-clause-room c =
     let q = c.requires in
-    let y = ready c.args.plan.now c.args.k c.as_slice.result.now c.list-starters.result.now c.blocks-blocks.result c.new.result
-    c.list-starters.ensures.list c.blocks-blocks.ensures (c.as_slice.ensures.value ∙ c.place-order.ensures) c.new.ensures in
+    let y = ready c.args.plan.now c.args.k c.as_slice.result.now c.list-starters.result.now c.marks.result.now c.blocks-blocks.result c.new.result
+    c.list-starters.ensures.list c.marks.ensures c.blocks-blocks.ensures (c.as_slice.ensures.value ∙ c.place-order.ensures.placed) c.new.ensures in
     rw (groups_are y) (room_left c.args.plan.now q.prepared q.written.0 q.below c.as_slice.result.now (placed_by y))
 
 pub write_record-requires-clause-few : goal.write_record-requires-clause-few
 write_record-requires-clause-few c =
     let q = c.requires in
     let s = small c.args.plan.now q.prepared q.written.0 q.below in
-    let y = ready c.args.plan.now c.args.k c.as_slice.result.now c.list-starters.result.now c.blocks-blocks.result c.new.result
-    c.list-starters.ensures.list c.blocks-blocks.ensures (c.as_slice.ensures.value ∙ c.place-order.ensures) c.new.ensures in
+    let y = ready c.args.plan.now c.args.k c.as_slice.result.now c.list-starters.result.now c.marks.result.now c.blocks-blocks.result c.new.result
+    c.list-starters.ensures.list c.marks.ensures c.blocks-blocks.ensures (c.as_slice.ensures.value ∙ c.place-order.ensures.placed) c.new.ensures in
     let m = c.make-made in
     let w = few_wires c.args.plan.now q.prepared q.written.0 q.below c.as_slice.result.now (placed_by y) m.new.wires m.result.registers m.result.used m.result.wires m.result.next (held_by y m.ensures.held) m.ensures.registers.0 m.ensures.registers.1 (omega arith) m.auto.wires in
     (s.wire, omega arith, omega (arith, c.registers-registers.ensures, s.registers))
@@ -220,8 +232,8 @@ write_record-requires-clause-few c =
 pub overflow_add-result : goal.overflow_add-result
 overflow_add-result c =
     let q = c.requires in
-    let y = ready c.args.plan.now c.args.k c.as_slice.result.now c.list-starters.result.now c.blocks-blocks.result c.new.result
-    c.list-starters.ensures.list c.blocks-blocks.ensures (c.as_slice.ensures.value ∙ c.place-order.ensures) c.new.ensures in
+    let y = ready c.args.plan.now c.args.k c.as_slice.result.now c.list-starters.result.now c.marks.result.now c.blocks-blocks.result c.new.result
+    c.list-starters.ensures.list c.marks.ensures c.blocks-blocks.ensures (c.as_slice.ensures.value ∙ c.place-order.ensures.placed) c.new.ensures in
     let m = c.make-made in
     let w = few_wires c.args.plan.now q.prepared q.written.0 q.below c.as_slice.result.now (placed_by y) m.new.wires m.result.registers m.result.used m.result.wires m.result.next (held_by y m.ensures.held) m.ensures.registers.0 m.ensures.registers.1 (omega arith) m.auto.wires in
     omega arith
@@ -229,8 +241,8 @@ overflow_add-result c =
 pub returns-clause-states : goal.returns-clause-states
 returns-clause-states c =
     let q = c.requires in
-    let y = ready c.args.plan.now c.args.k c.as_slice.result.now c.list-starters.result.now c.blocks-blocks.result c.new.result
-    c.list-starters.ensures.list c.blocks-blocks.ensures (c.as_slice.ensures.value ∙ c.place-order.ensures) c.new.ensures in
+    let y = ready c.args.plan.now c.args.k c.as_slice.result.now c.list-starters.result.now c.marks.result.now c.blocks-blocks.result c.new.result
+    c.list-starters.ensures.list c.marks.ensures c.blocks-blocks.ensures (c.as_slice.ensures.value ∙ c.place-order.ensures.placed) c.new.ensures in
     let m = c.make-made in
     words_after c.args.plan.now q.prepared q.written.0 q.below c.as_slice.result.now (placed_by y) m.new.wires m.result.registers m.result.used m.result.wires m.result.next (held_by y m.ensures.held) m.ensures.registers.0 m.ensures.registers.1 (omega arith) m.auto.wires
     c.write_record.new.words (rw c.registers-registers.ensures at c.write_record.ensures)
@@ -238,16 +250,16 @@ returns-clause-states c =
 pub returns-clause-wires : goal.returns-clause-wires
 returns-clause-wires c =
     let q = c.requires in
-    let y = ready c.args.plan.now c.args.k c.as_slice.result.now c.list-starters.result.now c.blocks-blocks.result c.new.result
-    c.list-starters.ensures.list c.blocks-blocks.ensures (c.as_slice.ensures.value ∙ c.place-order.ensures) c.new.ensures in
+    let y = ready c.args.plan.now c.args.k c.as_slice.result.now c.list-starters.result.now c.marks.result.now c.blocks-blocks.result c.new.result
+    c.list-starters.ensures.list c.marks.ensures c.blocks-blocks.ensures (c.as_slice.ensures.value ∙ c.place-order.ensures.placed) c.new.ensures in
     let m = c.make-made in
     next_wire c.args.plan.now q.prepared q.written.0 q.below c.as_slice.result.now (placed_by y) m.new.wires m.result.registers m.result.used m.result.wires m.result.next (held_by y m.ensures.held) m.ensures.registers.0 m.ensures.registers.1 (omega arith) m.auto.wires
 
 pub returns-clause-arrivals : goal.returns-clause-arrivals
 returns-clause-arrivals c =
     let q = c.requires in
-    let y = ready c.args.plan.now c.args.k c.as_slice.result.now c.list-starters.result.now c.blocks-blocks.result c.new.result
-    c.list-starters.ensures.list c.blocks-blocks.ensures (c.as_slice.ensures.value ∙ c.place-order.ensures) c.new.ensures in
+    let y = ready c.args.plan.now c.args.k c.as_slice.result.now c.list-starters.result.now c.marks.result.now c.blocks-blocks.result c.new.result
+    c.list-starters.ensures.list c.marks.ensures c.blocks-blocks.ensures (c.as_slice.ensures.value ∙ c.place-order.ensures.placed) c.new.ensures in
     let p = c.args.plan.now in
     let a : c.make-made.new.arrivals ≡ with_arrivals (get_or (words_in p) 1 0) (words_in p) (starters_in p) c.as_slice.result.now nothing c.args.arrivals.now =
     c.make-made.ensures.arrivals ∙ ap (λ (g : Groups). with_arrivals (get_or (words_in p) 1 0) (words_in p) g.starters c.as_slice.result.now nothing c.args.arrivals.now) (groups_are y) in

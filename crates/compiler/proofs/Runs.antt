@@ -12,7 +12,7 @@ use Rattle.runs.specs.declared.RunEnd.{RunEnd}
 use Rattle.runs.proofs.OperationLaws.{operation_values}
 use Rattle.fsmd.specs.Run.{with_blocks}
 use Rattle.fsmd.specs.declared.run.MachineRun.{MachineRun}
-use Rattle.compiler.specs.Fields.{end_of, blocks_of}
+use Rattle.compiler.specs.Answers.{end_of, blocks_of}
 
 pub run_values : (r : Runner) (ws : Supply) (buffer : List ℕ) (start budget : ℕ) (n : Option Refusal) (a : Result RunEnd Refusal)
     → a ≡ answered n r ws buffer start budget → RunValues n r ws budget (start_at start (take file_words buffer)) a

@@ -16,7 +16,28 @@ use Rattle.cfg_text.specs.declared.ReadError.{ReadError}
 use Rattle.cfg_write.specs.Write.{text_of, write_number, write_length}
 use Rattle.cfg_write.specs.declared.WriteError.{WriteError}
 use Rattle.fsmd.specs.Layout.{machine_words}
+use Rattle.fsmd.specs.declared.run.MachineRun.{MachineRun}
+use Rattle.runs.specs.declared.RunEnd.{RunEnd}
 use Rattle.synthesis.specs.Synthesis.{synthesis_number}
+
+-- ---- what all answers have alike
+
+-- 0 of an operation that is not refused, else the number of the refusal in its error
+abbrev pub answer_number : {T E : Type 0} → (E → Refusal) → Result T E → ℕ
+answer_number refusal_in (Ok x) = 0
+answer_number refusal_in (Err e) = number (refusal_in e)
+
+-- how a machine's run ends, and its blocks
+abbrev pub end_of : Result MachineRun Refusal → Result RunEnd Refusal
+end_of (Ok run) = Ok run.end
+end_of (Err e) = Err e
+
+-- 0 of an operation that is refused
+abbrev pub blocks_of : Result MachineRun Refusal → ℕ
+blocks_of (Ok run) = run.blocks
+blocks_of (Err e) = 0
+
+-- ---- operation by operation
 
 -- "Read text": the refusal's number, and the line at fault
 abbrev pub number_in : Reading → ℕ

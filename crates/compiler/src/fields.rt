@@ -6,7 +6,7 @@ ghost use Rattle.capture.specs.Capture.{faulty_recording, faulty_line, shared_co
 ghost use Rattle.cfg_text.specs.Read.{read_line};
 ghost use Rattle.cfg_write.specs.Write.{write_length};
 ghost use Rattle.touching.specs.Touching.{touched_field, first_state};
-ghost use Rattle.compiler.specs.Fields.{answer_number, end_of, blocks_of};
+ghost use Rattle.compiler.specs.Answers.{answer_number, end_of, blocks_of};
 
 use capture::{CaptureError, Comparison};
 use cfg_text::ReadError;

@@ -26,8 +26,7 @@ ghost use Rattle.touching.specs.Values.{TouchesValues, FirstTouchingValues};
 ghost use Rattle.bounds.specs.Operation.{bounds_answer, lowest_left, highest_left};
 ghost use Rattle.bounds.specs.Values.{BoundsValues};
 ghost use Rattle.bounds.specs.Sound.{CyclesStayInside, NotCrossed};
-ghost use Rattle.compiler.specs.Fields.{end_of, blocks_of};
-ghost use Rattle.compiler.specs.Answers.{ReadValues, WriteValues, SynthesisValues, CaptureValues};
+ghost use Rattle.compiler.specs.Answers.{end_of, blocks_of, ReadValues, WriteValues, SynthesisValues, CaptureValues};
 
 use capture::{CaptureError, Comparison};
 use cfg_text::ReadError;

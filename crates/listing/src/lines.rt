@@ -21,7 +21,7 @@ fn put_named(writer: &mut Writer, name: &[u8], first: u32, second: u32)
 
 // The line of a refusal, from the start of the buffer on, and its length.
 #[tactic(auto, unfolding(crate::specs::Listing::refused_line))]
-pub(crate) fn put_refused(out: &mut [u8], number: u32, line: u32) -> usize
+pub fn put_refused(out: &mut [u8], number: u32, line: u32) -> usize
     ensures { Put 31 out.old out.new 0 (refused_line number line) result }
 {
     let mut writer = Writer::new(out);

@@ -16,7 +16,10 @@ pub struct Window {
 impl Window {
     const BYTES: usize = 65536;
 
-    pub fn new() -> Window {
+    // An empty window.
+    pub fn new() -> Window
+        ensures { (result.from ≡ 0) × (result.end ≡ 0) }
+    {
         Window {
             buffer: [0; Window::BYTES],
             from: 0,

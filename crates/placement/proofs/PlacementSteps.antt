@@ -12,13 +12,13 @@ use Rattle.std.proofs.lemmas.List.Quantifiers.{position-Some}
 use Rattle.std.proofs.lemmas.List.Sums.{fails_before_first}
 use mathlib.Core.Logic.{◌⊎◌, inl, inr}
 use lib.Dec.{eqb, ltb}
-use lib.ListN.{length, get_or, take, drop, get_or-eq_default, drop_of_length-le, length-append, length-drop}
-use lib.Seq.{append_snoc, length-take-le, take_at, take_all, drop_at}
+use lib.ListN.{length, get_or, take, drop, set, get_or-eq_default, drop_of_length-le, length-append, length-drop, length-set}
+use lib.Seq.{append_snoc, drop-cons, get_or_at, length-take-le, take_at, take_all, drop_at}
 use borrow.Author.Tests.{eq-eqb, ne_eqb, ltb-false}
 use borrow.Rule.Slice.PartMut.{post_of}
 use Rattle.runs.specs.Lists.{up_from, only, keep, first}
 use Rattle.runs.proofs.Tests.{true_or_false}
-use Rattle.runs.proofs.ListLaws.{up_from_cons}
+use Rattle.runs.proofs.ListLaws.{up_from_cons, copied_more}
 use Rattle.runs.proofs.Sets.{Distinct, get_or-any, get_or-in}
 use Rattle.runs.proofs.MembershipLaws.{distinct_only, distinct_up_from}
 use Rattle.fsmd.specs.Layout.{max_blocks, absent}
@@ -86,6 +86,34 @@ first_nowhere p l e = go (true_or_false (ltb (position_or_len p l) (length l)))
     go : (ltb (position_or_len p l) (length l) ≡ true) ⊎ (ltb (position_or_len p l) (length l) ≡ false) → first p l ≡ None
     go (inl t) = absurd (none-some (position_or_len p l) (sym e ∙ rw t refl))
     go (inr t) = let h = ltb-false (position_or_len p l) (length l) t in none l (λ k g. fails_before_first p l k 0 (omega arith))
+
+-- ---- a block comes to the front
+
+-- the places passed hold the block and then those before them
+pub record Moving (old : List ℕ) (i : ℕ) (left : List ℕ) (carried j : ℕ) : Type 0 where
+  pub size : length left ≡ length old
+  pub within : j ≤ i + 1
+  pub moved : left ≡ take j (get_or old i 0 ∷ old) ++ drop j old
+  pub next : carried ≡ get_or (get_or old i 0 ∷ old) j 0
+
+pub moving_begins : (old : List ℕ) (i : ℕ) → Moving old i old (get_or old i 0) 0
+moving_begins old i = record { size = refl; within = omega arith; moved = refl; next = refl }
+
+module _ {old : List ℕ} {i : ℕ} {left : List ℕ} {carried j : ℕ} (m : Moving old i left carried j) where
+  pub moving_on : i < length old → j ≤ i → Moving old i (set left j carried) (get_or left j 0) (j + 1)
+  moving_on h l = record {
+    size = length-set left j carried ∙ m.size;
+    within = omega arith;
+    moved = ap (set left j) m.next ∙ ap (λ v. set v j (get_or new j 0)) m.moved ∙ copied_more old new j (omega arith) (omega arith);
+    next = ap (λ v. get_or v j 0) (m.moved ∙ ap (λ v. take j new ++ v) (drop-cons old j 0 (omega arith)))
+        ∙ (get_or_at (take j new) (get_or old j 0) (drop (suc j) old) 0 j (length-take-le j new (omega arith)) ∙ rw add-one refl);
+  }
+    where
+      new : List ℕ
+      new = get_or old i 0 ∷ old
+
+  pub moving_done : i < j → left ≡ get_or old i 0 ∷ (take i old ++ drop (i + 1) old)
+  moving_done l = let e : j ≡ suc i = omega (arith, m.within) in m.moved ∙ rw (e, add-one) refl
 
 -- ---- one more block placed
 

@@ -114,7 +114,13 @@ fn to_front(left: &mut [u8], i: usize)
     requires { i < length left.old }
     ensures { left.new ≡ get_or left.old i 0 ∷ (take i left.old ++ drop (i + 1) left.old) }
 {
-    left[..=i].rotate_right(1);
+    let mut carried = left[i];
+    // By hand: the library's rotation needs `memmove`, and of a C library the archive takes `memcpy` and `memset` alone.
+    for j in 0..=i {
+        let next = left[j];
+        left[j] = carried;
+        carried = next;
+    }
 }
 
 // The blocks of state k, always the lowest-numbered that waits for no edge. A block past the end of `edges` leads nowhere, and one past the end of

@@ -63,9 +63,15 @@ impl Scope {
     fn has(self, x: u32) -> bool
         ensures { result ≡ valid_reference self.registers self.wires x }
     {
+        // A way out for each, and no one condition: all of it would be worked out for a register too.
         let i = x as usize;
-        i < self.registers
-            || MachineTable::REGISTERS <= i && i - MachineTable::REGISTERS < self.wires
+        if i < self.registers {
+            return true;
+        }
+        if i < MachineTable::REGISTERS {
+            return false;
+        }
+        i - MachineTable::REGISTERS < self.wires
     }
 
     // The touch word of next references, where each is one. One pass for both: the last comes first, as a touch word is made.

@@ -1,6 +1,6 @@
 -- The starters in an array, and that the array, how many they are and their marks are had back from them. Assumes nothing.
 use Rattle.std.specs.Prelude.{ℕ, ◌≤◌, ◌≡◌, Bool, false, List, map, length, take}
-use Rattle.std.proofs.Common.{arith, sym, ap, ◌∙◌, length-take-le}
+use Rattle.std.proofs.Common.{sym, ap, subst, ◌∙◌, length-take-le}
 use lib.Seq.{ext_get_or}
 use Rattle.runs.specs.Lists.{up_from, mem, padded}
 use Rattle.runs.proofs.ListLaws.{length_padded, get_or-map-up_from}
@@ -25,7 +25,7 @@ module _ {list : List ℕ} {count : ℕ} {marks : List Bool} (i : Listed list co
   list_back = sym i.blank
 
   pub count_back : length (take count list) ≡ count
-  count_back = length-take-le count list (omega (arith, whole, i.few))
+  count_back = length-take-le count list (subst (λ (n : ℕ). count ≤ n) (sym whole) i.few)
 
   pub marks_back : marks_of (take count list) ≡ marks
   marks_back =

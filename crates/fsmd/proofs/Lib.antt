@@ -3,6 +3,7 @@ pub mod WireReads
 pub mod Environment
 pub mod TouchLaws
 pub mod Apart
+pub mod Tested
 pub mod BlockLaws
 pub mod Machines
 pub mod Steps

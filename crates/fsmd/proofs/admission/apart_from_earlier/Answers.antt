@@ -1,11 +1,17 @@
--- `fsmd::admission::apart_from_earlier` meets its contract: each earlier state is tested. Assumes nothing.
-use Rattle.std.proofs.Common.{refl, rules}
-use borrow.Author.Tests.{tests}
+-- `fsmd::admission::apart_from_earlier` meets its contract: the states so far share no wire with state k. Assumes nothing.
+use mathlib.Core.Path.{sym, ◌∙◌}
 use Rattle.fsmd.specs.Table.{apart}
-use Rattle.runs.proofs.Ranges.{all_below}
+use Rattle.fsmd.proofs.Tested.{below_more, below_fails}
 use Rattle.fsmd.proofs.admission.apart_from_earlier.Goals as goal
 
-pub returns : goal.returns
-returns c =
+pub returns-then-not-apart : goal.returns-then-not-apart
+returns-then-not-apart c =
     let t = c.args.table.words.now in
-    all_below (λ j. apart t j c.args.k) _ c.args.k _ _ _ c.all.ensures.ran (search rules) refl (λ x b q k. search (rules, tests))
+    let k = c.args.k in
+    sym (below_fails (λ j. apart t j k) k c.loop-j.j c.loop-j-test.true (sym c.apart.ensures ∙ c.if-not-apart.true))
+
+pub loop-j-preserved : goal.loop-j-preserved
+loop-j-preserved c =
+    let t = c.args.table.words.now in
+    let k = c.args.k in
+    below_more (λ j. apart t j k) c.loop-j.j c.loop-j.invariant (sym c.apart.ensures ∙ c.if-not-apart.false)

@@ -2,8 +2,9 @@
 use Prim.Native.Nat.{ℕ, zero, suc, ◌+◌, ◌-◌, ◌≤◌, ◌<◌}
 use native.Mathlib.Numerals.{add-one}
 use native.Mathlib.Omega.{arith}
+use native.Mathlib.Decide.{dec_lt}
 use mathlib.Core.Bool.{Bool, true, false, not}
-use mathlib.Core.Path.{◌≡◌, refl, sym, ◌∙◌, ap}
+use mathlib.Core.Path.{◌≡◌, refl, sym, ◌∙◌, ap, subst}
 use mathlib.Core.List.{List, [], ◌∷◌, ◌++◌, append-nil}
 use Rattle.std.specs.Prelude.{Some, None, position}
 use Rattle.std.specs.List.{position_or_len, refill}
@@ -19,14 +20,15 @@ use borrow.Rule.Slice.PartMut.{post_of}
 use Rattle.runs.specs.Lists.{up_from, only, keep, first}
 use Rattle.runs.proofs.Tests.{true_or_false}
 use Rattle.runs.proofs.ListLaws.{up_from_cons, copied_more}
-use Rattle.runs.proofs.Sets.{Distinct, get_or-any, get_or-in}
-use Rattle.runs.proofs.MembershipLaws.{distinct_only, distinct_up_from}
+use Rattle.runs.proofs.Sets.{In, Distinct, get_or-any, get_or-in, in_right}
+use Rattle.runs.proofs.MembershipLaws.{only_in, in_up_from, distinct_only, distinct_up_from}
 use Rattle.fsmd.specs.Layout.{max_blocks, absent}
 use Rattle.grouping.specs.Bytes.{edges_in}
 use Rattle.placement.specs.Counts.{waiting, lowered, without, blocks_of, run}
 use Rattle.placement.specs.PlacementBytes.{marked, of_state, members_from, members_in, placed_in, targets_in, counts_in, is_ready}
 use Rattle.placement.proofs.CountLaws.{without_at, waits, waits_on, enough, choice, run_stops, run_on, run_places}
 use Rattle.placement.proofs.PlacedOrder.{only_more}
+use Rattle.placement.proofs.FreeBlocks.{comes, none_waits, placed_from_blocks}
 
 -- ---- the blocks of a state, one after another
 
@@ -65,6 +67,10 @@ module _ {states blocks : List ℕ} {k x : ℕ} (m : Members states blocks k x) 
 
       none_left : members_from states k x (max_blocks - x) ≡ []
       none_left = let e : max_blocks - x ≡ 0 + (max_blocks - x) = omega arith in rw e (only_more (of_state states k) x 0 (max_blocks - x) outside)
+
+-- they are blocks
+pub members_low : (states : List ℕ) (k x : ℕ) → In x (members_in states k) → x < max_blocks
+members_low states k x i = omega (arith, (in_up_from 0 max_blocks x (only_in (of_state states k) (up_from 0 max_blocks) x i).0).1)
 
 -- ---- the first block that waits for no edge
 
@@ -174,6 +180,20 @@ module _ {edges : List (List ℕ)} {starts : List Bool} {states : List ℕ} {k :
   pub stops_in : position (is_ready counts) (drop count blocks) ≡ None → take count blocks ≡ placed_in edges starts (members_in states k) max_blocks []
   stops_in e = placing_stops p.placing (first_nowhere (is_ready counts) (drop count blocks) e)
 
+  -- each block left is low
+  pub left_low : (x : ℕ) → In x (drop count blocks) → x < max_blocks
+  left_low x i = go (dec_lt x max_blocks)
+    where
+      go : Dec (x < max_blocks) → x < max_blocks
+      go (yes h) = h
+      go (no h) = members_low states k x (placed_from_blocks edges starts (members_in states k) max_blocks [] x placed)
+        where
+          chosen : In x (blocks_of (run (targets_in edges starts) (max_blocks - count) (drop count blocks)))
+          chosen = comes (targets_in edges starts) x (none_waits edges starts x (omega arith)) (max_blocks - count) (drop count blocks) p.placing.distinct (omega (arith, length-drop count blocks, p.few)) i
+
+          placed : In x (placed_in edges starts (members_in states k) max_blocks [])
+          placed = subst (In x) (sym p.placing.rest) (in_right x (take count blocks) (blocks_of (run (targets_in edges starts) (max_blocks - count) (drop count blocks))) chosen)
+
   -- the block at i of those left is chosen, and brought to their front
   module _ (i : ℕ) (chosen : position (is_ready counts) (drop count blocks) ≡ Some i) {part : List ℕ}
       (moved : part ≡ get_or (drop count blocks) i 0 ∷ (take i (drop count blocks) ++ drop (i + 1) (drop count blocks))) where
@@ -185,6 +205,9 @@ module _ {edges : List (List ℕ)} {starts : List Bool} {states : List ℕ} {k :
 
     at : (i < length old) × (first (is_ready counts) old ≡ Some (get_or old i 0))
     at = first_at (is_ready counts) old i chosen
+
+    pub chosen_low : get_or part 0 0 < max_blocks
+    chosen_low = rw moved (left_low (get_or old i 0) (get_or-in old i 0 at.0))
 
     pub enough_in : (x : ℕ) → waiting (targets_in edges starts (get_or part 0 0)) x ≤ counts_in counts x
     enough_in = rw moved (placing_enough p.placing i at.0)
